@@ -1,0 +1,4 @@
+pub mod Reader
+pub mod Spelling
+pub mod Exact
+pub mod Gives

@@ -1,8 +1,16 @@
-//! What every layer shares: the error for want of memory.
+//! What every layer shares: the error for want of memory, a stack, and the tools that readers of
+//! binary formats are stated and proved with.
+//!
+//! A reader of a format is stated as a function on lists (`specs/Reader`) and its grammar as a
+//! relation between values and bytes (`specs/Spelling`). `Exact` (`specs/Exact`) says that both
+//! agree, and `Gives` (`specs/Gives`) that code does what the function says. The proofs that
+//! `Exact` passes from parts to the whole are public modules of `proofs/`.
 #![tactic(auto)]
 
-use std::alloc::AllocError;
+mod no_memory;
+mod read_error;
+mod stack;
 
-/// Want of memory: the one failure that no input explains. It is std's error under a name of its
-/// own, so that `?` carries it through every layer.
-pub type NoMemory = AllocError;
+pub use no_memory::NoMemory;
+pub use read_error::ReadError;
+pub use stack::Stack;

@@ -1,0 +1,4 @@
+pub mod Reversed
+pub mod Steps
+pub mod Exact
+pub mod Loops
