@@ -1,0 +1,5 @@
+pub mod IsModule
+pub mod Row
+pub mod Seq
+pub mod Signatures
+pub mod TreeOf
