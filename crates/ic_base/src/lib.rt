@@ -14,3 +14,6 @@ mod stack;
 pub use no_memory::NoMemory;
 pub use read_error::ReadError;
 pub use stack::Stack;
+
+#[cfg(test)]
+mod tests;
