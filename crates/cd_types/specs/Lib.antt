@@ -1,0 +1,6 @@
+pub mod FieldId
+pub mod IsInside
+pub mod References
+pub mod IsOrdered
+pub mod IsTable
+pub mod FaultOf
