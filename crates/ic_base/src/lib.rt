@@ -1,5 +1,5 @@
 //! What every layer shares: the error for want of memory, a stack, and the tools that readers of
-//! binary formats are stated and proved with.
+//! binary formats are written, stated and proved with.
 //!
 //! A reader of a format is stated as a function on lists (`specs/Reader`) and its grammar as a
 //! relation between values and bytes (`specs/Spelling`). `Exact` (`specs/Exact`) says that both
@@ -7,10 +7,12 @@
 //! `Exact` passes from parts to the whole are public modules of `proofs/`.
 #![tactic(auto)]
 
+mod item;
 mod no_memory;
 mod read_error;
 mod stack;
 
+pub use item::{Item, many};
 pub use no_memory::NoMemory;
 pub use read_error::ReadError;
 pub use stack::Stack;
