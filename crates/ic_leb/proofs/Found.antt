@@ -1,8 +1,8 @@
 -- From the size and the magnitude, which the code finds one after the other, to the number.
-use Rattle.std.proofs.Common.{◌≡◌, ℕ, suc, ◌+◌, ◌-◌, ◌^◌, ◌<◌, ◌≤◌, List, Bool, true, false, length, refl, sym, ◌∙◌, ap, subst, arith, take, drop, nat_lt}
-use Rattle.std.specs.Prelude.{ℤ, pos, negsuc, Result, Ok, Err, nat_le, if◌then◌else◌}
+use Rattle.std.proofs.Common.{◌≡◌, ℕ, ◌+◌, ◌-◌, ◌^◌, List, Bool, true, false, refl, sym, ◌∙◌, ap, arith, take, nat_lt}
+use Rattle.std.specs.Prelude.{Result, Ok, Err, nat_le, if◌then◌else◌}
 use Rattle.std.specs.Int.{complement_if}
-use Rattle.std.proofs.lemmas.Bool.{lt-ltb, le-ltb, ltb-true, leb-true, leb-false}
+use Rattle.std.proofs.lemmas.Bool.{lt-ltb, le-ltb, leb-true, leb-false}
 use Rattle.ic_leb.specs.declared.width.Width.{Width}
 use Rattle.ic_leb.specs.declared.fault.LebFault.{LebFault}
 use Rattle.ic_leb.specs.declared.fault.LebFault.TheVariants.{Wide}

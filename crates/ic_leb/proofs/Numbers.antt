@@ -1,15 +1,14 @@
 -- The number at the front, of either sign.
-use Rattle.std.proofs.Common.{◌≡◌, ℕ, suc, zero, ◌+◌, ◌-◌, ◌<◌, ◌≤◌, List, [], ◌∷◌, ◌++◌, Bool, true, false, length, refl, sym, ◌∙◌, ap, subst, arith, take, drop, append_assoc, length-append, Option, Some, None}
-use Rattle.std.specs.Prelude.{Result, Ok, Err, if◌then◌else◌, ◌↔◌, slice_range}
+use Rattle.std.proofs.Common.{◌≡◌, ℕ, suc, ◌<◌, ◌≤◌, List, [], ◌∷◌, ◌++◌, Bool, true, false, length, refl, sym, ◌∙◌, ap, subst, arith, take, drop, append_assoc, length-append}
+use Rattle.std.specs.Prelude.{Result, Ok, Err, if◌then◌else◌}
 use Rattle.std.specs.Bool.{Decides}
-use Rattle.std.specs.List.{AllByRecursion}
-use Rattle.std.proofs.lemmas.List.{take_at, drop_at, take-append-drop, length-take-le}
+use Rattle.std.proofs.lemmas.List.{take_at, take-append-drop, length-take-le}
 use Rattle.ic_leb.specs.declared.fault.LebFault.{LebFault}
 use Rattle.ic_leb.specs.declared.fault.LebFault.TheVariants.{Short, Long, Wide}
 use Rattle.ic_leb.specs.Spells.{IsOneNumber, Spells}
 use Rattle.ic_leb.specs.Faults.{IsCutShort, RunsOn, StandsForTooMuch}
-use Rattle.ic_leb.specs.Reading.{size_at, value_of, number_at, moved, and_rest}
-use Rattle.ic_leb.proofs.Sizes.{IsFound, Sized, sized, found_again, cut_again, runs_again}
+use Rattle.ic_leb.specs.Reading.{size_at, value_of, number_at}
+use Rattle.ic_leb.proofs.Sizes.{IsFound, Sized, sized, found_again}
 
 -- numbers of one width and sign: what the bytes stand for, and what fits, with its test
 pub record Kind (A : Type 0) : Type 1 where

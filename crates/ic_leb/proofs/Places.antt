@@ -1,7 +1,7 @@
 -- From what is read at a place to the clauses of the public calls, for either sign.
-use Rattle.std.proofs.Common.{◌≡◌, ℕ, suc, zero, ◌+◌, ◌-◌, ◌<◌, ◌≤◌, List, [], ◌∷◌, ◌++◌, Bool, length, refl, sym, ◌∙◌, ap, subst, arith, take, drop, zero-add}
+use Rattle.std.proofs.Common.{◌≡◌, ℕ, ◌+◌, ◌-◌, ◌<◌, ◌≤◌, List, length, refl, sym, ◌∙◌, ap, subst, arith, take, drop, zero-add}
 use Rattle.std.specs.Prelude.{Result, Ok, Err, ◌↔◌, slice_range}
-use Rattle.std.proofs.lemmas.List.{take-append-drop, length-take-le, length-drop, length-take}
+use Rattle.std.proofs.lemmas.List.{take-append-drop, length-drop, length-take}
 use Rattle.ic_leb.specs.declared.fault.LebFault.{LebFault}
 use Rattle.ic_leb.specs.declared.fault.LebFault.TheVariants.{Short, Long, Wide}
 use Rattle.ic_leb.specs.Faults.{IsCutShort, RunsOn, StandsForTooMuch}

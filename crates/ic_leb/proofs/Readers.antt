@@ -1,8 +1,7 @@
 -- The two readers, and that each reads what is spelled and nothing else.
-use Rattle.std.proofs.Common.{◌≡◌, ℕ, ◌<◌, ◌^◌, List, ◌++◌, length, refl, sym, ◌∙◌, ap, subst, take, drop, Option, Some, None}
+use Rattle.std.proofs.Common.{◌≡◌, ℕ, ◌<◌, ◌^◌, List, ◌++◌, length, refl, sym, ◌∙◌, ap, take, drop, Some}
 use Rattle.std.specs.Prelude.{ℤ, Result, Ok, Err, FitsSigned}
 use Rattle.std.proofs.lemmas.List.{take-append-drop, drop_at}
-use Rattle.ic_base.specs.Reader.{Reader}
 use Rattle.ic_base.specs.Exact.{Exact}
 use Rattle.ic_leb.specs.declared.width.Width.{Width}
 use Rattle.ic_leb.specs.declared.fault.LebFault.{LebFault}

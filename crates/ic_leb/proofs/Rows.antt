@@ -1,6 +1,6 @@
 -- The definitions at known numbers, by computing.
-use Rattle.std.proofs.Common.{◌≡◌, ℕ, List, [], ◌∷◌, ◌++◌, Option, Some, Result, Ok, Err, Bool, refl, length}
-use Rattle.std.specs.Prelude.{ℤ, pos, negsuc, filter, replicate}
+use Rattle.std.proofs.Common.{◌≡◌, [], ◌∷◌, ◌++◌, Ok, Err, refl}
+use Rattle.std.specs.Prelude.{pos, negsuc, filter, replicate}
 use Rattle.std.specs.List.{range_with_len}
 use Rattle.ic_leb.specs.declared.width.Width.TheVariants.{Wasm32, Wasm64, Candid}
 use Rattle.ic_leb.specs.declared.fault.LebFault.TheVariants.{Short, Long, Wide}

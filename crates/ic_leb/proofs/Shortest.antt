@@ -1,5 +1,5 @@
 -- The shortest spelling spells its number, and nothing shorter does.
-use Rattle.std.proofs.Common.{◌≡◌, ℕ, suc, zero, ◌+◌, ◌-◌, ◌*◌, ◌/◌, ◌%◌, ◌^◌, ◌<◌, ◌≤◌, List, [], ◌∷◌, ◌++◌, Bool, true, false, length, refl, sym, ◌∙◌, ap, subst, arith, inl, inr, append_assoc, length-append, take}
+use Rattle.std.proofs.Common.{◌≡◌, ℕ, suc, zero, ◌+◌, ◌*◌, ◌/◌, ◌%◌, ◌^◌, ◌<◌, ◌≤◌, List, [], ◌∷◌, ◌++◌, Bool, true, false, length, refl, sym, ◌∙◌, ap, subst, arith, inl, inr, append_assoc, take}
 use Rattle.std.specs.Prelude.{nat_le, ℤ, pos, negsuc, FitsSigned}
 use Rattle.std.specs.Int.{complement_if}
 use Rattle.std.proofs.lemmas.Bool.{lt-ltb, le-ltb, le-leb, lt-leb, cases_lt}
@@ -7,8 +7,8 @@ use Rattle.std.proofs.lemmas.List.{take-append-le, length-take}
 use Rattle.std.proofs.Math.Nat.{pow-suc, mul_assoc}
 use Rattle.std.specs.Int.Signed.{mag}
 use Rattle.ic_leb.specs.declared.width.Width.{Width}
-use Rattle.ic_leb.specs.Width.{bits, int_width, most_bytes}
-use Rattle.ic_leb.specs.Value.{unsigned_value, is_negative, signed_value}
+use Rattle.ic_leb.specs.Width.{bits, int_width}
+use Rattle.ic_leb.specs.Value.{is_negative, signed_value}
 use Rattle.ic_leb.specs.Spells.{IsOneNumber, SpellsUnsigned, SpellsSigned}
 use Rattle.ic_leb.specs.Magnitude.{low_bits, magnitude_of}
 use Rattle.ic_leb.specs.Spelling.{seven_bits_each, unsigned_spelling, signed_spelling}

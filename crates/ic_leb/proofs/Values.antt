@@ -1,6 +1,6 @@
 -- What the bytes of one number stand for, by recursion from the first byte on.
-use Rattle.std.proofs.Common.{◌≡◌, ℕ, suc, zero, ◌+◌, ◌-◌, ◌*◌, ◌/◌, ◌%◌, ◌^◌, ◌<◌, ◌≤◌, List, [], ◌∷◌, ◌++◌, Bool, true, false, length, refl, sym, ◌∙◌, ap, arith, add-zero, get_or, nat_lt}
-use Rattle.std.specs.Prelude.{ℤ, pos, negsuc, ◌-ℤ◌, nat_le, if◌then◌else◌}
+use Rattle.std.proofs.Common.{◌≡◌, ℕ, suc, ◌+◌, ◌-◌, ◌*◌, ◌%◌, ◌^◌, ◌<◌, List, [], ◌∷◌, Bool, true, false, length, refl, sym, ◌∙◌, ap, arith, get_or}
+use Rattle.std.specs.Prelude.{pos, ◌-ℤ◌, nat_le, if◌then◌else◌}
 use Rattle.std.specs.List.{sum_by, enumerate_from}
 use Rattle.std.specs.Int.{complement_if}
 use Rattle.std.proofs.lemmas.List.Sums.{sum_by-cons}

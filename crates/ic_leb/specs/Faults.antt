@@ -1,5 +1,5 @@
 -- Where no number stands at the front of the bytes, and why.
-use Rattle.std.specs.Prelude.{◌≡◌, ℕ, ◌<◌, ◌≤◌, ◌^◌, List, ◌++◌, length, take, ℤ, FitsSigned}
+use Rattle.std.specs.Prelude.{◌≡◌, ℕ, ◌<◌, ◌≤◌, ◌^◌, List, ◌++◌, length, take, FitsSigned}
 use Rattle.std.specs.List.{AllByRecursion}
 use Rattle.ic_leb.specs.declared.width.Width.{Width}
 use Rattle.ic_leb.specs.Width.{bits, int_width, most_bytes}

@@ -1,5 +1,5 @@
 -- What is read from the front of the bytes, as functions.
-use Rattle.std.specs.Prelude.{ℕ, zero, suc, ◌+◌, ◌-◌, ◌^◌, List, [], ◌∷◌, take, drop, Bool, Option, Some, None, Result, Ok, Err, nat_lt, ℤ, pos, negsuc, if◌then◌else◌}
+use Rattle.std.specs.Prelude.{ℕ, zero, suc, ◌+◌, ◌-◌, ◌^◌, List, [], ◌∷◌, take, drop, Bool, Some, None, Result, Ok, Err, nat_lt, ℤ, pos, negsuc, if◌then◌else◌}
 use Rattle.ic_base.specs.Reader.{Reader}
 use Rattle.ic_leb.specs.declared.width.Width.{Width}
 use Rattle.ic_leb.specs.declared.fault.LebFault.{LebFault}

@@ -1,5 +1,5 @@
 -- What the bytes of one number stand for (WebAssembly Core 1.0, section 5.2.2; Candid, "Binary Format").
-use Rattle.std.specs.Prelude.{ℕ, ◌+◌, ◌-◌, ◌*◌, ◌%◌, ◌^◌, List, length, slice_index, Bool, nat_le, ℤ, pos, ◌-ℤ◌, if◌then◌else◌}
+use Rattle.std.specs.Prelude.{ℕ, ◌-◌, ◌*◌, ◌%◌, ◌^◌, List, length, slice_index, Bool, nat_le, ℤ, pos, ◌-ℤ◌, if◌then◌else◌}
 use Rattle.std.specs.List.{sum_by, enumerate_from}
 
 -- the sum of the low seven bits of byte i, times 128 ^ i

@@ -1,9 +1,9 @@
-use Rattle.std.proofs.Common.{◌≡◌, ◌≤◌, ◌<◌, ◌+◌, ◌-◌, ◌*◌, drop, length, get_or, sym, ap, arith, cond}
+use Rattle.std.proofs.Common.{◌-◌, length, sym, ap, arith, cond}
 use Rattle.std.specs.Prelude.{Ok, Err}
 use Rattle.std.proofs.lemmas.List.{drop_all}
 use Rattle.std.proofs.lemmas.Bool.{lt-leb}
 use Rattle.ic_leb.specs.declared.fault.LebFault.TheVariants.{Wide}
-use Rattle.ic_leb.specs.Magnitude.{low_bits, magnitude_of, up_to}
+use Rattle.ic_leb.specs.Magnitude.{magnitude_of}
 use Rattle.ic_leb.proofs.Magnitudes.{one_lower, high_le_all}
 use Rattle.ic_leb.proofs.reading.magnitude.Goals as goal
 

@@ -1,4 +1,4 @@
-use Rattle.std.proofs.Common.{◌≡◌, ◌+◌, ◌-◌, ℕ, take, drop, length, sym, ◌∙◌, ap, rules}
+use Rattle.std.proofs.Common.{◌+◌, take, drop, sym, ◌∙◌, ap, rules}
 use Rattle.std.specs.Prelude.{Ok, FitsSigned}
 use Rattle.std.specs.Int.{w128, complement_if}
 use Rattle.std.proofs.lemmas.Int.{to_z-of_z}

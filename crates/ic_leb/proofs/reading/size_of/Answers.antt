@@ -1,4 +1,4 @@
-use Rattle.std.proofs.Common.{◌≡◌, ℕ, None, Some, arith, sym, ◌∙◌, ap}
+use Rattle.std.proofs.Common.{None, Some, arith, sym, ◌∙◌, ap}
 use Rattle.std.specs.Prelude.{Ok}
 use Rattle.ic_leb.proofs.Sizes.{size_by}
 use Rattle.ic_leb.proofs.reading.size_of.Goals as goal

@@ -1,8 +1,7 @@
-use Rattle.std.proofs.Common.{◌≡◌, ◌+◌, ◌-◌, ℕ, take, drop, length, sym, ◌∙◌, ap, true, false}
+use Rattle.std.proofs.Common.{◌+◌, take, drop, sym, ◌∙◌, ap, false}
 use Rattle.std.specs.Prelude.{Ok}
 use Rattle.std.proofs.lemmas.List.{take_rest}
 use Rattle.std.proofs.lemmas.Result.{err_from_is_err_and}
-use Rattle.ic_leb.specs.Value.{is_negative}
 use Rattle.ic_leb.specs.Magnitude.{magnitude_of}
 use Rattle.ic_leb.specs.Reading.{unsigned_at}
 use Rattle.ic_leb.proofs.Values.{unsigned_magnitude}

@@ -1,6 +1,4 @@
-use Rattle.std.proofs.Common.{◌≡◌, ◌++◌, ◌∷◌, [], ◌+◌, ◌/◌, suc, take, length, sym, ◌∙◌, ap, arith}
-use Rattle.ic_leb.specs.Magnitude.{low_bits}
-use Rattle.ic_leb.specs.Spelling.{seven_bits_each}
+use Rattle.std.proofs.Common.{◌++◌, sym, ◌∙◌, ap, arith}
 use Rattle.ic_leb.proofs.Shortest.{pushed_seven, last_seven, kept_front}
 use Rattle.ic_leb.proofs.writing.push_each.Goals as goal
 

@@ -1,4 +1,4 @@
-use Rattle.std.proofs.Common.{◌+◌, ◌-◌, ◌≡◌, ◌<◌, ◌≤◌, ◌++◌, suc, take, length}
+use Rattle.std.proofs.Common.{◌≡◌, ◌++◌, suc, take, length}
 use Rattle.ic_leb.specs.Spelling.{seven_bits_each}
 use Rattle.ic_leb.proofs.writing.push_each.Given as goal
 
