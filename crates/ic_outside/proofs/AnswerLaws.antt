@@ -1,17 +1,16 @@
 -- What the steps of reading a line answer.
-use Rattle.std.proofs.Common.{◌≡◌, ℕ, ◌+◌, ◌-◌, ◌<◌, ◌≤◌, ◌⊎◌, inl, inr, true, false, IsTrue, List, [], ◌∷◌, ◌++◌, length, take, drop, Option, Some, None, Err, refl, sym, ap, subst, ◌∙◌, arith, append_assoc, append-nil, take_all, take_at, drop_at, length-append}
+use Rattle.std.proofs.Common.{◌≡◌, ℕ, ◌+◌, ◌<◌, ◌≤◌, inl, inr, IsTrue, List, [], ◌∷◌, ◌++◌, length, take, drop, Option, Some, None, Err, refl, sym, ap, subst, ◌∙◌, arith, append_assoc, append-nil, take_all, take_at, drop_at, length-append}
 use Rattle.std.proofs.lemmas.List.{drop_all}
 use Rattle.std.proofs.lemmas.Bool.Decides.{nat_tests}
 use Rattle.std.proofs.Math.Nat.{eq-or-lt_of_le}
 use Rattle.ic_outside.specs.Limits.{Limits, Excess, LongLine, LongScript, excess, excess_of}
 use Rattle.ic_outside.specs.Pieces.{HasNoLf, pieces, line_of}
 use Rattle.ic_outside.specs.Reader.{Reader}
-use Rattle.ic_outside.specs.Reads.{HandsOut, Exceeds, Answers}
+use Rattle.ic_outside.specs.Reads.{HandsOut, Answers}
 use Rattle.ic_outside.specs.Steps.{BeginsWithLine, fault_of, IsFaultOf, IsNear, handed_out}
 use Rattle.ic_outside.specs.declared.lines.Line.{Line}
 use Rattle.ic_outside.specs.declared.error.LineFault.{LineFault}
-use Rattle.ic_outside.specs.declared.error.LineFault.TheVariants.{ReadFault, LineTooLong, ScriptTooLong, NoMemory}
-use Rattle.ic_outside.proofs.LimitLaws.{excess-none, excess-more}
+use Rattle.ic_outside.proofs.LimitLaws.{excess-more}
 use Rattle.ic_outside.proofs.PieceLaws.{pieces-line, pieces-begun, line_of-line, line_of-rest, line_of-append}
 
 -- a piece of an LF and the line before it is read as that line

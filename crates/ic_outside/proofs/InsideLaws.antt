@@ -1,5 +1,5 @@
 -- The invariant of a reader of lines after each step.
-use Rattle.std.proofs.Common.{◌≡◌, ℕ, ◌+◌, ◌-◌, ◌<◌, ◌≤◌, Bool, List, [], ◌++◌, length, take, drop, Vec, Global, vec_len, None, refl, sym, ap, subst, ◌∙◌, arith, length-append, length-drop, take_at}
+use Rattle.std.proofs.Common.{◌≡◌, ℕ, ◌+◌, ◌<◌, ◌≤◌, Bool, List, ◌++◌, length, take, drop, Vec, Global, vec_len, None, sym, ap, subst, ◌∙◌, arith, length-append, length-drop, take_at}
 use Rattle.std.proofs.lemmas.List.Elements.{All-nil}
 use Rattle.ic_outside.specs.Limits.{excess}
 use Rattle.ic_outside.specs.LinesInside.{reader_of, IsSound}

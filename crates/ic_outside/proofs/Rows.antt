@@ -1,5 +1,5 @@
 -- The definitions computed on small scripts.
-use Rattle.std.proofs.Common.{◌≡◌, List, [], ◌∷◌, Some, None, refl}
+use Rattle.std.proofs.Common.{◌≡◌, [], ◌∷◌, Some, None, refl}
 use Rattle.ic_outside.specs.Pieces.{pieces, line_of}
 use Rattle.ic_outside.specs.Limits.{LongLine, LongScript, excess}
 

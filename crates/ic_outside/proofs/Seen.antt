@@ -1,12 +1,12 @@
 -- The loop that reads until a line is whole.
-use Rattle.std.proofs.Common.{◌≡◌, ℕ, ◌+◌, ◌-◌, ◌*◌, ◌<◌, ◌≤◌, ◌⊎◌, inl, inr, Bool, true, false, cond, IsTrue, Contains, List, [], ◌∷◌, ◌++◌, length, take, Option, Some, None, Result, Ok, Err, refl, sym, ap, subst, ◌∙◌, arith, append_assoc, append-nil, length-append, take_at}
+use Rattle.std.proofs.Common.{◌≡◌, ℕ, ◌+◌, ◌-◌, ◌*◌, ◌<◌, ◌≤◌, ◌⊎◌, inl, inr, Bool, true, false, cond, IsTrue, Contains, List, [], ◌∷◌, ◌++◌, length, Option, Some, None, Result, Ok, Err, refl, sym, ap, subst, ◌∙◌, arith, append_assoc, append-nil, length-append, take_at}
 use Rattle.std.proofs.lemmas.List.Elements.{All-take, All-contains}
 use Rattle.std.specs.Io.KnownBytes.{prepend_known, IsAtEnd}
 use Rattle.std.proofs.KnownBytes.{prepend_known-nil}
 use Rattle.ic_outside.specs.Limits.{excess}
 use Rattle.ic_outside.specs.Pieces.{HasNoLf}
 use Rattle.ic_outside.specs.Reader.{Reader}
-use Rattle.ic_outside.specs.Reads.{HandsOut, Exceeds, Answers, Reads}
+use Rattle.ic_outside.specs.Reads.{Answers, Reads}
 use Rattle.ic_outside.specs.Steps.{Filled, Unfilled}
 use Rattle.ic_outside.specs.declared.lines.Line.{Line}
 use Rattle.ic_outside.specs.declared.error.LineFault.{LineFault}

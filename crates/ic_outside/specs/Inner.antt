@@ -1,5 +1,5 @@
 -- What a standard reader or writer inside an end of ours shows.
-use Rattle.std.specs.Prelude.{ℕ, List, take, Option, Result, Ok, Err, MatchResult}
+use Rattle.std.specs.Prelude.{ℕ, List, take, Option, Result, Ok, Err}
 use Rattle.std.specs.Io.KnownBytes.{Appends}
 
 -- the inner writer took the n bytes of an `Ok(n)`, and some front of the piece where the write or

@@ -1,8 +1,7 @@
 -- A source over memory.
-use Rattle.std.specs.Prelude.{ℕ, ◌==◌, Bool, false, ◌||◌, ◌&&◌, nat_lt, if◌then◌else◌, min, List, length, drop, Result, Ok, Err}
+use Rattle.std.specs.Prelude.{ℕ, ◌==◌, Bool, ◌||◌, ◌&&◌, nat_lt, if◌then◌else◌, min, List, length, drop}
 use Rattle.std.specs.List.{list_any}
 use Rattle.ic_outside.specs.Faults.{counted}
-use Rattle.ic_outside.specs.declared.error.Failed.{Failed}
 
 -- the bytes left, the most that one read gives, the numbers of the calls that fail, how many calls
 -- were made, how many failed, and whether the end was given

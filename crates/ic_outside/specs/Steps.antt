@@ -1,7 +1,7 @@
 -- What the steps of reading a line do.
 use Rattle.std.specs.Prelude.{◌≡◌, ℕ, ◌+◌, ◌<◌, ◌≤◌, ◌⊎◌, IsTrue, Bool, false, Some, List, [], ◌∷◌, ◌++◌, drop, length, Option}
 use Rattle.std.specs.Io.KnownBytes.{prepend_known, IsAtEnd}
-use Rattle.ic_outside.specs.Limits.{Excess, LongLine, LongScript, excess}
+use Rattle.ic_outside.specs.Limits.{Excess, LongLine, LongScript}
 use Rattle.ic_outside.specs.Pieces.{HasNoLf}
 use Rattle.ic_outside.specs.Reader.{Reader}
 use Rattle.ic_outside.specs.declared.error.LineFault.{LineFault}

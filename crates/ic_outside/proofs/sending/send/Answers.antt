@@ -1,4 +1,4 @@
-use Rattle.std.proofs.Common.{arith, rules, ◌<◌, length}
+use Rattle.std.proofs.Common.{rules, ◌<◌, length}
 use Rattle.std.proofs.lemmas.List.{take_rest}
 use Rattle.ic_outside.proofs.SentLaws.{Sent-more}
 use Rattle.ic_outside.proofs.sending.send.Goals as goal

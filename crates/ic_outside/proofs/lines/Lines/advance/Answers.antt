@@ -1,4 +1,4 @@
-use Rattle.std.proofs.Common.{◌≡◌, ◌+◌, length, None, false, ap, sym, subst, ◌∙◌, Err}
+use Rattle.std.proofs.Common.{◌≡◌, ◌+◌, length, None, false, ap, sym, subst, ◌∙◌}
 use Rattle.ic_outside.specs.Limits.{excess}
 use Rattle.ic_outside.specs.Steps.{IsFaultOf}
 use Rattle.ic_outside.proofs.AnswerLaws.{Answers-begun}

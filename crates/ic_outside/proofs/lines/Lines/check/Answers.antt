@@ -1,5 +1,5 @@
-use Rattle.std.proofs.Common.{◌≡◌, ℕ, ◌+◌, ◌-◌, ◌<◌, ◌≤◌, ◌⊎◌, inl, inr, refl, ap, sym, subst, ◌∙◌, Err, arith}
-use Rattle.ic_outside.specs.Limits.{LongLine, LongScript, excess}
+use Rattle.std.proofs.Common.{◌-◌, ◌<◌, ◌≤◌, ◌⊎◌, inl, inr, refl, arith}
+use Rattle.ic_outside.specs.Limits.{LongLine, LongScript}
 use Rattle.ic_outside.specs.LinesInside.{reader_of}
 use Rattle.ic_outside.proofs.LimitLaws.{excess-line, excess-script, excess-within}
 use Rattle.ic_outside.proofs.lines.Lines.check.Goals as goal

@@ -1,4 +1,4 @@
-use Rattle.std.proofs.Common.{◌≡◌, ℕ, ◌<◌, ◌≤◌, ◌⊎◌, inl, inr, List, [], ◌++◌, length, take, Ok, Err, OnOk, ap, sym, subst, ◌∙◌, refl, append-nil, length-take, vec_len, false, IsTrue, arith}
+use Rattle.std.proofs.Common.{◌≡◌, ℕ, ◌<◌, ◌≤◌, inl, inr, List, [], ◌++◌, length, take, ap, sym, subst, ◌∙◌, append-nil, length-take, vec_len, false, arith}
 use Rattle.ic_outside.specs.LinesInside.{IsSound, reader_of}
 use Rattle.std.specs.Io.KnownBytes.{prepend_known}
 use Rattle.ic_outside.specs.Reader.{Reader}

@@ -1,5 +1,4 @@
-use Rattle.std.proofs.Common.{◌≡◌, ◌≤◌, ◌+◌, ap, ◌∙◌, arith}
-use Rattle.ic_outside.specs.Limits.{excess}
+use Rattle.std.proofs.Common.{◌≤◌, ◌+◌, ap, arith}
 use Rattle.ic_outside.proofs.LimitLaws.{excess-none}
 use Rattle.ic_outside.proofs.InsideLaws.{IsSound-handed_out}
 use Rattle.ic_outside.proofs.lines.Lines.hand_out.Goals as goal

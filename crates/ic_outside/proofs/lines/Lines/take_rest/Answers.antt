@@ -1,4 +1,4 @@
-use Rattle.std.proofs.Common.{◌≡◌, ◌<◌, ◌+◌, length, subst, IsTrue, inl, ap, ◌∙◌, None, take, arith}
+use Rattle.std.proofs.Common.{◌≡◌, ◌+◌, length, subst, inl, ap, ◌∙◌, None, take, arith}
 use Rattle.ic_outside.specs.Limits.{excess}
 use Rattle.ic_outside.specs.Steps.{IsFaultOf, handed_out}
 use Rattle.ic_outside.proofs.AnswerLaws.{HandsOut-rest, Answers-begun}
