@@ -1,0 +1,21 @@
+-- The bytes that a read gave or a write took.
+use Rattle.std.specs.Prelude.{◌≡◌, ℕ, Bool, false, ◌&&◌, ◌==◌, nat_lt, List, [], ◌++◌, length, take, Option, Result, Ok, Err}
+use Rattle.std.specs.Io.KnownBytes.{append_known}
+
+-- the bytes that a call moved: the first n of the buffer at `Ok(n)`, none at `Err`
+abbrev pub given : {E : Type 0} → Result ℕ E → List ℕ → List ℕ
+given (Ok n) bytes = take n bytes
+given (Err fault) bytes = []
+
+-- a read that gives nothing into a buffer that is not empty gives the end
+abbrev pub gives_end : {E : Type 0} → Result ℕ E → List ℕ → Bool
+gives_end (Ok n) buffer = (n == 0) && nat_lt 0 (length buffer)
+gives_end (Err fault) buffer = false
+
+-- the bytes begin with the front
+abbrev pub IsFront : List ℕ → List ℕ → Type 0
+IsFront front bytes = (rest : List ℕ) × (bytes ≡ front ++ rest)
+
+-- some front of the bytes was appended
+abbrev pub TookFront : Option (List ℕ) → Option (List ℕ) → List ℕ → Type 0
+TookFront old new bytes = (front : List ℕ) × IsFront front bytes × (new ≡ append_known old front)

@@ -1,0 +1,14 @@
+pub mod Faults
+pub mod Given
+pub mod Reading
+pub mod Writing
+pub mod MemoryReader
+pub mod MemoryWriter
+pub mod Inner
+pub mod StdEnds
+pub mod Limits
+pub mod Pieces
+pub mod Reader
+pub mod Reads
+pub mod Steps
+pub mod LinesInside

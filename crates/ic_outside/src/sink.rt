@@ -1,0 +1,32 @@
+ghost use Rattle.std.specs.Prelude.{◌≡◌, ◌<◌, ◌≤◌, ◌^◌, ℕ, List, Option, length, IfOk, IfSome};
+ghost use Rattle.std.specs.Io.KnownBytes.{append_known};
+ghost use Rattle.ic_outside.specs.Faults.{HasCause};
+ghost use Rattle.ic_outside.specs.Given.{given};
+ghost use Rattle.ic_outside.specs.Writing.{TookFreely};
+
+use crate::Failed;
+
+/// Where bytes go.
+pub trait Sink {
+    // The bytes taken so far, where the sink tells them. Whether it tells them never changes.
+    ghost taken: { Self → Option (List ℕ) };
+
+    // How many writes failed, up to 2^64-1.
+    ghost faults: { Self → ℕ };
+
+    // How many bytes the sink still takes without a fault, where it tells this.
+    ghost fits: { Self → Option ℕ };
+
+    /// Takes a front of the piece, one byte at least where there is one; how many. A write that
+    /// fails takes nothing.
+    fn write(&mut self, piece: &[u8]) -> Result<usize, Failed>
+        ensures bound { IfOk result (λ n. n ≤ length piece.now) }
+        ensures some { IfOk result (λ n. 0 < length piece.now → 0 < n) }
+        ensures appended { taken self.new ≡ append_known (taken self.old) (given result piece.now) }
+        ensures cause { HasCause (faults self.old) (faults self.new) result }
+        ensures fitting { IfSome (fits self.old) (λ room. length piece.now ≤ room
+            → TookFreely room (faults self.old) (faults self.new) (fits self.new) result) };
+
+    // A law: the count fits 64 bits.
+    ghost faults_fit: { (sink : Self) → faults sink < 2 ^ 64 };
+}
