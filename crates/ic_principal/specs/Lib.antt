@@ -1,0 +1,6 @@
+pub mod Bits
+pub mod Checksum
+pub mod Base32
+pub mod Text
+pub mod IsPrincipal
+pub mod Padded

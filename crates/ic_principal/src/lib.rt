@@ -1,9 +1,20 @@
 //! Principals, the identifiers of users and canisters (IC Interface Specification, "Principals"),
 //! and the two lists of plain data that every layer above speaks of: bytes and text.
+//!
+//! A principal and its text determine each other. The text is base32 (RFC 4648) of a CRC-32
+//! (ISO 3309) and the bytes; the definitions in `specs/` say it bit by bit.
 #![tactic(auto)]
 
+mod base32;
+mod bit_queue;
 mod bytes;
+mod checksum;
+mod order;
+mod principal;
+#[cfg(test)]
+mod tests;
 mod text;
 
 pub use bytes::Bytes;
+pub use principal::{NotText, Principal, TooLong};
 pub use text::Text;

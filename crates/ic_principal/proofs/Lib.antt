@@ -1,0 +1,6 @@
+mod Rows
+pub mod BitLaws
+pub mod ChecksumLaws
+pub mod Base32Laws
+pub mod TextLaws
+pub mod PrincipalLaws

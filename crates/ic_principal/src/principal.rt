@@ -1,0 +1,161 @@
+ghost use Rattle.std.specs.Prelude.{◌≡◌, ℕ, ◌<◌, ◌≤◌, ◌∷◌, [], ◌++◌, length, drop, List, IfOk, OnErr};
+ghost use Rattle.std.specs.Int.{to_be_bytes, w64};
+ghost use Rattle.std.specs.Result.{result_ok};
+ghost use Rattle.ic_principal.specs.IsPrincipal.{IsPrincipal};
+ghost use Rattle.ic_principal.specs.Padded.{padded as padded_bytes};
+ghost use Rattle.ic_principal.specs.Text.{IsText, text_of, bytes_read, principal_of};
+
+use crate::base32::{bytes_of, spell, values_in, values_of};
+use crate::checksum::checksum;
+use crate::text::Text;
+use arrayvec::ArrayString;
+use ic_base::NoMemory;
+use std::alloc::Global;
+use std::marker::Model;
+
+const LONGEST: usize = 29;
+
+const LONGEST_TEXT: usize = 63;
+
+/// An identifier of a user or a canister: 0 to 29 bytes. Contracts see the list of its bytes.
+#[derive(Clone, Copy, Debug)]
+pub struct Principal {
+    bytes: [u8; LONGEST],
+    len: u8,
+}
+
+impl Model for Principal {
+    ghost use Rattle.std.specs.Prelude.{ℕ, List, length, take};
+    ghost use Rattle.std.proofs.Common.{sym};
+    ghost use Rattle.ic_principal.specs.Padded.{padded, IsPadded, length-kept};
+
+    ghost Value = { List ℕ };
+
+    ghost view = { λ p. take p.len p.bytes };
+
+    ghost invariant = { λ p. IsPadded p.bytes p.len };
+
+    ghost inverse = { λ bytes. record { bytes = padded bytes; len = length bytes } };
+
+    ghost inverse_ok = { λ p h i. record {
+      bytes = sym h.zeros i;
+      len = length-kept p.bytes p.len h i;
+    } };
+}
+
+/// Bytes of which there are more than 29, so that they are no principal.
+#[derive(Clone, Copy, Debug, PartialEq, Eq)]
+pub struct TooLong;
+
+/// A text that no principal has.
+#[derive(Clone, Copy, Debug, PartialEq, Eq)]
+pub struct NotText;
+
+impl Principal {
+    /// The principal of these bytes; `TooLong` for more than 29.
+    pub fn from_bytes(bytes: &[u8]) -> Result<Principal, TooLong>
+        ensures ok { IfOk result (λ p. (p ≡ bytes.now) × IsPrincipal bytes.now) }
+        ensures too_long { OnErr result (29 < length bytes.now) }
+    {
+        if bytes.len() > LONGEST {
+            return Err(TooLong);
+        }
+        Ok(Principal::keep(bytes))
+    }
+
+    /// The principal's bytes, at most 29.
+    pub fn bytes(&self) -> &[u8]
+        ensures value { result.now ≡ self.now }
+        ensures principal { IsPrincipal self.now }
+    {
+        &self.bytes[..self.len as usize]
+    }
+
+    /// The principal of the canister with this number: eight bytes, the highest first, and 01 01.
+    pub fn canister_id(counter: u64) -> Principal
+        ensures { result ≡ to_be_bytes w64 counter ++ 1 ∷ 1 ∷ [] }
+    {
+        let [a, b, c, d, e, f, g, h] = counter.to_be_bytes();
+        Principal::keep(&[a, b, c, d, e, f, g, h, 1, 1])
+    }
+
+    /// The principal with this text; `NotText` where there is none, as for upper case, a dash too
+    /// many or too few, or a wrong checksum.
+    pub fn from_text(text: &str) -> Result<Principal, NotText>
+        ensures text { IfOk result (λ p. IsPrincipal p × IsText p text.now) }
+        ensures found { (p : List ℕ) → IsPrincipal p → IsText p text.now → result ≡ Ok p }
+        ensures not_text { OnErr result ((p : List ℕ) → IsPrincipal p → ¬ (IsText p text.now)) }
+        ensures value { result_ok result ≡ principal_of text.now }
+    {
+        named(text).ok_or(NotText)
+    }
+
+    /// The principal's text, from 8 to 63 characters.
+    pub fn to_text(&self, alloc: Global) -> Result<Text, NoMemory>
+        ensures { IfOk result (λ text. text ≡ text_of self.now) }
+    {
+        Ok(Text {
+            items: String::from_str(alloc, self.spelled().as_str())?,
+        })
+    }
+
+    fn keep(bytes: &[u8]) -> Principal
+        requires { length bytes.now ≤ 29 }
+        ensures { result ≡ bytes.now }
+    {
+        Principal {
+            bytes: padded(bytes),
+            len: bytes.len() as u8,
+        }
+    }
+
+    // The text, without taking memory.
+    fn spelled(&self) -> ArrayString<63>
+        ensures { result.bytes ≡ text_of self.now }
+    {
+        let bytes = self.bytes();
+        spell(&values_of(&checksum(bytes).to_be_bytes(), bytes))
+    }
+}
+
+// The principal with this text, if there is one.
+fn named(text: &str) -> Option<Principal>
+    ensures { result ≡ principal_of text.now }
+{
+    if text.len() > LONGEST_TEXT {
+        return None;
+    }
+    let Ok(principal) = read(text) else {
+        return None;
+    };
+    if principal.spelled().as_str() != text {
+        return None;
+    }
+    Some(principal)
+}
+
+// The principal that the characters spell, whatever its text is.
+fn read(text: &str) -> Result<Principal, TooLong>
+    requires { length text.now ≤ 63 }
+    ensures ok { IfOk result (λ p. (p ≡ bytes_read text.now) × IsPrincipal (bytes_read text.now)) }
+    ensures too_long { OnErr result (29 < length (bytes_read text.now)) }
+{
+    let values = values_in(text.as_bytes());
+    Principal::from_bytes(after_checksum(&bytes_of(&values)))
+}
+
+fn after_checksum(bytes: &[u8]) -> &[u8]
+    ensures { result.now ≡ drop 4 bytes.now }
+{
+    &bytes[bytes.len().min(4)..]
+}
+
+// The bytes with zeros behind.
+fn padded(bytes: &[u8]) -> [u8; LONGEST]
+    requires { length bytes.now ≤ 29 }
+    ensures { result ≡ padded_bytes bytes.now }
+{
+    let mut padded = [0; LONGEST];
+    padded[..bytes.len()].copy_from_slice(bytes);
+    padded
+}
