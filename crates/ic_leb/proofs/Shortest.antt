@@ -37,13 +37,16 @@ same_seven end negative (suc most) (suc more) n some h k =
           ∙ sym (first_seven end negative more n long)
     ]
 
--- what is left after one more byte
+-- a byte, and then what is left of the number
+pub next_seven : (end : ℕ) (negative : Bool) (left : ℕ) → 0 < end → end ≤ left → seven_bits_each end negative (suc left) left ≡ (128 + low_bits negative left) ∷ seven_bits_each end negative (suc (left / 128)) (left / 128)
+next_seven end negative left some long =
+    first_seven end negative left left long
+    ∙ ap (λ xs. (128 + low_bits negative left) ∷ xs) (same_seven end negative left (suc (left / 128)) (left / 128) some (omega arith) (omega arith))
+
 pub pushed_seven : (end : ℕ) (negative : Bool) (left : ℕ) (items : List ℕ) → 0 < end → end ≤ left → (items ++ (128 + low_bits negative left) ∷ []) ++ seven_bits_each end negative (suc (left / 128)) (left / 128) ≡ items ++ seven_bits_each end negative (suc left) left
 pushed_seven end negative left items some long =
-    let byte = 128 + low_bits negative left in
-    append_assoc items (byte ∷ []) (seven_bits_each end negative (suc (left / 128)) (left / 128))
-    ∙ ap (λ xs. items ++ byte ∷ xs) (same_seven end negative (suc (left / 128)) left (left / 128) some (omega arith) (omega arith))
-    ∙ ap (λ xs. items ++ xs) (sym (first_seven end negative left left long))
+    append_assoc items ((128 + low_bits negative left) ∷ []) (seven_bits_each end negative (suc (left / 128)) (left / 128))
+    ∙ ap (λ xs. items ++ xs) (sym (next_seven end negative left some long))
 
 -- By the bytes: what holds of a last one, and of one more in front, holds of all.
 seven_by : (end : ℕ) (negative : Bool) → 0 < end → (P : ℕ → List ℕ → Type 0) → ((n : ℕ) → n < end → P n (low_bits negative n ∷ [])) → ((n : ℕ) (bytes : List ℕ) → end ≤ n → P (n / 128) bytes → P n ((128 + low_bits negative n) ∷ bytes)) → (most n : ℕ) → n < most → P n (seven_bits_each end negative most n)
@@ -170,3 +173,7 @@ signed_shortest width z (b ∷ bytes) spells =
 -- what is pushed leaves the front
 pub kept_front : (old items : List ℕ) (byte : ℕ) → take (length old) items ≡ old → take (length old) (items ++ byte ∷ []) ≡ old
 kept_front old items byte e = take-append-le (length old) items (byte ∷ []) (omega (arith, ap length e, length-take (length old) items)) ∙ e
+
+-- a number of 128 bits takes few bytes
+pub few_sevens : (end : ℕ) (negative : Bool) (n : ℕ) → 0 < end → n < 2 ^ 128 → length (seven_bits_each end negative (suc n) n) ≤ 20
+few_sevens end negative n some h = seven_length end negative (suc n) n 19 (omega arith) (omega arith)

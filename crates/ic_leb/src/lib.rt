@@ -10,6 +10,8 @@ mod bits;
 mod fault;
 mod laws;
 mod reading;
+#[cfg(test)]
+mod tests;
 mod width;
 mod writing;
 
@@ -17,4 +19,4 @@ pub use fault::LebFault;
 pub use laws::{shortest_signed, shortest_unsigned};
 pub use reading::{read_s, read_u, take_s, take_u};
 pub use width::Width;
-pub use writing::{write_s, write_u};
+pub use writing::{size_s, size_u, write_s, write_u};

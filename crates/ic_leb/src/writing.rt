@@ -26,7 +26,28 @@ pub fn write_s(z: i128, out: &mut Vec<u8>) -> Result<(), NoMemory>
     }
 }
 
-// Appends n, seven bits a byte; after an error nothing is appended.
+/// How many bytes `write_u` appends.
+#[tactic(auto, unfolding(crate::specs::Spelling::unsigned_spelling))]
+pub fn size_u(n: u128) -> usize
+    ensures { result ≡ length (unsigned_spelling n) }
+{
+    size(n, false, 128)
+}
+
+/// How many bytes `write_s` appends.
+#[tactic(auto, unfolding(crate::specs::Spelling::signed_spelling))]
+pub fn size_s(z: i128) -> usize
+    ensures { result ≡ length (signed_spelling z) }
+{
+    if z < 0 {
+        size((-1 - z) as u128, true, 64)
+    } else {
+        size(z as u128, false, 64)
+    }
+}
+
+// Appends n, seven bits a byte, up to a last byte below `end`: a signed number keeps bit 6 of it for
+// the sign. After an error nothing is appended.
 fn write(n: u128, negative: bool, end: u128, out: &mut Vec<u8>) -> Result<(), NoMemory>
     requires { (0 < end) × (end ≤ 128) }
     ensures written { OnOk result (out.new.items ≡ out.old.items ++ seven_bits_each end negative (suc n) n) }
@@ -40,7 +61,7 @@ fn write(n: u128, negative: bool, end: u128, out: &mut Vec<u8>) -> Result<(), No
     written
 }
 
-// Appends n, seven bits a byte; after an error some of the bytes may be appended.
+// The same, but that after an error some of the bytes may be appended.
 fn push_each(n: u128, negative: bool, end: u128, out: &mut Vec<u8>) -> Result<(), NoMemory>
     requires { (0 < end) × (end ≤ 128) }
     ensures written { OnOk result (out.new.items ≡ out.old.items ++ seven_bits_each end negative (suc n) n) }
@@ -53,4 +74,18 @@ fn push_each(n: u128, negative: bool, end: u128, out: &mut Vec<u8>) -> Result<()
     }
     out.push(low_bits(negative, left))?;
     Ok(())
+}
+
+// How many bytes n has, seven bits a byte.
+fn size(n: u128, negative: bool, end: u128) -> usize
+    requires { (0 < end) × (end ≤ 128) }
+    ensures { result ≡ length (seven_bits_each end negative (suc n) n) }
+{
+    let mut left = n;
+    let mut size = 1;
+    while left >= end {
+        left /= 128;
+        size += 1;
+    }
+    size
 }
