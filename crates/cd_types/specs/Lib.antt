@@ -4,3 +4,4 @@ pub mod References
 pub mod IsOrdered
 pub mod IsTable
 pub mod FaultOf
+pub mod Shape

@@ -1,4 +1,4 @@
-ghost use Rattle.std.specs.Prelude.{◌≡◌, Some, None, length, slice_get, IfOk, IfErr, IsTrue};
+ghost use Rattle.std.specs.Prelude.{◌≡◌, Some, None, length, slice_get, IfOk, IfErr, IsTrue, OnOk, OnErr, false};
 ghost use Rattle.std.specs.Option.{option_copied};
 ghost use Rattle.cd_types.specs.IsTable.{is_table};
 ghost use Rattle.cd_types.specs.FaultOf.{fault_of};
@@ -41,12 +41,13 @@ impl Model for TypeTable {
 
 impl TypeTable {
     /// The table of these entries.
-    #[tactic(auto, using(crate::proofs::FaultLemmas::is_table_without_fault))]
+    #[tactic(auto, using(crate::proofs::FaultLemmas::is_table_without_fault, crate::proofs::FaultLemmas::no_table_with_fault))]
     pub fn new(entries: Vec<Entry>) -> Result<TypeTable, TableFault>
         ensures ok { IfOk result (λ table. table ≡ entries.items) }
         ensures well_formed { IfOk result (λ table. IsTrue (is_table table)) }
         ensures fault { IfErr result (λ fault. fault_of entries.items ≡ Some fault) }
-        ensures no_fault { IfOk result (λ table. fault_of entries.items ≡ None) }
+        ensures no_fault { OnOk result (fault_of entries.items ≡ None) }
+        ensures no_table { OnErr result (is_table entries.items ≡ false) }
     {
         match first_fault(&entries) {
             Some(fault) => Err(fault),
