@@ -12,13 +12,13 @@ abbrev pub and_one : Result ℕ LebFault → Result ℕ LebFault
 and_one (Ok size) = Ok (suc size)
 and_one (Err e) = Err e
 
--- how many bytes the number at the front has
+-- how many bytes the number at the front has, of at most so many
 unfoldable pub size_at : ℕ → List ℕ → Result ℕ LebFault
 size_at zero bytes = Err Long
 size_at (suc most) [] = Err Short
 size_at (suc most) (b ∷ bytes) = if nat_lt b 128 then Ok 1 else and_one (size_at most bytes)
 
--- the value of so many bytes, beside their number, where it fits
+-- what so many bytes stand for, beside their number, where it fits
 abbrev pub value_of : {A : Type 0} → (List ℕ → A) → (A → Bool) → List ℕ → Result ℕ LebFault → Result (A × ℕ) LebFault
 value_of value fits bytes (Err e) = Err e
 value_of value fits bytes (Ok size) = if fits (value (take size bytes)) then Ok (value (take size bytes), size) else Err Wide
@@ -36,9 +36,11 @@ abbrev pub fits_signed : Width → ℤ → Bool
 fits_signed width (pos n) = nat_lt n (2 ^ (bits width - 1))
 fits_signed width (negsuc n) = nat_lt n (2 ^ (bits width - 1))
 
+-- the unsigned number at the front, or why there is none
 unfoldable pub unsigned_at : Width → List ℕ → Result (ℕ × ℕ) LebFault
 unsigned_at width = number_at unsigned_value (fits_unsigned width) (most_bytes width)
 
+-- the signed number at the front, or why there is none
 unfoldable pub signed_at : Width → List ℕ → Result (ℤ × ℕ) LebFault
 signed_at width = number_at signed_value (fits_signed width) (most_bytes width)
 
@@ -47,11 +49,11 @@ abbrev pub and_rest : {A : Type 0} → Result (A × ℕ) LebFault → Reader A
 and_rest (Ok x) bytes = Some (x.0, drop x.1 bytes)
 and_rest (Err e) bytes = None
 
--- the unsigned number at the front
+-- the unsigned number at the front, and the bytes after it
 unfoldable pub unsigned_reader : Width → Reader ℕ
 unsigned_reader width bytes = and_rest (unsigned_at width bytes) bytes
 
--- the signed number at the front
+-- the signed number at the front, and the bytes after it
 unfoldable pub signed_reader : Width → Reader ℤ
 signed_reader width bytes = and_rest (signed_at width bytes) bytes
 

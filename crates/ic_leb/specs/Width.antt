@@ -17,7 +17,7 @@ int_width Wasm32 = w32
 int_width Wasm64 = w64
 int_width Candid = w128
 
--- the most bytes of one number: for WebAssembly the bits by 7, rounded up
+-- the most bytes of one number: for WebAssembly the bits by 7, rounded up; for Candid a limit of this replica
 abbrev pub most_bytes : Width → ℕ
 most_bytes Wasm32 = 5
 most_bytes Wasm64 = 10
