@@ -71,10 +71,12 @@ fives-below (a ∷ b ∷ c ∷ []) = (number-lt (a ∷ b ∷ c ∷ false ∷ fal
 fives-below (a ∷ b ∷ c ∷ d ∷ []) = (number-lt (a ∷ b ∷ c ∷ d ∷ false ∷ []), tt)
 fives-below (a ∷ b ∷ c ∷ d ∷ e ∷ bits) = (number-lt (a ∷ b ∷ c ∷ d ∷ e ∷ []), fives-below bits)
 
-pub length-fives : (bs : List Bool) → 5 * length (fives bs) ≤ length bs + 4
+pub length-fives : (bs : List Bool) → (5 * length (fives bs) ≤ length bs + 4) × (length bs ≤ 5 * length (fives bs))
 length-fives bs =
     let whole : Filled bs = filled bs in
-    omega (arith, whole.few, ap length whole.spelled, length-spelled (fives bs), length-append bs (replicate whole.zeros false), length-replicate {A = Bool} whole.zeros false)
+    let same = ap length whole.spelled in let facts = length-append bs (replicate whole.zeros false) in
+    let zeros = length-replicate {A = Bool} whole.zeros false in let values = length-spelled (fives bs) in
+    (omega (arith, whole.few, same, facts, zeros, values), omega (arith, whole.few, same, facts, zeros, values))
 
 -- the value that filled bits make
 pub last-value : (q rest : List Bool) (v : ℕ) → 0 < length q → length q < 5 → v < 32 → q ++ bits_of (5 - length q) 0 ≡ bits_of 5 v ++ rest → fives q ≡ v ∷ []

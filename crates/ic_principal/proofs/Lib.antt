@@ -4,3 +4,4 @@ pub mod ChecksumLaws
 pub mod Base32Laws
 pub mod TextLaws
 pub mod PrincipalLaws
+pub mod CanisterIdLaws

@@ -16,7 +16,7 @@ use Rattle.ic_principal.specs.Text.{text_of, IsText, bytes_read, principal_of}
 use Rattle.ic_principal.proofs.BitLaws.{length-bits}
 use Rattle.ic_principal.proofs.ChecksumLaws.{length-checksum}
 use Rattle.ic_principal.proofs.Base32Laws.{Filled, filled, fives-below, length-fives, eights-bits, eights-below, drop-eights}
-use Rattle.ic_principal.proofs.TextLaws.{values-dashed, length-dashed}
+use Rattle.ic_principal.proofs.TextLaws.{values-dashed, length-dashed, length-dashed-le}
 
 -- reading what was spelled gives it back
 pub bytes_read-text_of : (bytes : List ℕ) → IsPrincipal bytes → bytes_read (text_of bytes) ≡ bytes
@@ -35,7 +35,14 @@ pub length-text_of : (bytes : List ℕ) → IsPrincipal bytes → length (text_o
 unfolding text_of
 length-text_of bytes h =
     let all = checksum bytes ++ bits bytes in
-    omega (arith, h.short, length-dashed (map character (fives all)), length-map (fives all) character, length-fives all, length-append (checksum bytes) (bits bytes), length-checksum bytes, length-bits bytes)
+    omega (arith, h.short, length-dashed (map character (fives all)), length-map (fives all) character, (length-fives all).0, length-append (checksum bytes) (bits bytes), length-checksum bytes, length-bits bytes)
+
+-- nor shorter than 8
+pub length-text_of-ge : (bytes : List ℕ) → 8 ≤ length (text_of bytes)
+unfolding text_of
+length-text_of-ge bytes =
+    let all = checksum bytes ++ bits bytes in
+    omega (arith, length-dashed-le (map character (fives all)), length-map (fives all) character, (length-fives all).1, length-append (checksum bytes) (bits bytes), length-checksum bytes)
 
 -- what is read are bytes
 pub bytes_read-below : (text : List ℕ) → All (λ b. b < 256) (bytes_read text)

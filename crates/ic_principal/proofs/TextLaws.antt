@@ -65,6 +65,17 @@ length-dashed (a ∷ b ∷ c ∷ d ∷ []) = omega arith
 length-dashed (a ∷ b ∷ c ∷ d ∷ e ∷ []) = omega arith
 length-dashed (a ∷ b ∷ c ∷ d ∷ e ∷ x ∷ xs) = omega (arith, length-dashed (x ∷ xs), ap length (after_dash-dashed x xs))
 
+-- and no more of them than there are
+pub length-dashed-le : (xs : List ℕ) → 6 * length xs ≤ 5 * length (dashed xs) + 5
+unfolding dashed
+length-dashed-le [] = omega arith
+length-dashed-le (a ∷ []) = omega arith
+length-dashed-le (a ∷ b ∷ []) = omega arith
+length-dashed-le (a ∷ b ∷ c ∷ []) = omega arith
+length-dashed-le (a ∷ b ∷ c ∷ d ∷ []) = omega arith
+length-dashed-le (a ∷ b ∷ c ∷ d ∷ e ∷ []) = omega arith
+length-dashed-le (a ∷ b ∷ c ∷ d ∷ e ∷ x ∷ xs) = omega (arith, length-dashed-le (x ∷ xs), ap length (after_dash-dashed x xs))
+
 -- ---- reading back
 values-character : (v : ℕ) (cs vs : List ℕ) → v < 32 → filter_map value_of cs ≡ vs → filter_map value_of (character v ∷ cs) ≡ v ∷ vs
 values-character v cs vs h e = ap (λ o. cons_option o (filter_map value_of cs)) (position-character v h) ∙ ap (λ l. v ∷ l) e

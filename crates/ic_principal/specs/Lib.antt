@@ -1,4 +1,5 @@
 pub mod Bits
+pub mod CanisterId
 pub mod Checksum
 pub mod Base32
 pub mod Text

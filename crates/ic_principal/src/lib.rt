@@ -9,7 +9,7 @@ mod base32;
 mod bit_queue;
 mod bytes;
 mod checksum;
-mod order;
+mod impls;
 mod principal;
 #[cfg(test)]
 mod tests;

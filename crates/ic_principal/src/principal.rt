@@ -1,6 +1,6 @@
-ghost use Rattle.std.specs.Prelude.{◌≡◌, ℕ, ◌<◌, ◌≤◌, ◌∷◌, [], ◌++◌, length, drop, List, IfOk, OnErr};
-ghost use Rattle.std.specs.Int.{to_be_bytes, w64};
+ghost use Rattle.std.specs.Prelude.{◌≡◌, ℕ, ◌^◌, ◌<◌, ◌≤◌, length, drop, List, IfOk, OnErr};
 ghost use Rattle.std.specs.Result.{result_ok};
+ghost use Rattle.ic_principal.specs.CanisterId.{canister_id_of};
 ghost use Rattle.ic_principal.specs.IsPrincipal.{IsPrincipal};
 ghost use Rattle.ic_principal.specs.Padded.{padded as padded_bytes};
 ghost use Rattle.ic_principal.specs.Text.{IsText, text_of, bytes_read, principal_of};
@@ -18,7 +18,7 @@ const LONGEST: usize = 29;
 const LONGEST_TEXT: usize = 63;
 
 /// An identifier of a user or a canister: 0 to 29 bytes. Contracts see the list of its bytes.
-#[derive(Clone, Copy, Debug)]
+#[derive(Clone, Copy)]
 pub struct Principal {
     bytes: [u8; LONGEST],
     len: u8,
@@ -73,7 +73,9 @@ impl Principal {
 
     /// The principal of the canister with this number: eight bytes, the highest first, and 01 01.
     pub fn canister_id(counter: u64) -> Principal
-        ensures { result ≡ to_be_bytes w64 counter ++ 1 ∷ 1 ∷ [] }
+        ensures id { result ≡ canister_id_of counter }
+        ensures principal { IsPrincipal result }
+        ensures distinct { (other : ℕ) → other < 2 ^ 64 → canister_id_of other ≡ result → other ≡ counter }
     {
         let [a, b, c, d, e, f, g, h] = counter.to_be_bytes();
         Principal::keep(&[a, b, c, d, e, f, g, h, 1, 1])
@@ -92,16 +94,20 @@ impl Principal {
 
     /// The principal's text, from 8 to 63 characters.
     pub fn to_text(&self, alloc: Global) -> Result<Text, NoMemory>
-        ensures { IfOk result (λ text. text ≡ text_of self.now) }
+        ensures text { IfOk result (λ text. text ≡ text_of self.now) }
+        ensures size { IfOk result (λ text. (8 ≤ length text) × (length text ≤ 63)) }
+        ensures reads_back { IfOk result (λ text. principal_of text ≡ Some self.now) }
     {
         Ok(Text {
             items: String::from_str(alloc, self.spelled().as_str())?,
         })
     }
 
+    // Keeps bytes that are known to be few enough.
     fn keep(bytes: &[u8]) -> Principal
         requires { length bytes.now ≤ 29 }
-        ensures { result ≡ bytes.now }
+        ensures value { result ≡ bytes.now }
+        ensures principal { IsPrincipal bytes.now }
     {
         Principal {
             bytes: padded(bytes),
@@ -109,9 +115,11 @@ impl Principal {
         }
     }
 
-    // The text, without taking memory.
-    fn spelled(&self) -> ArrayString<63>
-        ensures { result.bytes ≡ text_of self.now }
+    /// The text, without taking memory.
+    pub(crate) fn spelled(&self) -> ArrayString<LONGEST_TEXT>
+        ensures text { result.bytes ≡ text_of self.now }
+        ensures size { (8 ≤ length result.bytes) × (length result.bytes ≤ 63) }
+        ensures reads_back { principal_of result.bytes ≡ Some self.now }
     {
         let bytes = self.bytes();
         spell(&values_of(&checksum(bytes).to_be_bytes(), bytes))

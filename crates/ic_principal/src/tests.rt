@@ -38,6 +38,10 @@ fn texts(rt: HostRuntime) -> Result<(), Fail> {
         assert_eq!(rt; principal.bytes(), bytes);
         assert_eq!(rt; principal.to_text(rt.alloc())?.items.as_str(), text);
         assert_eq!(rt; Principal::from_text(text), Ok(principal));
+        assert_eq!(rt;
+            format!(in rt.alloc(); "{principal} {principal:?}")?,
+            format!(in rt.alloc(); "{text} {text}")?
+        );
     }
     Ok(())
 }

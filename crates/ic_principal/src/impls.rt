@@ -1,11 +1,13 @@
-// Principals are ordered as the lists of their bytes.
+// Principals are ordered as the lists of their bytes, and shown as their texts.
 ghost use Rattle.std.specs.Prelude.{Some, nat_eq, refl};
 ghost use Rattle.std.specs.Ordering.{nat_cmp};
 ghost use Rattle.std.specs.Cmp.Lexicographic.{pointwise, slice_cmp, nat_list_eq_equiv, nat_list_cmp_total, texts_ties, texts_po};
 ghost use Rattle.std.specs.Cmp.{partial_equiv_from_equiv};
+ghost use Rattle.ic_principal.specs.Text.{text_of};
 
 use crate::principal::Principal;
 use std::cmp::Ordering;
+use std::fmt;
 
 impl PartialEq for Principal {
     ghost eq = { pointwise nat_eq };
@@ -42,5 +44,19 @@ impl Ord for Principal {
 
     fn cmp(&self, other: &Principal) -> Ordering {
         self.bytes().cmp(other.bytes())
+    }
+}
+
+impl fmt::Display for Principal {
+    ghost output = { λ p. Some (text_of p) };
+
+    fn fmt<W: fmt::Write>(&self, f: &mut fmt::Formatter<W>) -> fmt::Result {
+        f.write_str(self.spelled().as_str())
+    }
+}
+
+impl fmt::Debug for Principal {
+    fn fmt<W: fmt::Write>(&self, f: &mut fmt::Formatter<W>) -> fmt::Result {
+        f.write_str(self.spelled().as_str())
     }
 }
