@@ -1,5 +1,4 @@
-use Rattle.std.proofs.Common.{◌≡◌, ◌+◌, ◌≤◌, suc, length, ap, arith}
-use Rattle.ic_leb.specs.Spelling.{seven_bits_each}
+use Rattle.std.proofs.Common.{length, ap, arith}
 use Rattle.ic_leb.proofs.Shortest.{next_seven, last_seven, few_sevens}
 use Rattle.ic_leb.proofs.writing.size.Goals as goal
 
