@@ -38,10 +38,8 @@ fn texts(rt: HostRuntime) -> Result<(), Fail> {
         assert_eq!(rt; principal.bytes(), bytes);
         assert_eq!(rt; principal.to_text(rt.alloc())?.items.as_str(), text);
         assert_eq!(rt; Principal::from_text(text), Ok(principal));
-        assert_eq!(rt;
-            format!(in rt.alloc(); "{principal} {principal:?}")?,
-            format!(in rt.alloc(); "{text} {text}")?
-        );
+        assert_eq!(rt; format!(in rt.alloc(); "{principal}")?.as_str(), text);
+        assert_eq!(rt; format!(in rt.alloc(); "{principal:?}")?.as_str(), text);
     }
     Ok(())
 }
