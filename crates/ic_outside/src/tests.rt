@@ -1,6 +1,8 @@
 ghost use Rattle.std.specs.Prelude.{◌<◌, ◌-◌, ◌^◌};
 
-use crate::{Failed, Lines, MemorySink, MemorySource, Sink, Source, StdSink, StdSource, WriteFault, send};
+use crate::{
+    Failed, Lines, MemorySink, MemorySource, Sink, Source, StdSink, StdSource, WriteFault, send,
+};
 use std::alloc::{AllocError, Global};
 use std::io;
 use std::io::{ErrorKind, Read, Write};
@@ -8,33 +10,56 @@ use std::test::Fail;
 
 // A script, how it is read (bytes a read, reads that fail), its limits (line, script), and the
 // lines and the end or the fault that come of it. Behind `<` stands what the source has left.
-const SCRIPTS: [(&str, usize, &[u64], usize, u64, &str); 17] = [
-    ("", 1, &[], 3, 9, "end<"),
-    ("a\n\nbc", 1, &[], 3, 9, "a||bc|end<"),
-    ("a\n\nbc", 2, &[], 3, 9, "a||bc|end<"),
-    ("a\n\nbc", 9, &[], 3, 9, "a||bc|end<"),
-    ("a\n", 9, &[], 3, 9, "a|end<"),
-    ("\n", 9, &[], 0, 1, "|end<"),
-    // A line of exactly the largest length, and one byte more.
-    ("abc\nd", 9, &[], 3, 9, "abc|d|end<"),
-    ("a\nabcd\n", 9, &[], 3, 9, "a|line 2 is too long<"),
-    ("abcdefg", 2, &[], 3, 9, "line 1 is too long<efg"),
-    // A script of exactly the largest size, and one byte more, which may be an LF.
-    ("abc\nd\n", 9, &[], 3, 6, "abc|d|end<"),
-    ("abc\nd\n", 9, &[], 3, 5, "abc|the script is too long at line 2<"),
-    ("abc\nde", 1, &[], 3, 4, "abc|the script is too long at line 2<e"),
-    // The byte too many of the line and of the script: the one that stands first decides.
-    ("abcd", 9, &[], 3, 3, "line 1 is too long<"),
-    ("abcd", 9, &[], 3, 2, "the script is too long at line 1<"),
-    // A read that fails takes nothing, and the lines before it are handed out.
-    ("a\nbc", 2, &[2], 3, 9, "a|the source failed<bc"),
-    ("a\nbc", 9, &[1], 3, 9, "the source failed<a\nbc"),
-    ("a", 9, &[2], 3, 9, "the source failed<"),
-];
+fn scripts() -> [(
+    &'static str,
+    usize,
+    &'static [u64],
+    usize,
+    u64,
+    &'static str,
+); 17] {
+    [
+        ("", 1, &[], 3, 9, "end<"),
+        ("a\n\nbc", 1, &[], 3, 9, "a||bc|end<"),
+        ("a\n\nbc", 2, &[], 3, 9, "a||bc|end<"),
+        ("a\n\nbc", 9, &[], 3, 9, "a||bc|end<"),
+        ("a\n", 9, &[], 3, 9, "a|end<"),
+        ("\n", 9, &[], 0, 1, "|end<"),
+        // A line of exactly the largest length, and one byte more.
+        ("abc\nd", 9, &[], 3, 9, "abc|d|end<"),
+        ("a\nabcd\n", 9, &[], 3, 9, "a|line 2 is too long<"),
+        ("abcdefg", 2, &[], 3, 9, "line 1 is too long<efg"),
+        // A script of exactly the largest size, and one byte more, which may be an LF.
+        ("abc\nd\n", 9, &[], 3, 6, "abc|d|end<"),
+        (
+            "abc\nd\n",
+            9,
+            &[],
+            3,
+            5,
+            "abc|the script is too long at line 2<",
+        ),
+        (
+            "abc\nde",
+            1,
+            &[],
+            3,
+            4,
+            "abc|the script is too long at line 2<e",
+        ),
+        // The byte too many of the line and of the script: the one that stands first decides.
+        ("abcd", 9, &[], 3, 3, "line 1 is too long<"),
+        ("abcd", 9, &[], 3, 2, "the script is too long at line 1<"),
+        // A read that fails takes nothing, and the lines before it are handed out.
+        ("a\nbc", 2, &[2], 3, 9, "a|the source failed<bc"),
+        ("a\nbc", 9, &[1], 3, 9, "the source failed<a\nbc"),
+        ("a", 9, &[2], 3, 9, "the source failed<"),
+    ]
+}
 
 #[test]
 fn reads_lines(rt: HostRuntime) -> Result<(), Fail> {
-    for (script, piece, failing, line, limit, want) in SCRIPTS {
+    for (script, piece, failing, line, limit, want) in scripts() {
         assert!(rt; piece > 0 && limit < u64::MAX);
         let got = outcome(rt.alloc(), script, piece, failing, line, limit)?;
         assert_eq!(rt; got.as_slice(), want.as_bytes(), "{want}");
@@ -44,7 +69,14 @@ fn reads_lines(rt: HostRuntime) -> Result<(), Fail> {
 
 // The lines, each with its number tested and a bar behind it; the end, or the fault if three calls
 // answer it; and what the source then has left.
-fn outcome(alloc: Global, script: &str, piece: usize, failing: &[u64], line: usize, limit: u64) -> Result<Vec<u8>, AllocError>
+fn outcome(
+    alloc: Global,
+    script: &str,
+    piece: usize,
+    failing: &[u64],
+    line: usize,
+    limit: u64,
+) -> Result<Vec<u8>, AllocError>
     requires piece { 0 < piece }
     requires limit { limit < 2 ^ 64 - 1 }
 {
@@ -88,20 +120,34 @@ fn outcome(alloc: Global, script: &str, piece: usize, failing: &[u64], line: usi
 
 // The bytes of each sending, how the sink takes them (room, bytes a write, writes that fail), the
 // answers, and what was taken.
-const SENDINGS: [([&str; 2], usize, usize, &[u64], [Result<(), WriteFault>; 2], &str); 6] = [
-    (["ab", "c"], 3, 1, &[], [Ok(()), Ok(())], "abc"),
-    (["abc", "d"], 9, 2, &[], [Ok(()), Ok(())], "abcd"),
-    (["abc", "d"], 3, 2, &[], [Ok(()), Err(WriteFault)], "abc"),
-    (["abcde", ""], 3, 2, &[], [Err(WriteFault), Ok(())], "abc"),
-    (["abc", "d"], 9, 2, &[2], [Err(WriteFault), Ok(())], "abd"),
-    (["", "a"], 9, 2, &[1], [Ok(()), Err(WriteFault)], ""),
-];
+fn sendings() -> [(
+    [&'static str; 2],
+    usize,
+    usize,
+    &'static [u64],
+    [Result<(), WriteFault>; 2],
+    &'static str,
+); 6] {
+    [
+        (["ab", "c"], 3, 1, &[], [Ok(()), Ok(())], "abc"),
+        (["abc", "d"], 9, 2, &[], [Ok(()), Ok(())], "abcd"),
+        (["abc", "d"], 3, 2, &[], [Ok(()), Err(WriteFault)], "abc"),
+        (["abcde", ""], 3, 2, &[], [Err(WriteFault), Ok(())], "abc"),
+        (["abc", "d"], 9, 2, &[2], [Err(WriteFault), Ok(())], "abd"),
+        (["", "a"], 9, 2, &[1], [Ok(()), Err(WriteFault)], ""),
+    ]
+}
 
 #[test]
 fn sends(rt: HostRuntime) -> Result<(), Fail> {
-    for (texts, room, piece, failing, answers, want) in SENDINGS {
+    for (texts, room, piece, failing, answers, want) in sendings() {
         assert!(rt; piece > 0);
-        let mut sink = MemorySink::new(rt.alloc(), room, piece, Vec::from_slice(rt.alloc(), failing)?)?;
+        let mut sink = MemorySink::new(
+            rt.alloc(),
+            room,
+            piece,
+            Vec::from_slice(rt.alloc(), failing)?,
+        )?;
         assert_eq!(rt; send(&mut sink, texts[0].as_bytes()), answers[0], "{want}");
         assert_eq!(rt; send(&mut sink, texts[1].as_bytes()), answers[1], "{want}");
         assert_eq!(rt; sink.taken(), want.as_bytes());
@@ -150,8 +196,15 @@ fn passes_on_standard_streams(rt: HostRuntime) -> Result<(), Fail> {
     let mut taken = Vec::new(rt.alloc());
     assert_eq!(rt; send(&mut StdSink::new(&mut taken), b"abc"), Ok(()));
     assert_eq!(rt; taken.as_slice(), b"abc".as_slice());
-    assert_eq!(rt; StdSource::new(Broken::IsInterrupted).read(&mut buffer), Err(Failed));
-    for broken in [Broken::IsInterrupted, Broken::TakesNothing, Broken::CannotFlush] {
+    assert_eq!(rt;
+        StdSource::new(Broken::IsInterrupted).read(&mut buffer),
+        Err(Failed)
+    );
+    for broken in [
+        Broken::IsInterrupted,
+        Broken::TakesNothing,
+        Broken::CannotFlush,
+    ] {
         assert_eq!(rt; StdSink::new(broken).write(b"a"), Err(Failed));
     }
     assert_eq!(rt; StdSink::new(Broken::TakesNothing).write(b""), Ok(0));
