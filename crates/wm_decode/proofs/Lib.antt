@@ -1,0 +1,9 @@
+pub mod ExactValues
+pub mod ExactTypes
+pub mod ExactWords
+pub mod ExactExprs
+pub mod ExactParts
+pub mod ExactModule
+pub mod CodeSteps
+pub mod LoopSteps
+pub mod Answered

@@ -1,0 +1,9 @@
+pub mod Answer
+pub mod Forms
+pub mod Instructions
+pub mod Mod
+pub mod Parts
+pub mod Readers
+pub mod Types
+pub mod Values
+pub mod Turn
