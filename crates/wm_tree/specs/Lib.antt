@@ -1,4 +1,5 @@
 pub mod IsModule
+pub mod Relay
 pub mod Row
 pub mod Seq
 pub mod Signatures

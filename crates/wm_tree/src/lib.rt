@@ -12,6 +12,7 @@ mod instr;
 mod laws;
 mod opcode;
 mod parts;
+pub mod samples;
 mod types;
 
 pub use class::{Class, Shape, Signature, class_of};
