@@ -1,0 +1,39 @@
+-- What the words of a command mean.
+use Rattle.std.specs.Prelude.{ℕ, ◌==◌, nat_lt, nat_le, bytes_eq, codes, List, [], ◌∷◌, length, if◌then◌else◌, Option, Some, None, Result, Ok, Err, ok_or}
+use Rattle.std.specs.Result.{result_ok}
+use Rattle.ic_principal.specs.Text.{principal_of}
+use Rattle.hex.specs.Hex.{decode_of}
+use Rattle.ic_script.specs.declared.command.Ask.{Ask}
+use Rattle.ic_script.specs.declared.command.Command.{Command}
+use Rattle.ic_script.specs.declared.command.Command.TheVariants.{Nothing, Call}
+use Rattle.ic_script.specs.declared.line_cause.LineCause.{LineCause}
+use Rattle.ic_script.specs.declared.line_cause.LineCause.TheVariants.{Form, Principal, Hex}
+
+-- the second step, where the first has no cause
+infixl 10 ◌>>=◌
+abbrev pub ◌>>=◌ : {A B : Type 0} → Result A LineCause → (A → Result B LineCause) → Result B LineCause
+Ok value >>= step = step value
+Err cause >>= step = Err cause
+
+-- the principal that a word names
+abbrev pub principal_word : List ℕ → Result (List ℕ) LineCause
+principal_word word = ok_or (principal_of word) Principal
+
+-- the bytes that a word spells: none for a dash, else those of its hexadecimal digits, in either case
+abbrev pub bytes_word : List ℕ → Result (List ℕ) LineCause
+bytes_word word = if bytes_eq word (codes "-") then Ok [] else ok_or (result_ok (decode_of word)) Hex
+
+-- a request in four words: sender, callee, method of at most 20,000 bytes, argument
+unfoldable pub ask_of : List (List ℕ) → Result Ask LineCause
+ask_of (sender ∷ callee ∷ method ∷ arg ∷ []) =
+    if nat_lt 20000 (length method) then Err Form
+    else (principal_word sender >>= λ from. principal_word callee >>= λ to. bytes_word arg >>= λ bytes.
+        Ok (record { sender = from; callee = to; method = method; arg = bytes }))
+ask_of _ = Err Form
+
+-- a command by its first word
+unfoldable pub command_of_words : List (List ℕ) → Result Command LineCause
+command_of_words [] = Err Form
+command_of_words (verb ∷ words) =
+    if bytes_eq verb (codes "call") then (ask_of words >>= λ ask. Ok (Call ask))
+    else Err Form

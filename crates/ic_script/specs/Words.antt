@@ -1,0 +1,24 @@
+-- The words of a line.
+use Rattle.std.specs.Prelude.{ℕ, Bool, ◌&&◌, ◌==◌, nat_le, List, [], length, Option, Some, None, not}
+use Rattle.std.specs.List.{slice_split, list_all}
+
+-- from space to tilde, the printable bytes of ASCII
+abbrev pub is_printable : ℕ → Bool
+is_printable byte = nat_le 32 byte && nat_le byte 126
+
+-- what stands before, between and after the spaces of a line
+unfoldable pub words_of : List ℕ → List (List ℕ)
+words_of line = slice_split (λ byte. byte == 32) line
+
+-- a word with a byte
+abbrev pub is_word : List ℕ → Bool
+is_word word = not (length word == 0)
+
+-- every byte is printable, and single spaces stand between the words
+unfoldable pub is_well_formed : List ℕ → Bool
+is_well_formed line = list_all is_printable line && list_all is_word (words_of line)
+
+-- the words of the text that is left, if any is
+abbrev pub words_left : Option (List ℕ) → List (List ℕ)
+words_left None = []
+words_left (Some text) = words_of text

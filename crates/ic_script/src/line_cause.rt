@@ -1,0 +1,42 @@
+ghost use Rattle.std.specs.Prelude.{◌≡◌};
+ghost use Rattle.ic_script.specs.declared.line_cause.LineError.TheVariants.{NoMemory};
+
+use ic_base::NoMemory as WantOfMemory;
+
+/// Why a line is refused.
+#[derive(Clone, Copy, Debug, PartialEq, Eq)]
+pub enum LineCause {
+    /// The line is neither empty nor a comment, and is no command: it has a byte outside the
+    /// printable ones, an empty word, an unknown first word, a wrong number of words, or a method
+    /// of more than 20,000 bytes.
+    Form,
+    /// A word that is to name a principal is the text of no principal.
+    Principal,
+    /// A word that is to spell bytes is neither `-` nor an even number of hexadecimal digits.
+    Hex,
+    /// The line is longer than a line may be.
+    LineTooLong,
+    /// The script is longer than a script may be.
+    ScriptTooLong,
+}
+
+/// Why `parse_line` gives no command.
+#[derive(Clone, Copy, Debug, PartialEq, Eq)]
+pub enum LineError {
+    /// As `LineCause::Form`.
+    Form,
+    /// As `LineCause::Principal`.
+    Principal,
+    /// As `LineCause::Hex`.
+    Hex,
+    /// Want of memory.
+    NoMemory,
+}
+
+impl From<WantOfMemory> for LineError {
+    ghost from_gives = { λ _ error. error ≡ NoMemory };
+
+    fn from(_: WantOfMemory) -> LineError {
+        LineError::NoMemory
+    }
+}

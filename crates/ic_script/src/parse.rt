@@ -1,0 +1,85 @@
+ghost use Rattle.std.specs.Prelude.{◌≡◌, ◌≢◌, Err, option_copied};
+ghost use Rattle.ic_script.specs.Line.{Agrees, command_of, says_nothing};
+ghost use Rattle.ic_script.specs.Words.{words_left};
+ghost use Rattle.ic_script.specs.Command.{ask_of, principal_word, bytes_word};
+
+use crate::command::{Ask, Command};
+use crate::line_cause::LineError;
+use crate::words::{first_word, four_words, well_formed};
+use hex::FromHexError;
+use ic_principal::{Bytes, Principal, Text};
+use std::alloc::Global;
+
+const LONGEST_METHOD: usize = 20_000;
+
+/// The command that a line spells, or why it spells none. `bytes` is the line without its line
+/// feed. Memory is taken for the method and the argument alone.
+#[tactic(auto, unfolding(crate::specs::Line::command_of, crate::specs::Command::command_of_words))]
+pub fn parse_line(alloc: Global, bytes: &[u8]) -> Result<Command, LineError>
+    ensures line { Agrees result (command_of bytes.now) }
+{
+    if says_nothing(bytes) {
+        return Ok(Command::Nothing);
+    }
+    let Some(line) = well_formed(bytes) else {
+        return Err(LineError::Form);
+    };
+    let (verb, operands) = first_word(line);
+    match verb {
+        "call" => Ok(Command::Call(parse_ask(alloc, operands)?)),
+        _ => Err(LineError::Form),
+    }
+}
+
+/// Whether a line is empty or a comment.
+fn says_nothing(line: &[u8]) -> bool
+    ensures { result ≡ says_nothing line.now }
+{
+    match line {
+        [] => true,
+        [first, ..] => *first == b'#',
+    }
+}
+
+/// A request in four words: sender, callee, method, argument.
+#[tactic(auto, unfolding(crate::specs::Command::ask_of))]
+fn parse_ask(alloc: Global, operands: Option<&str>) -> Result<Ask, LineError>
+    ensures { Agrees result (ask_of (words_left (option_copied operands.entry))) }
+{
+    let Some((sender, callee, method, arg)) = four_words(operands) else {
+        return Err(LineError::Form);
+    };
+    if method.len() > LONGEST_METHOD {
+        return Err(LineError::Form);
+    }
+    let sender = principal(sender)?;
+    let callee = principal(callee)?;
+    let arg = hex_bytes(alloc, arg)?;
+    let method = Text { items: String::from_str(alloc, method)? };
+    Ok(Ask { sender, callee, method, arg })
+}
+
+/// The principal that a word names.
+fn principal(word: &str) -> Result<Principal, LineError>
+    ensures word { Agrees result (principal_word word.now) }
+    ensures no_memory_taken { result ≢ Err LineError.NoMemory }
+{
+    match Principal::from_text(word) {
+        Ok(principal) => Ok(principal),
+        Err(_) => Err(LineError::Principal),
+    }
+}
+
+/// The bytes that a word spells: none for a dash, else those of its hexadecimal digits.
+fn hex_bytes(alloc: Global, word: &str) -> Result<Bytes, LineError>
+    ensures { Agrees result (bytes_word word.now) }
+{
+    if word == "-" {
+        return Ok(Bytes { items: Vec::new(alloc) });
+    }
+    match hex::decode(alloc, word) {
+        Ok(items) => Ok(Bytes { items }),
+        Err(FromHexError::OutOfMemory) => Err(LineError::NoMemory),
+        Err(_) => Err(LineError::Hex),
+    }
+}

@@ -1,0 +1,52 @@
+ghost use Rattle.std.specs.Prelude.{◌≡◌, ◌≢◌, false, [], ◌∷◌, length, map, IfSome, IfNone, IsTrue, option_copied};
+ghost use Rattle.std.specs.List.{list_all, slice_split};
+ghost use Rattle.ic_script.specs.Words.{words_of, is_well_formed, is_printable, is_word, words_left};
+
+/// The line as text, where it is well formed.
+#[tactic(auto, unfolding(crate::specs::Words::is_well_formed), using(crate::proofs::Text::not_text))]
+pub fn well_formed(line: &[u8]) -> Option<&str>
+    ensures some { IfSome result (λ text. (text.now ≡ line.now) × IsTrue (is_well_formed line.now)) }
+    ensures none { IfNone result (is_well_formed line.now ≡ false) }
+{
+    let text = str::from_utf8(line).ok()?;
+    if all_printable(text) && all_words(text) { Some(text) } else { None }
+}
+
+fn all_printable(text: &str) -> bool
+    ensures { result ≡ list_all is_printable text.now }
+{
+    text.as_bytes().iter().all(|byte| *byte >= b' ' && *byte <= b'~')
+}
+
+#[tactic(auto, unfolding(crate::specs::Words::words_of))]
+fn all_words(text: &str) -> bool
+    ensures { result ≡ list_all is_word (words_of text.now) }
+{
+    text.split(' ').all(|word| !word.is_empty())
+}
+
+/// The first word of a text, and the text of the words after it.
+#[tactic(auto, unfolding(crate::specs::Words::words_of))]
+pub fn first_word(text: &str) -> (&str, Option<&str>)
+    ensures { words_of text.now ≡ result.0.now ∷ words_left (option_copied result.1) }
+{
+    match text.split_once(' ') {
+        Some((word, rest)) => (word, Some(rest)),
+        None => (text, None),
+    }
+}
+
+/// The words of a text, where they are four.
+pub fn four_words(text: Option<&str>) -> Option<(&str, &str, &str, &str)>
+    ensures some { IfSome result (λ w. words_left (option_copied text.entry) ≡ w.0.now ∷ w.1.now ∷ w.2.now ∷ w.3.now ∷ []) }
+    ensures none { IfNone result (length (words_left (option_copied text.entry)) ≢ 4) }
+{
+    let (first, rest) = first_word(text?);
+    let (second, rest) = first_word(rest?);
+    let (third, rest) = first_word(rest?);
+    let (fourth, rest) = first_word(rest?);
+    match rest {
+        None => Some((first, second, third, fourth)),
+        Some(_) => None,
+    }
+}
