@@ -1,4 +1,9 @@
 //! Reading WebAssembly modules (Core 1.0, chapter 5).
+//!
+//! `decode` accepts exactly the binary grammar (`specs/Mod`), in a profile without floats: each
+//! module has one reading, and a module with floats is told from bytes that are no module. What is
+//! read keeps `IsModule` of `wm_tree`. Bodies are read flat, without recursion, and a claimed count
+//! takes no memory before there are bytes for it.
 #![tactic(auto)]
 
 mod answer;
@@ -15,3 +20,6 @@ mod words;
 
 pub use answer::decode;
 pub use fault::ModuleFault;
+
+#[cfg(test)]
+mod tests;

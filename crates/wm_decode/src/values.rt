@@ -23,10 +23,8 @@ pub(crate) fn byte(bytes: &[u8]) -> Result<(u8, &[u8]), ReadError>
 pub(crate) fn number(bytes: &[u8]) -> Result<(u32, &[u8]), ReadError>
     ensures { Gives (λ x. (x.0, x.1.now)) result (u32_at bytes.now) }
 {
-    match take_u(bytes, Width::Wasm32) {
-        Ok((n, rest)) => Ok((n as u32, rest)),
-        Err(_) => Err(ReadError::Refused),
-    }
+    let (n, rest) = take_u(bytes, Width::Wasm32)?;
+    Ok((n as u32, rest))
 }
 
 /// Reads a vector of bytes.

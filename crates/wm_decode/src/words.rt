@@ -42,20 +42,16 @@ fn mem_arg(bytes: &[u8]) -> Result<(MemArg, &[u8]), ReadError>
 fn signed_32(bytes: &[u8]) -> Result<(i32, &[u8]), ReadError>
     ensures { Gives (λ x. (x.0, x.1.now)) result (signed_reader width.Wasm32 bytes.now) }
 {
-    match take_s(bytes, Width::Wasm32) {
-        Ok((n, rest)) => Ok((n as i32, rest)),
-        Err(_) => Err(ReadError::Refused),
-    }
+    let (n, rest) = take_s(bytes, Width::Wasm32)?;
+    Ok((n as i32, rest))
 }
 
 /// Reads a signed number of 64 bits.
 fn signed_64(bytes: &[u8]) -> Result<(i64, &[u8]), ReadError>
     ensures { Gives (λ x. (x.0, x.1.now)) result (signed_reader width.Wasm64 bytes.now) }
 {
-    match take_s(bytes, Width::Wasm64) {
-        Ok((n, rest)) => Ok((n as i64, rest)),
-        Err(_) => Err(ReadError::Refused),
-    }
+    let (n, rest) = take_s(bytes, Width::Wasm64)?;
+    Ok((n as i64, rest))
 }
 
 /// Reads the labels of a `br_table`.
