@@ -1,0 +1,10 @@
+pub mod MayMiss
+pub mod TypeUnder
+pub mod Rule
+pub mod Sub
+pub mod PartFree
+pub mod Parts
+pub mod Pairs
+pub mod Rising
+pub mod Marks
+pub mod IsPrimitive

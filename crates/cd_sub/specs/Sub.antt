@@ -1,0 +1,16 @@
+-- Candid specification, "Subtyping": the greatest relation with these rules
+use Rattle.std.specs.Prelude.{ℕ, zero, suc, List}
+use Rattle.cd_types.specs.declared.entry.TyRef.{TyRef}
+use Rattle.cd_types.specs.declared.entry.Entry.{Entry}
+use Rattle.cd_types.specs.Shape.{shape}
+use Rattle.cd_sub.specs.Rule.{Rule}
+
+-- a of the table `lower` is a subtype of b of the table `upper`, as far as this depth of parts shows
+abbrev pub SubAt : ℕ → List Entry → TyRef → List Entry → TyRef → Type 0
+SubAt zero lower a upper b = Unit {0}
+SubAt (suc n) lower a upper b =
+    Rule (λ s t. SubAt n lower s upper t) (λ t s. SubAt n upper t lower s) lower upper (shape lower a) (shape upper b)
+
+-- a of the table `lower` is a subtype of b of the table `upper`: at every depth
+abbrev pub Sub : List Entry → TyRef → List Entry → TyRef → Type 0
+Sub lower a upper b = (n : ℕ) → SubAt n lower a upper b

@@ -1,0 +1,10 @@
+//! Subtyping of Candid types (Candid specification, "Subtyping").
+#![tactic(auto)]
+
+mod labels;
+mod part_free;
+mod parts;
+mod search;
+mod subtyping;
+
+pub use subtyping::{Subtyping, subtype};
