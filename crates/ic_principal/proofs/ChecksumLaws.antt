@@ -14,10 +14,6 @@ abbrev register_bits : ℕ → List Bool
 register_bits n = reverse (bits_of 32 n)
 
 -- ---- masks
-flipped-none : (bits : List Bool) → flipped [] bits ≡ bits
-unfolding flipped
-flipped-none bits = refl
-
 -- clear bits behind a mask change nothing
 flipped-clear_behind : (k : ℕ) (mask bits : List Bool) → flipped (mask ++ replicate k false) bits ≡ flipped mask bits
 unfolding flipped

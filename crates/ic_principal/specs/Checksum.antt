@@ -1,4 +1,4 @@
--- CRC-32 (ISO 3309): bytes are one long number over two, divided by a polynomial.
+-- CRC-32 (ISO 3309): the bits of the bytes are a polynomial over two, and are divided by another.
 use Rattle.std.specs.Prelude.{ℕ, ◌*◌, Bool, true, false, not, List, [], ◌∷◌, ◌++◌, suc, zero, length, replicate, reverse, if◌then◌else◌}
 use Rattle.std.specs.List.{flat_map}
 use Rattle.ic_principal.specs.Bits.{bits_of}
@@ -7,7 +7,7 @@ use Rattle.ic_principal.specs.Bits.{bits_of}
 unfoldable pub sent : List ℕ → List Bool
 sent = flat_map (λ b. reverse (bits_of 8 b))
 
--- the bits, the first of them flipped where the mask is set
+-- the bits, each flipped where the mask is set at its place
 unfoldable pub flipped : List Bool → List Bool → List Bool
 flipped [] bits = bits
 flipped mask [] = []
@@ -22,7 +22,7 @@ unfoldable pub turned : List Bool → List Bool
 turned [] = []
 turned (leading ∷ bits) = if leading then flipped polynomial bits else bits
 
--- what so many turns leave
+-- what is left after so many turns
 unfoldable pub remainder : ℕ → List Bool → List Bool
 remainder zero bits = bits
 remainder (suc turns) bits = remainder turns (turned bits)
@@ -31,7 +31,7 @@ remainder (suc turns) bits = remainder turns (turned bits)
 unfoldable pub ones : List Bool
 ones = replicate 32 true
 
--- the bytes' bits and 32 zeros
+-- the bits of the bytes, and 32 zeros behind
 unfoldable pub dividend : List ℕ → List Bool
 dividend bytes = sent bytes ++ replicate 32 false
 

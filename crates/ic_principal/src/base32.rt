@@ -1,5 +1,4 @@
-ghost use Rattle.std.specs.Prelude.{◌≡◌, ℕ, ◌+◌, ◌*◌, ◌<◌, ◌≤◌, Bool, List, [], ◌∷◌, ◌++◌, length, map, IfSome, IsSomeAnd, All};
-ghost use Rattle.std.specs.Prelude.{◌==◌};
+ghost use Rattle.std.specs.Prelude.{◌≡◌, ℕ, ◌+◌, ◌*◌, ◌<◌, ◌≤◌, List, [], ◌∷◌, ◌++◌, length, map, IfSome, All};
 ghost use Rattle.std.specs.List.{flat_map, filter_map};
 ghost use Rattle.arrayvec.specs.ArrayString.{array_string_len};
 ghost use Rattle.arrayvec.specs.ArrayVec.{array_vec_len};
@@ -40,8 +39,10 @@ fn push_bytes(values: &mut Values, queue: &mut BitQueue, bytes: &[u8])
     requires few { length queue.old < 5 }
     requires room { 5 * array_vec_len values.old + length queue.old + 8 * length bytes.now < 5 * 54 }
     requires values { All (λ v. v < 32) values.old.items }
-    ensures bits { flat_map (bits_of 5) values.new.items ++ queue.new ≡ flat_map (bits_of 5) values.old.items ++ queue.old ++ bits bytes.now }
-    ensures len { 5 * array_vec_len values.new + length queue.new ≡ 5 * array_vec_len values.old + length queue.old + 8 * length bytes.now }
+    ensures bits { flat_map (bits_of 5) values.new.items ++ queue.new
+        ≡ flat_map (bits_of 5) values.old.items ++ queue.old ++ bits bytes.now }
+    ensures len { 5 * array_vec_len values.new + length queue.new
+        ≡ 5 * array_vec_len values.old + length queue.old + 8 * length bytes.now }
     ensures few { length queue.new < 5 }
     ensures values { All (λ v. v < 32) values.new.items }
 {
@@ -58,7 +59,8 @@ fn push_bytes(values: &mut Values, queue: &mut BitQueue, bytes: &[u8])
 fn push_value(values: &mut Values, queue: &mut BitQueue)
     requires some { 5 ≤ length queue.old }
     requires room { array_vec_len values.old < 63 }
-    ensures bits { flat_map (bits_of 5) values.new.items ++ queue.new ≡ flat_map (bits_of 5) values.old.items ++ queue.old }
+    ensures bits { flat_map (bits_of 5) values.new.items ++ queue.new
+        ≡ flat_map (bits_of 5) values.old.items ++ queue.old }
     ensures len { array_vec_len values.new ≡ array_vec_len values.old + 1 }
     ensures rest { length queue.old ≡ 5 + length queue.new }
     ensures values { All (λ v. v < 32) values.old.items → All (λ v. v < 32) values.new.items }
@@ -91,7 +93,8 @@ fn letter(value: u8) -> char
 fn push_letter(text: &mut ArrayString<63>, letter: char)
     requires room { array_string_len text.old ≤ 62 }
     requires ascii { letter < 128 }
-    ensures { (letters : List ℕ) → text.old.bytes ≡ dashed letters → text.new.bytes ≡ dashed (letters ++ letter ∷ []) }
+    ensures { (letters : List ℕ) → text.old.bytes ≡ dashed letters
+        → text.new.bytes ≡ dashed (letters ++ letter ∷ []) }
 {
     // A dash stands at places 5, 11, 17 and so on.
     if text.len() % 6 == 5 {

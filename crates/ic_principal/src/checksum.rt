@@ -19,7 +19,9 @@ pub fn checksum(bytes: &[u8]) -> u32
 
 // Divides eight more bits. A register stands, from its lowest bit up, flipped onto the next 32.
 fn divided_by_byte(register: u32) -> u32
-    ensures { (bits : List Bool) → remainder 8 (flipped (reverse (bits_of 32 register)) (replicate 8 false ++ bits)) ≡ flipped (reverse (bits_of 32 result)) bits }
+    ensures { (bits : List Bool)
+        → remainder 8 (flipped (reverse (bits_of 32 register)) (replicate 8 false ++ bits))
+        ≡ flipped (reverse (bits_of 32 result)) bits }
 {
     let mut rest = register;
     for _ in 0..8_u32 {
@@ -29,7 +31,9 @@ fn divided_by_byte(register: u32) -> u32
 }
 
 fn divided_by_bit(register: u32) -> u32
-    ensures { (bits : List Bool) → turned (flipped (reverse (bits_of 32 register)) (false ∷ bits)) ≡ flipped (reverse (bits_of 32 result)) bits }
+    ensures { (bits : List Bool)
+        → turned (flipped (reverse (bits_of 32 register)) (false ∷ bits))
+        ≡ flipped (reverse (bits_of 32 result)) bits }
 {
     if register & 1 == 1 {
         (register >> 1) ^ POLYNOMIAL

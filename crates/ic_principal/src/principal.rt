@@ -75,7 +75,8 @@ impl Principal {
     pub fn canister_id(counter: u64) -> Principal
         ensures id { result ≡ canister_id_of counter }
         ensures principal { IsPrincipal result }
-        ensures distinct { (other : ℕ) → other < 2 ^ 64 → canister_id_of other ≡ result → other ≡ counter }
+        ensures distinct { (other : ℕ) → other < 2 ^ 64 → canister_id_of other ≡ result
+            → other ≡ counter }
     {
         let [a, b, c, d, e, f, g, h] = counter.to_be_bytes();
         Principal::keep(&[a, b, c, d, e, f, g, h, 1, 1])
@@ -86,7 +87,7 @@ impl Principal {
     pub fn from_text(text: &str) -> Result<Principal, NotText>
         ensures text { IfOk result (λ p. IsPrincipal p × IsText p text.now) }
         ensures found { (p : List ℕ) → IsPrincipal p → IsText p text.now → result ≡ Ok p }
-        ensures not_text { OnErr result ((p : List ℕ) → IsPrincipal p → ¬ (IsText p text.now)) }
+        ensures none { OnErr result ((p : List ℕ) → IsPrincipal p → ¬ (IsText p text.now)) }
         ensures value { result_ok result ≡ principal_of text.now }
     {
         named(text).ok_or(NotText)

@@ -9,5 +9,5 @@ returns-clause-text c = found_text c.args.text.now c.ok_or.result (grind (arith,
 pub returns-clause-found : goal.returns-clause-found
 returns-clause-found c = found_principal c.args.text.now c.ok_or.result (grind (arith, common_steps))
 
-pub returns-clause-not_text : goal.returns-clause-not_text
-returns-clause-not_text c = found_none c.args.text.now c.ok_or.result (grind (arith, common_steps))
+pub returns-clause-none : goal.returns-clause-none
+returns-clause-none c = found_none c.args.text.now c.ok_or.result (grind (arith, common_steps))
