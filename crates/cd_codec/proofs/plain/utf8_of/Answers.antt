@@ -1,0 +1,15 @@
+use Rattle.std.proofs.Common.{◌≡◌, Bool, true, false, List, ℕ, refl}
+use Rattle.std.specs.Str.{is_utf8, IsUtf8}
+use Rattle.std.proofs.lemmas.Str.{is_utf8-from_IsUtf8, IsUtf8-from_is_utf8}
+use Rattle.cd_codec.proofs.plain.utf8_of.Goals as goal
+
+pub returns-in-Ok : goal.returns-in-Ok
+returns-in-Ok c = (c.in-Ok.ensures.cases.0, is_utf8-from_IsUtf8 c.args.bytes.now c.in-Ok.ensures.cases.1)
+
+-- a test of what does not hold
+not_passed : (test : Bool) (P : Type 0) → (test ≡ true → P) → (P → ⊥) → test ≡ false
+not_passed true P holds not = absurd (not (holds refl))
+not_passed false P holds not = refl
+
+pub returns-in-Err : goal.returns-in-Err
+returns-in-Err c = not_passed (is_utf8 c.args.bytes.now) (IsUtf8 c.args.bytes.now) (IsUtf8-from_is_utf8 c.args.bytes.now) c.in-Err.ensures.cases.0

@@ -1,0 +1,10 @@
+pub mod Content
+pub mod View
+pub mod Measure
+pub mod Basic
+pub mod Plain
+pub mod Wire
+pub mod AreValues
+pub mod ReadPlain
+pub mod ReadValue
+pub mod Answers
