@@ -2,6 +2,7 @@ ghost use Rattle.std.specs.Prelude.{◌≡◌};
 ghost use Rattle.ic_script.specs.declared.line_cause.LineError.TheVariants.{NoMemory};
 
 use ic_base::NoMemory as WantOfMemory;
+use std::fmt;
 
 /// Why a line is refused.
 #[derive(Clone, Copy, Debug, PartialEq, Eq)]
@@ -18,6 +19,24 @@ pub enum LineCause {
     LineTooLong,
     /// The script is longer than a script may be.
     ScriptTooLong,
+}
+
+impl fmt::Display for LineCause {
+    ghost use Rattle.std.specs.Prelude.{Some};
+    ghost use Rattle.ic_script.specs.CauseText.{cause_text};
+
+    ghost output = { λ cause. Some (cause_text cause) };
+
+    #[tactic(auto, unfolding(crate::specs::CauseText::cause_text))]
+    fn fmt<W: fmt::Write>(&self, f: &mut fmt::Formatter<W>) -> fmt::Result {
+        f.write_str(match self {
+            LineCause::Form => "Form",
+            LineCause::Principal => "Principal",
+            LineCause::Hex => "Hex",
+            LineCause::LineTooLong => "LineTooLong",
+            LineCause::ScriptTooLong => "ScriptTooLong",
+        })
+    }
 }
 
 /// Why `parse_line` gives no command.

@@ -1,0 +1,150 @@
+-- How the parts of a run make up what the top call promises.
+use Rattle.std.proofs.Common.{◌≡◌, ◌≢◌, ℕ, ◌+◌, ◌-◌, ◌<◌, ◌≤◌, min, List, [], ◌∷◌, ◌++◌, length, map, take, refl, sym, ap, subst, ◌∙◌, append_assoc, append-nil, length-append, length-take, arith, inl, inr, Option, Some, None, IfSome, Ok, Err, Result}
+use Rattle.std.specs.Prelude.{◌⊎◌, unwrap_or}
+use Rattle.std.specs.Io.KnownBytes.{prepend_known, append_known, IsAtEnd}
+use Rattle.std.specs.List.{enumerate_from}
+use Rattle.std.proofs.lemmas.List.{length-map}
+use Rattle.std.proofs.lemmas.List.FromFn.{length-enumerate_from}
+use Rattle.ic_outside.specs.Given.{IsFront}
+use Rattle.ic_outside.specs.Pieces.{pieces, line_of}
+use Rattle.ic_script.specs.declared.LineCause.{LineCause}
+use Rattle.ic_host.specs.declared.options.Options.{Options}
+use Rattle.ic_host.specs.declared.status.Status.{Status}
+use Rattle.ic_host.specs.declared.status.Status.TheVariants.{Done, BadWords, BadLine, ReadFault, WriteFault, NoMemory}
+use Rattle.ic_host.specs.Acts.{Concludes, bad_output, end_output, usage_output}
+use Rattle.ic_host.specs.Body.{body, body_of, whole_lines}
+use Rattle.ic_host.specs.EndPart.{end_part}
+use Rattle.ic_host.specs.Explained.{Explained, Explains, bad_stop, bad_stop_of, stop_of, rest_of}
+use Rattle.ic_host.specs.Options.{options_of}
+use Rattle.ic_host.specs.Out.{Output, out, out_of, output_of, ended}
+use Rattle.ic_host.specs.Script.{script, script_of, walk_of, lines_until}
+use Rattle.ic_host.specs.Sending.{Taken, Sent, Interrupts}
+use Rattle.ic_host.specs.State.{State}
+use Rattle.ic_host.specs.Walk.{Bad, Walk, script_limits, start, behind, walk}
+use Rattle.ic_host.proofs.WalkLaws.{stopped, walk-line}
+
+fitting-sent : (before after : Taken) (text whole : List ℕ) (status : Status) → Sent before after text → length text ≤ length whole → status ≢ WriteFault
+    → IfSome before.fits (λ room. length whole ≤ room → (after.faults ≡ before.faults) × (status ≢ WriteFault))
+fitting-sent before after text whole status sent shorter ne = fits before.fits sent.fitting where
+  fits : (o : Option ℕ) → IfSome o (λ room. length text ≤ room → (after.fits ≡ Some (room - length text)) × (after.faults ≡ before.faults))
+    → IfSome o (λ room. length whole ≤ room → (after.faults ≡ before.faults) × (status ≢ WriteFault))
+  fits None h = tt
+  fits (Some room) h = λ fit. ((h (omega arith)).1, ne)
+
+fitting-never : (fits : Option ℕ) (length : ℕ) (P : Type 0) → IfSome fits (λ room. length ≤ room → ⊥) → IfSome fits (λ room. length ≤ room → P)
+fitting-never None length P h = tt
+fitting-never (Some room) length P h = λ fit. absurd (h fit)
+
+IsFront-length : (front bytes : List ℕ) → IsFront front bytes → length front ≤ length bytes
+IsFront-length front bytes f = omega (arith, ap length f.1, length-append front f.0)
+
+module _ (words : List (List ℕ)) (left_before left : Option (List ℕ)) (before after : Taken) (read : List ℕ) (was_read : left_before ≡ prepend_known read left) where
+
+  answer : Output
+  answer = out words (read ++ rest_of left)
+
+  -- the sink took a text, and the status says what it is
+  pub explain-sent : (status : Status) (text : List ℕ) → Sent before after text → Explains words status read (rest_of left) text
+      → length text ≤ length (out words (read ++ rest_of left)).bytes → status ≢ WriteFault → Explained words left_before left before after status
+  explain-sent status text sent explains shorter ne = record {
+    read = read;
+    text = text;
+    was_read = was_read;
+    was_sent = sent.bytes;
+    explains = explains;
+    fitting = fitting-sent before after text (out words (read ++ rest_of left)).bytes status sent shorter ne;
+  }
+
+  -- the answer was interrupted
+  pub explain-interrupted : (status : Status) → Interrupts before after (out words (read ++ rest_of left)).bytes status → Explained words left_before left before after status
+  explain-interrupted status interrupted = elim interrupted.cause [
+      inl broke ↦
+        let P = λ (s : Status). Explains words s read (rest_of left) broke.1.front.0 in
+        record {
+          read = read;
+          text = broke.1.front.0;
+          was_read = was_read;
+          was_sent = broke.1.front.2;
+          explains = subst P (sym broke.0) broke.1.front.1;
+          fitting = fitting-never before.fits (length (out words (read ++ rest_of left)).bytes) ((after.faults ≡ before.faults) × (status ≢ WriteFault)) broke.1.fitting;
+        }
+    | inr ran_out ↦
+        let P = λ (s : Status). Explains words s read (rest_of left) ran_out.1.front in
+        explain-sent status ran_out.1.front ran_out.1.sent (subst P (sym ran_out.0) ran_out.1.is_front)
+          (IsFront-length ran_out.1.front (out words (read ++ rest_of left)).bytes ran_out.1.is_front)
+          (λ e. let is = ran_out.0 in cc)
+    ]
+
+  -- the answer was given, or interrupted
+  pub explain-concludes : (output : Output) (status : Status) → out words (read ++ rest_of left) ≡ output → Concludes before after output status
+      → Explains words output.status read (rest_of left) output.bytes → output.status ≢ WriteFault → Explained words left_before left before after status
+  explain-concludes output status is concludes explains ne = elim concludes [
+      inl sent ↦
+        let P = λ (s : Status). Explains words s read (rest_of left) output.bytes in
+        explain-sent status output.bytes sent.1 (subst P (sym sent.0) explains) (omega (arith, ap (λ (o : Output). length o.bytes) is)) (λ e. ne (sym sent.0 ∙ e))
+    | inr interrupted ↦
+        let P = λ (l : List ℕ). Interrupts before after l status in
+        explain-interrupted status (subst P (sym (ap (λ (o : Output). o.bytes) is)) interrupted)
+    ]
+
+module _ (words : List (List ℕ)) (options : Options) (accepted : options_of words ≡ Some options) where
+
+  out-accepted : (bytes : List ℕ) → out words bytes ≡ output_of options (walk_of options bytes)
+  unfolding out
+  out-accepted bytes = ap (λ o. out_of o bytes) accepted
+
+  -- a way that stops
+  pub out-stopped : (bytes printed : List ℕ) (last : Result State Bad) → walk_of options bytes ≡ behind printed (stopped last)
+      → out words bytes ≡ ended options printed last
+  out-stopped bytes printed last way =
+      out-accepted bytes ∙ ap (output_of options) way ∙ ap (λ text. ended options text last) (append-nil printed)
+
+  -- what is printed so far is a front of the answer
+  pub out-front : (bytes printed : List ℕ) (way : Walk) → walk_of options bytes ≡ behind printed way
+      → (rest : List ℕ) × ((out words bytes).bytes ≡ (printed ++ way.text) ++ rest)
+  out-front bytes printed way is =
+      let whole = ap (λ (o : Output). o.bytes) (out-accepted bytes ∙ ap (output_of options) is) in
+      let P = λ (o : Result State Bad). (rest : List ℕ) × ((ended options (printed ++ way.text) o).bytes ≡ (printed ++ way.text) ++ rest) in
+      let tail : (o : Result State Bad) → P o = λ o. elim o as P [ Ok state ↦ (end_part options state, refl) | Err bad ↦ ((bad_output bad.line bad.cause).bytes, refl) ] in
+      let found = tail way.last in
+      (found.0, whole ∙ found.1)
+
+  pub bad_stop-stopped : (bytes printed : List ℕ) (bad : Bad) → walk_of options bytes ≡ behind printed (stopped (Err bad)) → bad_stop words bytes ≡ bad.stop
+  unfolding bad_stop
+  bad_stop-stopped bytes printed bad way = ap (λ o. bad_stop_of o bytes) accepted ∙ ap (λ (w : Walk). stop_of w.last) way
+
+  pub body-accepted : (bytes : List ℕ) → body words bytes ≡ (walk script_limits (start options) (whole_lines (pieces bytes))).text
+  unfolding body
+  body-accepted bytes = ap (λ o. body_of o bytes) accepted
+
+  -- the bad line is the last of the script
+  pub length-script : (bytes printed : List ℕ) (bad : Bad) → walk_of options bytes ≡ behind printed (stopped (Err bad)) → bad.line ≡ length (script words bytes)
+  unfolding script walk_of
+  length-script bytes printed bad way =
+      let last : (walk script_limits (start options) (pieces bytes)).last ≡ Err bad = ap (λ (w : Walk). w.last) way in
+      let lines = enumerate_from 1 (map line_of (pieces bytes)) in
+      let count : length lines ≡ length (pieces bytes) = length-enumerate_from 1 (map line_of (pieces bytes)) ∙ length-map (pieces bytes) line_of in
+      let cut : script_of (options_of words) bytes ≡ take bad.line lines =
+        ap (λ o. script_of o bytes) accepted ∙ ap (λ o. take (lines_until (length (pieces bytes)) o) lines) last in
+      let shown : length (script_of (options_of words) bytes) ≡ length (take bad.line lines) = ap length cut in
+      omega (arith, shown, count, length-take bad.line lines, walk-line script_limits (start options) (pieces bytes) bad last)
+
+  -- a bad line ends the answer
+  pub explains-bad : (read rest printed : List ℕ) (bad : Bad) → walk_of options (read ++ rest) ≡ behind printed (stopped (Err bad))
+      → bad.stop ≤ length read → length read ≤ bad.stop + 65536
+      → Explains words (BadLine bad.line bad.cause) read rest (printed ++ (bad_output bad.line bad.cause).bytes)
+  explains-bad read rest printed bad way low high =
+      let stop = bad_stop-stopped (read ++ rest) printed bad way in
+      (out-stopped (read ++ rest) printed (Err bad) way, length-script (read ++ rest) printed bad way, omega (arith, stop), omega (arith, stop))
+
+prepend_known-nil : (known : Option (List ℕ)) → prepend_known [] known ≡ known
+prepend_known-nil None = refl
+prepend_known-nil (Some bytes) = refl
+
+-- refused words
+pub explain-refused : (words : List (List ℕ)) (left : Option (List ℕ)) (before after : Taken) (status : Status) → options_of words ≡ None
+    → Concludes before after usage_output status → Explained words left left before after status
+unfolding out
+explain-refused words left before after status refused concludes =
+    let is : out words (rest_of left) ≡ usage_output = ap (λ o. out_of o (rest_of left)) refused in
+    explain-concludes words left left before after [] (sym (prepend_known-nil left)) usage_output status is concludes (is, refl) (λ e. cc)

@@ -1,0 +1,9 @@
+mod SendLaws
+mod Printed
+mod WalkLaws
+mod BodyLaws
+mod Follows
+mod Exits
+mod Runs
+mod PieceBounds
+mod Streams

@@ -1,0 +1,63 @@
+-- What the top call answers, and what it did to its ends.
+use Rattle.std.specs.Prelude.{◌≡◌, ◌≢◌, ℕ, ◌+◌, ◌≤◌, ◌⊎◌, List, [], ◌++◌, length, unwrap_or, Option, Some, None, IfSome, Result, Ok, Err}
+use Rattle.std.specs.Io.KnownBytes.{prepend_known, append_known}
+use Rattle.ic_outside.specs.Given.{IsFront}
+use Rattle.ic_host.specs.declared.options.Options.{Options}
+use Rattle.ic_host.specs.declared.status.Status.{Status}
+use Rattle.ic_host.specs.declared.status.Status.TheVariants.{Done, BadWords, BadLine, ReadFault, WriteFault, NoMemory}
+use Rattle.ic_host.specs.Body.{body}
+use Rattle.ic_host.specs.Options.{options_of}
+use Rattle.ic_host.specs.Out.{Output, out}
+use Rattle.ic_host.specs.Script.{script, walk_of}
+use Rattle.ic_host.specs.Sending.{Taken}
+use Rattle.ic_host.specs.State.{State}
+use Rattle.ic_host.specs.Walk.{Bad}
+
+-- how many bytes of a script show its bad line
+abbrev pub stop_of : Result State Bad → ℕ
+stop_of (Ok state) = 0
+stop_of (Err bad) = bad.stop
+
+abbrev pub bad_stop_of : Option Options → List ℕ → ℕ
+bad_stop_of None bytes = 0
+bad_stop_of (Some options) bytes = stop_of (walk_of options bytes).last
+
+unfoldable pub bad_stop : List (List ℕ) → List ℕ → ℕ
+bad_stop words bytes = bad_stop_of (options_of words) bytes
+
+-- What each status says of the bytes that were read, those that were left, and the text that was
+-- sent.
+abbrev pub Explains : List (List ℕ) → Status → List ℕ → List ℕ → List ℕ → Type 0
+Explains words Done read rest text =
+    (out words (read ++ rest) ≡ record { bytes = text; status = Done }) × (rest ≡ [])
+Explains words BadWords read rest text =
+    (out words (read ++ rest) ≡ record { bytes = text; status = BadWords }) × (read ≡ [])
+Explains words (BadLine line cause) read rest text =
+    (out words (read ++ rest) ≡ record { bytes = text; status = BadLine line cause })
+    × (line ≡ length (script words (read ++ rest)))
+    × (bad_stop words (read ++ rest) ≤ length read)
+    × (length read ≤ bad_stop words (read ++ rest) + 65536)
+Explains words ReadFault read rest text =
+    (text ≡ body words read) × IsFront text (out words (read ++ rest)).bytes × (options_of words ≢ None)
+Explains words WriteFault read rest text = IsFront text (out words (read ++ rest)).bytes
+Explains words NoMemory read rest text = IsFront text (out words (read ++ rest)).bytes
+
+-- The bytes left, or none where the source does not tell them.
+abbrev pub rest_of : Option (List ℕ) → List ℕ
+rest_of left = unwrap_or left []
+
+-- A call read bytes from the source and sent a text to the sink, as its status says; where the whole
+-- answer fits into the sink, the sink did not fail.
+pub record Explained (words : List (List ℕ)) (left_before left : Option (List ℕ)) (before after : Taken) (status : Status) : Type 0 where
+  pub read : List ℕ
+  pub text : List ℕ
+  pub was_read : left_before ≡ prepend_known read left
+  pub was_sent : after.bytes ≡ append_known before.bytes text
+  pub explains : Explains words status read (rest_of left) text
+  pub fitting : IfSome before.fits (λ room. length (out words (read ++ rest_of left)).bytes ≤ room
+      → (after.faults ≡ before.faults) × (status ≢ WriteFault))
+
+-- The sink took the output and the status is its status, or memory was wanting.
+abbrev pub Gives : Output → Option (List ℕ) → Option (List ℕ) → Status → Type 0
+Gives output before after status =
+    (status ≡ NoMemory) ⊎ ((status ≡ output.status) × (after ≡ append_known before output.bytes))

@@ -1,0 +1,26 @@
+-- The lines of a script.
+use Rattle.std.specs.Prelude.{ℕ, List, [], map, take, length, Option, Some, None, Result, Ok, Err}
+use Rattle.std.specs.List.{enumerate_from}
+use Rattle.ic_outside.specs.Pieces.{pieces, line_of}
+use Rattle.ic_host.specs.declared.options.Options.{Options}
+use Rattle.ic_host.specs.Options.{options_of}
+use Rattle.ic_host.specs.State.{State}
+use Rattle.ic_host.specs.Walk.{Bad, Walk, script_limits, start, walk}
+
+-- how many of so many lines there are up to the first bad one
+abbrev pub lines_until : ℕ → Result State Bad → ℕ
+lines_until all (Ok state) = all
+lines_until all (Err bad) = bad.line
+
+-- the way through a script
+unfoldable pub walk_of : Options → List ℕ → Walk
+walk_of options script = walk script_limits (start options) (pieces script)
+
+abbrev pub script_of : Option Options → List ℕ → List (ℕ × List ℕ)
+script_of None bytes = []
+script_of (Some options) bytes =
+    take (lines_until (length (pieces bytes)) (walk_of options bytes).last) (enumerate_from 1 (map line_of (pieces bytes)))
+
+-- the lines of a script with their numbers from 1, up to the first bad one
+unfoldable pub script : List (List ℕ) → List ℕ → List (ℕ × List ℕ)
+script words bytes = script_of (options_of words) bytes

@@ -1,0 +1,44 @@
+-- What a call did to a sink.
+use Rattle.std.specs.Prelude.{◌≡◌, ℕ, ◌-◌, ◌≤◌, ◌⊎◌, List, length, Option, Some, Result, Ok, Err, IfSome}
+use Rattle.std.specs.Io.KnownBytes.{append_known}
+use Rattle.ic_outside.specs.Faults.{Rose}
+use Rattle.ic_outside.specs.Given.{IsFront, TookFront}
+use Rattle.ic_host.specs.declared.status.Status.{Status}
+use Rattle.ic_host.specs.declared.status.Status.TheVariants.{WriteFault, NoMemory}
+
+-- a sink at a moment: the bytes taken and how many still fit, where it tells them, and its count of faults
+pub record Taken : Type 0 where
+  pub bytes : Option (List ℕ)
+  pub fits : Option ℕ
+  pub faults : ℕ
+
+-- what a sink shows, by the ghost members of its trait
+abbrev pub sink_at : {K : Type 0} → (K → Option (List ℕ)) → (K → Option ℕ) → (K → ℕ) → K → Taken
+sink_at taken fits faults sink = record { bytes = taken sink; fits = fits sink; faults = faults sink }
+
+-- all of the text was sent
+pub record Sent (old new : Taken) (text : List ℕ) : Type 0 where
+  pub bytes : new.bytes ≡ append_known old.bytes text
+  pub later : old.faults ≤ new.faults
+  pub fitting : IfSome old.fits (λ room. length text ≤ room → (new.fits ≡ Some (room - length text)) × (new.faults ≡ old.faults))
+
+-- the sink failed while the text was sent
+pub record Broke (old new : Taken) (text : List ℕ) : Type 0 where
+  pub front : TookFront old.bytes new.bytes text
+  pub rose : Rose old.faults new.faults
+  pub fitting : IfSome old.fits (λ room. length text ≤ room → ⊥)
+
+-- memory was wanting before all of the text was sent
+pub record RanOut (old new : Taken) (text : List ℕ) : Type 0 where
+  pub front : List ℕ
+  pub is_front : IsFront front text
+  pub sent : Sent old new front
+
+-- the status says why not all of the text was sent
+pub record Interrupts (old new : Taken) (text : List ℕ) (status : Status) : Type 0 where
+  pub cause : ((status ≡ WriteFault) × Broke old new text) ⊎ ((status ≡ NoMemory) × RanOut old new text)
+
+-- all of the text was sent, or a status says why not
+abbrev pub Prints : {T : Type 0} → Taken → Taken → List ℕ → Result T Status → Type 0
+Prints old new text (Ok done) = Sent old new text
+Prints old new text (Err status) = Interrupts old new text status
