@@ -1,4 +1,4 @@
-use Rattle.std.proofs.Common.{◌≡◌, ◌∙◌, arith, rules}
+use Rattle.std.proofs.Common.{◌∙◌, arith, rules}
 use Rattle.ic_principal.specs.CanisterId.{canister_id_of}
 use Rattle.ic_principal.proofs.CanisterIdLaws.{same_counter}
 use Rattle.ic_principal.proofs.principal.Principal.canister_id.Goals as goal
