@@ -1,8 +1,9 @@
 -- Laws of the pieces of a script.
-use Rattle.std.proofs.Common.{◌≡◌, ℕ, ◌==◌, not, cond, false, ◌≢◌, ◌<◌, List, [], ◌∷◌, ◌++◌, length, refl, sym, ap, ◌∙◌, append-nil, arith}
+use Rattle.std.proofs.Common.{◌≡◌, ℕ, ◌==◌, not, cond, Bool, true, false, ◌≢◌, ◌<◌, List, [], ◌∷◌, ◌++◌, length, refl, sym, ap, ◌∙◌, append-nil, arith}
 use Rattle.std.proofs.lemmas.List.Elements.{All-head, All-tail}
 use Rattle.std.proofs.lemmas.List.Sums.{take_while-cons}
 use Rattle.std.proofs.lemmas.Bool.Decides.{nat_tests}
+use Rattle.std.specs.List.{concat}
 use Rattle.ic_outside.specs.Pieces.{HasNoLf, pieces, onto_first, line_of}
 
 -- another byte than an LF fails the test for it
@@ -74,3 +75,17 @@ pub line_of-rest : (line : List ℕ) → HasNoLf line → line_of line ≡ line
 unfolding line_of
 line_of-rest line none =
     ap line_of (sym (append-nil line)) ∙ line_of-append line [] none ∙ append-nil line
+
+concat-onto_first : (b : ℕ) (ps : List (List ℕ)) → concat (onto_first b ps) ≡ b ∷ concat ps
+concat-onto_first b [] = refl
+concat-onto_first b (p ∷ ps) = refl
+
+-- the pieces, one after another, are the bytes
+pub concat-pieces : (bytes : List ℕ) → concat (pieces bytes) ≡ bytes
+unfolding pieces
+concat-pieces [] = refl
+concat-pieces (b ∷ bs) =
+    let T : Bool → Type 0 = λ t. concat (cond t ((b ∷ []) ∷ pieces bs) (onto_first b (pieces bs))) ≡ b ∷ bs in
+    let line : T true = ap (λ l. b ∷ l) (concat-pieces bs) in
+    let more : T false = concat-onto_first b (pieces bs) ∙ ap (λ l. b ∷ l) (concat-pieces bs) in
+    elim (b == 10) as T [ true ↦ line | false ↦ more ]

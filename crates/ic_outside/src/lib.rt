@@ -10,6 +10,7 @@
 mod error;
 mod gate;
 mod kept;
+pub mod laws;
 mod lines;
 mod memory_sink;
 mod memory_source;
