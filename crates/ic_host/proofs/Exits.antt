@@ -1,17 +1,15 @@
 -- How the parts of a run make up what the top call promises.
-use Rattle.std.proofs.Common.{◌≡◌, ◌≢◌, ℕ, ◌+◌, ◌-◌, ◌<◌, ◌≤◌, min, List, [], ◌∷◌, ◌++◌, length, map, take, refl, sym, ap, subst, ◌∙◌, append_assoc, append-nil, length-append, length-take, arith, inl, inr, Option, Some, None, IfSome, Ok, Err, Result}
-use Rattle.std.specs.Prelude.{◌⊎◌, unwrap_or}
-use Rattle.std.specs.Io.KnownBytes.{prepend_known, append_known, IsAtEnd}
+use Rattle.std.proofs.Common.{◌≡◌, ◌≢◌, ℕ, ◌+◌, ◌-◌, ◌≤◌, List, [], ◌++◌, length, map, take, refl, sym, ap, subst, ◌∙◌, append-nil, length-append, length-take, arith, inl, inr, Option, Some, None, IfSome, Ok, Err, Result}
+use Rattle.std.specs.Io.KnownBytes.{prepend_known}
 use Rattle.std.specs.List.{enumerate_from}
 use Rattle.std.proofs.lemmas.List.{length-map}
 use Rattle.std.proofs.lemmas.List.FromFn.{length-enumerate_from}
 use Rattle.ic_outside.specs.Given.{IsFront}
 use Rattle.ic_outside.specs.Pieces.{pieces, line_of}
-use Rattle.ic_script.specs.declared.LineCause.{LineCause}
 use Rattle.ic_host.specs.declared.options.Options.{Options}
 use Rattle.ic_host.specs.declared.status.Status.{Status}
-use Rattle.ic_host.specs.declared.status.Status.TheVariants.{Done, BadWords, BadLine, ReadFault, WriteFault, NoMemory}
-use Rattle.ic_host.specs.Acts.{Concludes, bad_output, end_output, usage_output}
+use Rattle.ic_host.specs.declared.status.Status.TheVariants.{BadLine, WriteFault}
+use Rattle.ic_host.specs.Acts.{Concludes, bad_output, usage_output}
 use Rattle.ic_host.specs.Body.{body, body_of, whole_lines}
 use Rattle.ic_host.specs.EndPart.{end_part}
 use Rattle.ic_host.specs.Explained.{Explained, Explains, bad_stop, bad_stop_of, stop_of, rest_of}
@@ -27,7 +25,7 @@ fitting-sent : (before after : Taken) (text whole : List ℕ) (status : Status) 
     → IfSome before.fits (λ room. length whole ≤ room → (after.faults ≡ before.faults) × (status ≢ WriteFault))
 fitting-sent before after text whole status sent shorter ne = fits before.fits sent.fitting where
   fits : (o : Option ℕ) → IfSome o (λ room. length text ≤ room → (after.fits ≡ Some (room - length text)) × (after.faults ≡ before.faults))
-    → IfSome o (λ room. length whole ≤ room → (after.faults ≡ before.faults) × (status ≢ WriteFault))
+      → IfSome o (λ room. length whole ≤ room → (after.faults ≡ before.faults) × (status ≢ WriteFault))
   fits None h = tt
   fits (Some room) h = λ fit. ((h (omega arith)).1, ne)
 
@@ -39,7 +37,6 @@ IsFront-length : (front bytes : List ℕ) → IsFront front bytes → length fro
 IsFront-length front bytes f = omega (arith, ap length f.1, length-append front f.0)
 
 module _ (words : List (List ℕ)) (left_before left : Option (List ℕ)) (before after : Taken) (read : List ℕ) (was_read : left_before ≡ prepend_known read left) where
-
   answer : Output
   answer = out words (read ++ rest_of left)
 
@@ -58,7 +55,7 @@ module _ (words : List (List ℕ)) (left_before left : Option (List ℕ)) (befor
   -- the answer was interrupted
   pub explain-interrupted : (status : Status) → Interrupts before after (out words (read ++ rest_of left)).bytes status → Explained words left_before left before after status
   explain-interrupted status interrupted = elim interrupted.cause [
-      inl broke ↦
+    | inl broke ↦
         let P = λ (s : Status). Explains words s read (rest_of left) broke.1.front.0 in
         record {
           read = read;
@@ -71,24 +68,23 @@ module _ (words : List (List ℕ)) (left_before left : Option (List ℕ)) (befor
     | inr ran_out ↦
         let P = λ (s : Status). Explains words s read (rest_of left) ran_out.1.front in
         explain-sent status ran_out.1.front ran_out.1.sent (subst P (sym ran_out.0) ran_out.1.is_front)
-          (IsFront-length ran_out.1.front (out words (read ++ rest_of left)).bytes ran_out.1.is_front)
-          (λ e. let is = ran_out.0 in cc)
-    ]
+        (IsFront-length ran_out.1.front (out words (read ++ rest_of left)).bytes ran_out.1.is_front)
+        (λ e. let is = ran_out.0 in cc)
+  ]
 
   -- the answer was given, or interrupted
   pub explain-concludes : (output : Output) (status : Status) → out words (read ++ rest_of left) ≡ output → Concludes before after output status
       → Explains words output.status read (rest_of left) output.bytes → output.status ≢ WriteFault → Explained words left_before left before after status
   explain-concludes output status is concludes explains ne = elim concludes [
-      inl sent ↦
+    | inl sent ↦
         let P = λ (s : Status). Explains words s read (rest_of left) output.bytes in
         explain-sent status output.bytes sent.1 (subst P (sym sent.0) explains) (omega (arith, ap (λ (o : Output). length o.bytes) is)) (λ e. ne (sym sent.0 ∙ e))
     | inr interrupted ↦
         let P = λ (l : List ℕ). Interrupts before after l status in
         explain-interrupted status (subst P (sym (ap (λ (o : Output). o.bytes) is)) interrupted)
-    ]
+  ]
 
 module _ (words : List (List ℕ)) (options : Options) (accepted : options_of words ≡ Some options) where
-
   out-accepted : (bytes : List ℕ) → out words bytes ≡ output_of options (walk_of options bytes)
   unfolding out
   out-accepted bytes = ap (λ o. out_of o bytes) accepted
@@ -125,7 +121,7 @@ module _ (words : List (List ℕ)) (options : Options) (accepted : options_of wo
       let lines = enumerate_from 1 (map line_of (pieces bytes)) in
       let count : length lines ≡ length (pieces bytes) = length-enumerate_from 1 (map line_of (pieces bytes)) ∙ length-map (pieces bytes) line_of in
       let cut : script_of (options_of words) bytes ≡ take bad.line lines =
-        ap (λ o. script_of o bytes) accepted ∙ ap (λ o. take (lines_until (length (pieces bytes)) o) lines) last in
+      ap (λ o. script_of o bytes) accepted ∙ ap (λ o. take (lines_until (length (pieces bytes)) o) lines) last in
       let shown : length (script_of (options_of words) bytes) ≡ length (take bad.line lines) = ap length cut in
       omega (arith, shown, count, length-take bad.line lines, walk-line script_limits (start options) (pieces bytes) bad last)
 

@@ -1,6 +1,6 @@
 -- Where a run stands in its script: what is printed so far, and the way from here, are the way
 -- through the whole script, whatever bytes still come.
-use Rattle.std.proofs.Common.{◌≡◌, ℕ, ◌+◌, ◌<◌, IsTrue, Bool, true, false, List, [], ◌∷◌, ◌++◌, length, refl, sym, ap, subst, ◌∙◌, append_assoc, append-nil, arith, inl, inr, None, Ok, Err}
+use Rattle.std.proofs.Common.{◌≡◌, ℕ, ◌+◌, ◌<◌, IsTrue, Bool, true, false, List, [], ◌∷◌, ◌++◌, length, refl, sym, ap, subst, ◌∙◌, append_assoc, append-nil, inl, inr, None, Ok, Err}
 use Rattle.std.specs.Prelude.{◌⊎◌}
 use Rattle.std.proofs.lemmas.Bool.{cases_Bool}
 use Rattle.ic_outside.specs.Limits.{excess_of}
@@ -10,17 +10,16 @@ use Rattle.ic_script.specs.declared.LineCause.{LineCause}
 use Rattle.ic_host.specs.declared.options.Options.{Options}
 use Rattle.ic_host.specs.AfterLine.{after_line}
 use Rattle.ic_host.specs.Body.{whole_lines}
-use Rattle.ic_host.specs.Script.{walk_of}
 use Rattle.ic_host.specs.State.{State}
-use Rattle.ic_host.specs.Walk.{Place, Bad, Walk, script_limits, start, behind_line, behind, walk}
-use Rattle.ic_host.proofs.BodyLaws.{whole_lines-line, whole_lines-none}
-use Rattle.ic_host.proofs.WalkLaws.{stopped, walk-nil, walk-good, walk-bad, behind-behind}
+use Rattle.ic_host.specs.Walk.{Place, script_limits, start, behind_line, behind, walk}
+use Rattle.ic_host.proofs.BodyLaws.{whole_lines-line}
+use Rattle.ic_host.proofs.WalkLaws.{stopped, walk-good, walk-bad, behind-behind}
 
 pub record Follows (options : Options) (handed printed : List ℕ) (at : Place) (kept : List ℕ) (ended : Bool) : Type 0 where
   pub all : (more : List ℕ) → (IsTrue ended → more ≡ [])
-    → walk script_limits (start options) (pieces (handed ++ (kept ++ more))) ≡ behind printed (walk script_limits at (pieces (kept ++ more)))
+      → walk script_limits (start options) (pieces (handed ++ (kept ++ more))) ≡ behind printed (walk script_limits at (pieces (kept ++ more)))
   pub whole : ended ≡ false → (more : List ℕ)
-    → walk script_limits (start options) (whole_lines (pieces (handed ++ (kept ++ more)))) ≡ behind printed (walk script_limits at (whole_lines (pieces (kept ++ more))))
+      → walk script_limits (start options) (whole_lines (pieces (handed ++ (kept ++ more)))) ≡ behind printed (walk script_limits at (whole_lines (pieces (kept ++ more))))
 
 -- before the first read
 pub Follows-start : (options : Options) → Follows options [] [] (start options) [] false
@@ -67,7 +66,6 @@ false-from first second still unended = elim (cases_Bool first) [ inl t ↦ let 
 module _ (options : Options) (handed printed : List ℕ) (at : Place) (kept : List ℕ) (ended : Bool) (so_far : Follows options handed printed at kept ended)
     (read piece line rest : List ℕ) (new_ended : Bool) (seen : kept ++ read ≡ piece ++ rest) (over : IsTrue ended → read ≡ [])
     (still : IsTrue ended → IsTrue new_ended) (cut : IsCut piece line rest new_ended) (none : HasNoLf line) where
-
   -- the way before the next piece
   before_piece : (more : List ℕ) → (IsTrue new_ended → more ≡ [])
       → walk script_limits (start options) (pieces ((handed ++ piece) ++ (rest ++ more))) ≡ behind printed (walk script_limits at (piece ∷ pieces (rest ++ more)))
@@ -87,20 +85,20 @@ module _ (options : Options) (handed printed : List ℕ) (at : Place) (kept : Li
   Follows-good text state fits done =
       let next = behind_line at (length piece) state in
       let good = λ (ps : List (List ℕ)).
-        ap (behind printed) (walk-good script_limits at piece line text ps state fits is_line done) ∙ behind-behind printed text (walk script_limits next ps) in
+      ap (behind printed) (walk-good script_limits at piece line text ps state fits is_line done) ∙ behind-behind printed text (walk script_limits next ps) in
       record {
         all = λ more last. before_piece more last ∙ good (pieces (rest ++ more));
         whole = λ unended more.
-          let lf : piece ≡ line ++ 10 ∷ [] = elim cut [ inl is ↦ is | inr ends ↦ let t : new_ended ≡ true = ends.2 in cc ] in
-          let first : pieces (piece ++ (rest ++ more)) ≡ piece ∷ pieces (rest ++ more) = pieces-cut piece line rest more new_ended cut none (λ t. let e : new_ended ≡ true = t in cc) in
-          let whole : whole_lines (piece ∷ pieces (rest ++ more)) ≡ piece ∷ whole_lines (pieces (rest ++ more)) =
+            let lf : piece ≡ line ++ 10 ∷ [] = elim cut [ inl is ↦ is | inr ends ↦ let t : new_ended ≡ true = ends.2 in cc ] in
+            let first : pieces (piece ++ (rest ++ more)) ≡ piece ∷ pieces (rest ++ more) = pieces-cut piece line rest more new_ended cut none (λ t. let e : new_ended ≡ true = t in cc) in
+            let whole : whole_lines (piece ∷ pieces (rest ++ more)) ≡ piece ∷ whole_lines (pieces (rest ++ more)) =
             ap (λ p. whole_lines (p ∷ pieces (rest ++ more))) lf ∙ whole_lines-line line (pieces (rest ++ more)) ∙ ap (λ p. p ∷ whole_lines (pieces (rest ++ more))) (sym lf) in
-          ap (λ l. walk script_limits (start options) (whole_lines (pieces l))) (sym (regroup handed kept read piece rest more seen))
-          ∙ so_far.whole (false-from ended new_ended still unended) (read ++ more)
-          ∙ ap (λ l. behind printed (walk script_limits at (whole_lines (pieces l)))) (regroup_seen kept read piece rest more seen)
-          ∙ ap (λ l. behind printed (walk script_limits at (whole_lines l))) first
-          ∙ ap (λ l. behind printed (walk script_limits at l)) whole
-          ∙ good (whole_lines (pieces (rest ++ more)));
+            ap (λ l. walk script_limits (start options) (whole_lines (pieces l))) (sym (regroup handed kept read piece rest more seen))
+            ∙ so_far.whole (false-from ended new_ended still unended) (read ++ more)
+            ∙ ap (λ l. behind printed (walk script_limits at (whole_lines (pieces l)))) (regroup_seen kept read piece rest more seen)
+            ∙ ap (λ l. behind printed (walk script_limits at (whole_lines l))) first
+            ∙ ap (λ l. behind printed (walk script_limits at l)) whole
+            ∙ good (whole_lines (pieces (rest ++ more)));
       }
 
   -- a bad line

@@ -1,6 +1,6 @@
 -- How long the first piece of some bytes is, and which limit it passes.
-use Rattle.std.proofs.Common.{◌≡◌, ℕ, ◌+◌, ◌<◌, ◌≤◌, Bool, true, false, cond, List, [], ◌∷◌, length, length-take, refl, sym, ap, ◌∙◌, arith, inl, inr, Some}
-use Rattle.std.specs.Prelude.{◌==◌, ◌⊎◌, not}
+use Rattle.std.proofs.Common.{◌≡◌, ℕ, ◌+◌, ◌<◌, ◌≤◌, List, [], ◌∷◌, length, length-take, refl, ap, arith, inl, inr, Some}
+use Rattle.std.specs.Prelude.{◌==◌, not}
 use Rattle.std.proofs.lemmas.Bool.{cases_Bool}
 use Rattle.std.proofs.lemmas.Bool.Decides.{nat_tests}
 use Rattle.std.specs.List.{prefix_len}
@@ -18,9 +18,9 @@ unfolding pieces
 length-pieces [] piece rest e = cc
 length-pieces (b ∷ bs) piece rest e =
     elim (cases_Bool (b == 10)) [
-      inl lf ↦ let is : b ∷ [] ≡ piece = cc in omega (arith, ap length is)
-    | inr other ↦ let onto : onto_first b (pieces bs) ≡ piece ∷ rest = cc in
-      length-onto_first b bs piece rest (pieces bs) (λ p ps. length-pieces bs p ps) onto
+      | inl lf ↦ let is : b ∷ [] ≡ piece = cc in omega (arith, ap length is)
+      | inr other ↦ let onto : onto_first b (pieces bs) ≡ piece ∷ rest = cc in
+          length-onto_first b bs piece rest (pieces bs) (λ p ps. length-pieces bs p ps) onto
     ]
 
 -- the line is no longer than its piece

@@ -33,9 +33,9 @@ pub Printed-next : (asks : List Ask) (ask : Ask) (start at : Taken) (number : �
     → answers_from 0 asks ≡ so_far.printed ++ (no_canister_text number (text_of ask.callee) ++ answers_from (number + 1) (drop (number + 1) asks))
 Printed-next asks ask start at number so_far within is =
     so_far.whole ∙ ap (λ l. so_far.printed ++ l)
-      (at_drop_more (answers_from number) asks number ask within
-      ∙ ap (λ a. answers_from number (a ∷ drop (number + 1) asks)) (sym is)
-      ∙ answers_from-cons number ask (drop (number + 1) asks))
+    (at_drop_more (answers_from number) asks number ask within
+    ∙ ap (λ a. answers_from number (a ∷ drop (number + 1) asks)) (sym is)
+    ∙ answers_from-cons number ask (drop (number + 1) asks))
 
 pub Printed-more : (asks : List Ask) (ask : Ask) (start at new : Taken) (number : ℕ) → Printed asks start at number
     → number < length asks → ask ≡ get_or asks number ask → Sent at new (no_canister_text number (text_of ask.callee))
@@ -46,7 +46,7 @@ Printed-more asks ask start at new number so_far within is sent =
       printed = so_far.printed ++ text;
       sent = Sent-append start at new so_far.printed text so_far.sent sent;
       whole = Printed-next asks ask start at number so_far within is
-        ∙ sym (append_assoc so_far.printed text (answers_from (number + 1) (drop (number + 1) asks)));
+          ∙ sym (append_assoc so_far.printed text (answers_from (number + 1) (drop (number + 1) asks)));
     }
 
 -- all answers were sent
@@ -66,4 +66,4 @@ Printed-interrupted asks ask start at new number status so_far within is interru
     let rest = answers_from (number + 1) (drop (number + 1) asks) in
     let P = λ (l : List ℕ). Interrupts start new l status in
     subst P (sym (Printed-next asks ask start at number so_far within is))
-      (Interrupts-after start at new so_far.printed (text ++ rest) status so_far.sent (Interrupts-more at new text rest status interrupted))
+    (Interrupts-after start at new so_far.printed (text ++ rest) status so_far.sent (Interrupts-more at new text rest status interrupted))

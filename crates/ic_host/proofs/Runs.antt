@@ -1,14 +1,12 @@
 -- The loop of a run: what holds before each line, and how each answer of the reader goes on from there.
-use Rattle.std.proofs.Common.{◌≡◌, ◌≢◌, ℕ, ◌+◌, ◌-◌, ◌<◌, ◌≤◌, IsTrue, Bool, true, false, List, [], ◌∷◌, ◌++◌, length, refl, sym, ap, subst, ◌∙◌, append_assoc, append-nil, length-append, arith, inl, inr, Option, Some, None, Ok, Err, Result}
-use Rattle.std.specs.Prelude.{◌⊎◌, ◌&&◌, nat_lt, nat_le, unwrap_or}
+use Rattle.std.proofs.Common.{◌≡◌, ℕ, ◌+◌, ◌<◌, ◌≤◌, IsTrue, false, List, [], ◌∷◌, ◌++◌, length, refl, sym, ap, subst, ◌∙◌, append_assoc, append-nil, length-append, arith, inl, inr, Option, Some, None, Ok, Err}
+use Rattle.std.specs.Prelude.{◌⊎◌}
 use Rattle.std.specs.Io.KnownBytes.{prepend_known, IsAtEnd}
 use Rattle.std.proofs.lemmas.Bool.{false≢true}
-use Rattle.std.proofs.lemmas.Bool.Decides.{nat_tests}
-use Rattle.ic_outside.specs.Given.{IsFront}
 use Rattle.ic_outside.specs.Limits.{Limits, Excess, LongLine, LongScript, excess, excess_of}
-use Rattle.ic_outside.specs.Pieces.{HasNoLf, pieces, line_of, onto_first}
+use Rattle.ic_outside.specs.Pieces.{HasNoLf, pieces, line_of}
 use Rattle.ic_outside.specs.Reader.{Reader}
-use Rattle.ic_outside.specs.Reads.{Reads, HandsOut, Exceeds, Answers}
+use Rattle.ic_outside.specs.Reads.{HandsOut, Exceeds, Answers}
 use Rattle.ic_outside.specs.declared.Line.{Line}
 use Rattle.ic_outside.specs.declared.LineFault.{LineFault}
 use Rattle.ic_outside.specs.declared.LineFault.TheVariants as fault
@@ -18,23 +16,23 @@ use Rattle.ic_script.specs.declared.LineCause.{LineCause}
 use Rattle.ic_script.specs.declared.LineCause.TheVariants.{LineTooLong, ScriptTooLong}
 use Rattle.ic_host.specs.declared.options.Options.{Options}
 use Rattle.ic_host.specs.declared.status.Status.{Status}
-use Rattle.ic_host.specs.declared.status.Status.TheVariants.{Done, BadWords, BadLine, ReadFault, WriteFault, NoMemory}
+use Rattle.ic_host.specs.declared.status.Status.TheVariants.{Done, BadLine, ReadFault, NoMemory}
 use Rattle.ic_host.specs.Acts.{Concludes, Turns, Stops, bad_output, end_output}
 use Rattle.ic_host.specs.AfterLine.{after_line}
 use Rattle.ic_host.specs.Body.{body, whole_lines}
 use Rattle.ic_host.specs.EndPart.{end_part}
 use Rattle.ic_host.specs.Explained.{Explained, rest_of}
 use Rattle.ic_host.specs.Options.{options_of}
-use Rattle.ic_host.specs.Out.{Output, out}
+use Rattle.ic_host.specs.Out.{out}
 use Rattle.ic_host.specs.Script.{walk_of}
 use Rattle.ic_host.specs.Sending.{Taken, Sent, Interrupts}
 use Rattle.ic_host.specs.State.{State}
 use Rattle.ic_host.specs.Walk.{Place, Bad, Walk, script_limits, start, behind_line, behind, walk, judge}
 use Rattle.ic_host.proofs.Exits.{explain-sent, explain-interrupted, explain-concludes, out-stopped, out-front, body-accepted, explains-bad}
-use Rattle.ic_host.proofs.Follows.{Follows, Follows-start, Follows-good, Follows-bad, IsCut, line_of-cut}
+use Rattle.ic_host.proofs.Follows.{Follows, Follows-start, Follows-good, Follows-bad}
 use Rattle.ic_host.proofs.BodyLaws.{whole_lines-none}
 use Rattle.ic_host.proofs.PieceBounds.{length-pieces, length-line_of, excess-long_line, excess-long_script}
-use Rattle.ic_host.proofs.SendLaws.{Sent-nil, Sent-append, Interrupts-after, Interrupts-more, Interrupts-at_once, Concludes-after}
+use Rattle.ic_host.proofs.SendLaws.{Sent-nil, Sent-append, Interrupts-after, Interrupts-more, Concludes-after}
 use Rattle.ic_host.proofs.WalkLaws.{stopped, walk-nil, walk-excess}
 
 -- where the reader stands
@@ -87,7 +85,6 @@ at_end-kept left_before left read taken none end =
 
 module _ (options : Options) (left_before left left_after : Option (List ℕ)) (before now after : Taken) (state : State) (old new : Reader)
     (runs : Runs options left_before left before now state old) where
-
   -- what was read so far
   read_so_far : (read : List ℕ) → left ≡ prepend_known read left_after → left_before ≡ prepend_known (runs.handed ++ (old.kept ++ read)) left_after
   read_so_far read taken =
@@ -105,7 +102,6 @@ module _ (options : Options) (left_before left left_after : Option (List ℕ)) (
 
   -- one call of the reader
   module _ (read : List ℕ) (taken : left ≡ prepend_known read left_after) (over : IsTrue old.ended → read ≡ []) where
-
     -- where the source had given its end nothing is left
     last : IsTrue old.ended → rest_of left_after ≡ []
     last e = rest_of-end left_after (at_end-kept left left_after read taken (over e) (runs.at_end e))
@@ -116,7 +112,6 @@ module _ (options : Options) (left_before left left_after : Option (List ℕ)) (
 
     -- a line was handed out
     module _ (line : Line) (out_of : HandsOut old (old.kept ++ read) line new) (open_end : IsTrue new.ended → IsTrue old.ended ⊎ IsAtEnd left_after) where
-
       new_end : IsTrue new.ended → IsAtEnd left_after
       new_end e = elim (open_end e) [ inl was ↦ at_end-kept left left_after read taken (over was) (runs.at_end was) | inr is ↦ is ]
 
@@ -132,7 +127,7 @@ module _ (options : Options) (left_before left left_after : Option (List ℕ)) (
           → Follows options (runs.handed ++ out_of.piece) (runs.printed ++ text) (behind_line (place_of options state old) (length out_of.piece) next) new.kept new.ended
       good next text done =
           Follows-good options runs.handed runs.printed (place_of options state old) old.kept old.ended runs.follows read out_of.piece line.bytes new.kept new.ended
-            out_of.front over out_of.still out_of.cut out_of.one_line text next fits done
+          out_of.front over out_of.still out_of.cut out_of.one_line text next fits done
 
       regrouped : runs.handed ++ (old.kept ++ read) ≡ (runs.handed ++ out_of.piece) ++ new.kept
       regrouped = ap (λ l. runs.handed ++ l) out_of.front ∙ sym (append_assoc runs.handed out_of.piece new.kept)
@@ -162,14 +157,13 @@ module _ (options : Options) (left_before left left_after : Option (List ℕ)) (
       further =
           let within = excess-none script_limits old.offset (length (line_of out_of.piece)) (length out_of.piece) fits (length-line_of out_of.piece) in
           let some : 0 < length out_of.piece = elim out_of.cut [
-            inl lf ↦ omega (arith, ap length lf, length-append line.bytes (10 ∷ []))
-          | inr ends ↦ ends.1
+            | inl lf ↦ omega (arith, ap length lf, length-append line.bytes (10 ∷ []))
+            | inr ends ↦ ends.1
           ] in
           (omega (arith, within.1, out_of.offset), omega (arith, out_of.offset))
 
     -- the run ends here
     module _ (words : List (List ℕ)) (accepted : options_of words ≡ Some options) where
-
       front : (rest : List ℕ) × ((out words ((runs.handed ++ (old.kept ++ read)) ++ rest_of left_after)).bytes ≡ runs.printed ++ rest)
       front =
           let found = out-front words options accepted ((runs.handed ++ (old.kept ++ read)) ++ rest_of left_after) runs.printed _ (way_on read over (rest_of left_after) last) in
@@ -185,18 +179,18 @@ module _ (options : Options) (left_before left left_after : Option (List ℕ)) (
       pub explain-out_of_memory : after ≡ now → Explained words left_before left_after before after NoMemory
       explain-out_of_memory same =
           explain-sent words left_before left_after before after (runs.handed ++ (old.kept ++ read)) (read_so_far read taken)
-            NoMemory runs.printed (same_sent same) front shorter (λ e. cc)
+          NoMemory runs.printed (same_sent same) front shorter (λ e. cc)
 
       -- the source failed in the midst of a line
       pub explain-read_fault : after ≡ now → HasNoLf (old.kept ++ read) → old.ended ≡ false → Explained words left_before left_after before after ReadFault
       explain-read_fault same none unended =
           let way = runs.follows.whole unended read in
           let ends : walk script_limits (place_of options state old) (whole_lines (pieces (old.kept ++ read))) ≡ stopped (Ok state) =
-            ap (walk script_limits (place_of options state old)) (whole_lines-none (old.kept ++ read) none) ∙ walk-nil script_limits (place_of options state old) in
+          ap (walk script_limits (place_of options state old)) (whole_lines-none (old.kept ++ read) none) ∙ walk-nil script_limits (place_of options state old) in
           let printed : runs.printed ≡ body words (runs.handed ++ (old.kept ++ read)) =
-            sym (body-accepted words options accepted (runs.handed ++ (old.kept ++ read)) ∙ ap (λ (w : Walk). w.text) (way ∙ ap (behind runs.printed) ends) ∙ append-nil runs.printed) in
+          sym (body-accepted words options accepted (runs.handed ++ (old.kept ++ read)) ∙ ap (λ (w : Walk). w.text) (way ∙ ap (behind runs.printed) ends) ∙ append-nil runs.printed) in
           explain-sent words left_before left_after before after (runs.handed ++ (old.kept ++ read)) (read_so_far read taken)
-            ReadFault runs.printed (same_sent same) (printed, front, λ e. let is = accepted in cc) shorter (λ e. cc)
+          ReadFault runs.printed (same_sent same) (printed, front, λ e. let is = accepted in cc) shorter (λ e. cc)
 
       -- the script was read to its end
       pub explain-end : (status : Status) → old.kept ++ read ≡ [] → rest_of left_after ≡ [] → Concludes now after (end_output options state) status
@@ -205,11 +199,11 @@ module _ (options : Options) (left_before left left_after : Option (List ℕ)) (
           let at = place_of options state old in
           let empty : (old.kept ++ read) ++ rest_of left_after ≡ [] = ap (λ l. l ++ rest_of left_after) none ∙ nothing in
           let way = way_on read over (rest_of left_after) last ∙ ap (λ l. behind runs.printed (walk script_limits at (pieces l))) empty
-            ∙ ap (λ l. behind runs.printed (walk script_limits at l)) pieces-nil ∙ ap (behind runs.printed) (walk-nil script_limits at) in
+          ∙ ap (λ l. behind runs.printed (walk script_limits at l)) pieces-nil ∙ ap (behind runs.printed) (walk-nil script_limits at) in
           let is = out-stopped words options accepted ((runs.handed ++ (old.kept ++ read)) ++ rest_of left_after) runs.printed (Ok state) way in
           explain-concludes words left_before left_after before after (runs.handed ++ (old.kept ++ read)) (read_so_far read taken)
-            (record { bytes = runs.printed ++ end_part options state; status = Done }) status is
-            (Concludes-after before now after runs.printed (end_output options state) status runs.sent concludes) (is, nothing) (λ e. cc)
+          (record { bytes = runs.printed ++ end_part options state; status = Done }) status is
+          (Concludes-after before now after runs.printed (end_output options state) status runs.sent concludes) (is, nothing) (λ e. cc)
 
       -- a limit was passed
       explain-excess : (status : Status) (line : ℕ) (excess : Excess) (cause : LineCause) (stop : ℕ) → Exceeds old (old.kept ++ read) excess line
@@ -222,13 +216,13 @@ module _ (options : Options) (left_before left left_after : Option (List ℕ)) (
           let first = exceeds.passes (rest_of left_after) in
           let L = λ (l : Limits). excess_of l old.offset first.0 ≡ Some excess in
           let way = way_on read over (rest_of left_after) last ∙ ap (λ l. behind runs.printed (walk script_limits at l)) first.2
-            ∙ ap (behind runs.printed) (walk-excess script_limits at first.0 first.1 excess bad (subst L runs.limits first.3) (judged first.0)) in
+          ∙ ap (behind runs.printed) (walk-excess script_limits at first.0 first.1 excess bad (subst L runs.limits first.3) (judged first.0)) in
           let N = λ (n : ℕ). Concludes now after (bad_output n cause) status in
           explain-concludes words left_before left_after before after (runs.handed ++ (old.kept ++ read)) (read_so_far read taken)
-            (record { bytes = runs.printed ++ (bad_output bad.line cause).bytes; status = BadLine bad.line cause }) status
-            (out-stopped words options accepted ((runs.handed ++ (old.kept ++ read)) ++ rest_of left_after) runs.printed (Err bad) way)
-            (Concludes-after before now after runs.printed (bad_output bad.line cause) status runs.sent (subst N exceeds.number concludes))
-            (explains-bad words options accepted (runs.handed ++ (old.kept ++ read)) (rest_of left_after) runs.printed bad way low high) (λ e. cc)
+          (record { bytes = runs.printed ++ (bad_output bad.line cause).bytes; status = BadLine bad.line cause }) status
+          (out-stopped words options accepted ((runs.handed ++ (old.kept ++ read)) ++ rest_of left_after) runs.printed (Err bad) way)
+          (Concludes-after before now after runs.printed (bad_output bad.line cause) status runs.sent (subst N exceeds.number concludes))
+          (explains-bad words options accepted (runs.handed ++ (old.kept ++ read)) (rest_of left_after) runs.printed bad way low high) (λ e. cc)
 
       long : (excess : Excess) (line : ℕ) → Exceeds old (old.kept ++ read) excess line
           → (piece : List ℕ) × (length piece ≤ length (old.kept ++ read)) × (excess_of script_limits old.offset piece ≡ Some excess)
@@ -253,18 +247,17 @@ module _ (options : Options) (left_before left left_after : Option (List ℕ)) (
           let size = length-append runs.handed (old.kept ++ read) in
           let limit : old.limits.line ≡ 8388608 = ap (λ (l : Limits). l.line) runs.limits in
           explain-excess status line LongLine LineTooLong (old.offset + 8388608 + 1) answers.0 (λ p. refl)
-            (omega (arith, passed, piece.1, length-line_of piece.0, size, runs.offset)) (omega (arith, size, runs.offset, answers.1, limit)) stops
+          (omega (arith, passed, piece.1, length-line_of piece.0, size, runs.offset)) (omega (arith, size, runs.offset, answers.1, limit)) stops
       explain-fault (fault.ScriptTooLong line) status answers stops =
           let piece = long LongScript line answers.0 in
           let passed = excess-long_script script_limits old.offset (length (line_of piece.0)) (length piece.0) piece.2 in
           let size = length-append runs.handed (old.kept ++ read) in
           let limit : old.limits.script ≡ 268435456 = ap (λ (l : Limits). l.script) runs.limits in
           explain-excess status line LongScript ScriptTooLong (268435456 + 1) answers.0 (λ p. refl)
-            (omega (arith, passed, piece.1, size, runs.offset)) (omega (arith, size, runs.offset, answers.1, limit)) stops
+          (omega (arith, passed, piece.1, size, runs.offset)) (omega (arith, size, runs.offset, answers.1, limit)) stops
 
       -- the line that was handed out is the last that was done
       module _ (line : Line) (out_of : HandsOut old (old.kept ++ read) line new) (open_end : IsTrue new.ended → IsTrue old.ended ⊎ IsAtEnd left_after) where
-
         explain-cut_off : (status : Status) (next : State) (text : List ℕ) → after_line options state line.bytes ≡ Ok (next, text) → Interrupts now after text status
             → Explained words left_before left_after before after status
         unfolding walk_of
@@ -274,8 +267,8 @@ module _ (options : Options) (left_before left left_after : Option (List ℕ)) (
             let whole = out-front words options accepted ((runs.handed ++ (old.kept ++ read)) ++ more) (runs.printed ++ text) _ way in
             let I = λ (l : List ℕ). Interrupts before after l status in
             explain-interrupted words left_before left_after before after (runs.handed ++ (old.kept ++ read)) (read_so_far read taken) status
-              (subst I (sym whole.1) (Interrupts-more before after _ whole.0 status (Interrupts-more before after (runs.printed ++ text) _ status
-                (Interrupts-after before now after runs.printed text status runs.sent interrupted))))
+            (subst I (sym whole.1) (Interrupts-more before after _ whole.0 status (Interrupts-more before after (runs.printed ++ text) _ status
+            (Interrupts-after before now after runs.printed text status runs.sent interrupted))))
 
         explain-bad : (status : Status) (cause : LineCause) → after_line options state line.bytes ≡ Err cause → Concludes now after (bad_output line.number cause) status
             → Explained words left_before left_after before after status
@@ -284,18 +277,17 @@ module _ (options : Options) (left_before left left_after : Option (List ℕ)) (
             let more = rest_of left_after in
             let bad : Bad = record { line = old.handed + 1; cause = cause; stop = old.offset + length out_of.piece } in
             let way = ap (λ l. walk_of options l) (way_after line out_of open_end more)
-              ∙ Follows-bad options runs.handed runs.printed (place_of options state old) old.kept old.ended runs.follows read out_of.piece line.bytes new.kept new.ended
-                out_of.front over out_of.still out_of.cut out_of.one_line cause more (λ e. rest_of-end left_after (new_end line out_of open_end e)) (fits line out_of open_end) bad_line in
+            ∙ Follows-bad options runs.handed runs.printed (place_of options state old) old.kept old.ended runs.follows read out_of.piece line.bytes new.kept new.ended
+            out_of.front over out_of.still out_of.cut out_of.one_line cause more (λ e. rest_of-end left_after (new_end line out_of open_end e)) (fits line out_of open_end) bad_line in
             let size = ap length (regrouped line out_of open_end) ∙ length-append (runs.handed ++ out_of.piece) new.kept in
             let inner = length-append runs.handed out_of.piece in
             let N = λ (n : ℕ). Concludes now after (bad_output n cause) status in
             explain-concludes words left_before left_after before after (runs.handed ++ (old.kept ++ read)) (read_so_far read taken)
-              (record { bytes = runs.printed ++ (bad_output bad.line cause).bytes; status = BadLine bad.line cause }) status
-              (out-stopped words options accepted ((runs.handed ++ (old.kept ++ read)) ++ more) runs.printed (Err bad) way)
-              (Concludes-after before now after runs.printed (bad_output bad.line cause) status runs.sent (subst N out_of.number concludes))
-              (explains-bad words options accepted (runs.handed ++ (old.kept ++ read)) more runs.printed bad way
-                (omega (arith, size, inner, runs.offset)) (omega (arith, size, inner, runs.offset, out_of.ahead))) (λ e. cc)
-
+            (record { bytes = runs.printed ++ (bad_output bad.line cause).bytes; status = BadLine bad.line cause }) status
+            (out-stopped words options accepted ((runs.handed ++ (old.kept ++ read)) ++ more) runs.printed (Err bad) way)
+            (Concludes-after before now after runs.printed (bad_output bad.line cause) status runs.sent (subst N out_of.number concludes))
+            (explains-bad words options accepted (runs.handed ++ (old.kept ++ read)) more runs.printed bad way
+            (omega (arith, size, inner, runs.offset)) (omega (arith, size, inner, runs.offset, out_of.ahead))) (λ e. cc)
 
         pub explain-line : (status : Status) → Turns now after line.number (after_line options state line.bytes) (Err status)
             → Explained words left_before left_after before after status
@@ -304,4 +296,3 @@ module _ (options : Options) (left_before left left_after : Option (List ℕ)) (
         explain-line status (inr (inr nothing)) =
             let P = λ (s : Status). Explained words left_before left_after before after s in
             subst P (sym nothing.0) (explain-out_of_memory nothing.1)
-

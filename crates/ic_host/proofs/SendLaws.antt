@@ -1,12 +1,10 @@
 -- Sending one text after another.
 use Rattle.std.proofs.Common.{◌≡◌, ℕ, ◌+◌, ◌-◌, ◌≤◌, List, [], ◌++◌, length, Option, Some, None, IfSome, refl, sym, ap, subst, ◌∙◌, append_assoc, append-nil, length-append, arith, inl, inr}
-use Rattle.std.specs.Prelude.{◌⊎◌}
 use Rattle.std.specs.Io.KnownBytes.{append_known}
-use Rattle.ic_outside.specs.Faults.{Rose}
-use Rattle.ic_outside.specs.Given.{IsFront, TookFront}
+use Rattle.ic_outside.specs.Given.{IsFront}
 use Rattle.ic_outside.proofs.KnownLaws.{append_known-append}
 use Rattle.ic_host.specs.declared.status.Status.{Status}
-use Rattle.ic_host.specs.declared.status.Status.TheVariants.{WriteFault, NoMemory}
+use Rattle.ic_host.specs.declared.status.Status.TheVariants.{NoMemory}
 use Rattle.ic_host.specs.Out.{Output}
 use Rattle.ic_host.specs.Sending.{Taken, Sent, Broke, RanOut, Interrupts}
 use Rattle.ic_host.specs.Acts.{Concludes}
@@ -42,7 +40,7 @@ Sent-append old at new first second one two =
       bytes = two.bytes ∙ ap (λ known. append_known known second) one.bytes ∙ sym (append_known-append old.bytes first second);
       later = omega (arith, one.later, two.later);
       fitting = subst P (sym (length-append first second))
-        (fits-append old.fits at.fits new.fits old.faults at.faults new.faults (length first) (length second) one.fitting two.fitting);
+          (fits-append old.fits at.fits new.fits old.faults at.faults new.faults (length first) (length second) one.fitting two.fitting);
     }
 
 fits-broke : (fits at : Option ℕ) (before now first second : ℕ)
@@ -62,11 +60,14 @@ Broke-after : (old at new : Taken) (first second : List ℕ) → Sent old at fir
 Broke-after old at new first second one two =
     let P = λ (n : ℕ). IfSome old.fits (λ room. n ≤ room → ⊥) in
     record {
-      front = (first ++ two.front.0, IsFront-after first two.front.0 second two.front.1,
-        two.front.2 ∙ ap (λ known. append_known known two.front.0) one.bytes ∙ sym (append_known-append old.bytes first two.front.0));
+      front = (
+        first ++ two.front.0,
+        IsFront-after first two.front.0 second two.front.1,
+        two.front.2 ∙ ap (λ known. append_known known two.front.0) one.bytes ∙ sym (append_known-append old.bytes first two.front.0),
+      );
       rose = omega (arith, one.later, two.rose);
       fitting = subst P (sym (length-append first second))
-        (fits-broke old.fits at.fits old.faults at.faults (length first) (length second) one.fitting two.fitting);
+          (fits-broke old.fits at.fits old.faults at.faults (length first) (length second) one.fitting two.fitting);
     }
 
 RanOut-after : (old at new : Taken) (first second : List ℕ) → Sent old at first → RanOut at new second → RanOut old new (first ++ second)
@@ -81,8 +82,8 @@ pub Interrupts-after : (old at new : Taken) (first second : List ℕ) (status : 
     → Interrupts old new (first ++ second) status
 Interrupts-after old at new first second status one two = record {
   cause = elim two.cause [
-    inl broke ↦ inl (broke.0, Broke-after old at new first second one broke.1)
-  | inr ran_out ↦ inr (ran_out.0, RanOut-after old at new first second one ran_out.1)
+    | inl broke ↦ inl (broke.0, Broke-after old at new first second one broke.1)
+    | inr ran_out ↦ inr (ran_out.0, RanOut-after old at new first second one ran_out.1)
   ];
 }
 
@@ -97,16 +98,22 @@ IsFront-more front text more f = (f.0 ++ more, ap (λ l. l ++ more) f.1 ∙ appe
 pub Interrupts-more : (old new : Taken) (text more : List ℕ) (status : Status) → Interrupts old new text status → Interrupts old new (text ++ more) status
 Interrupts-more old new text more status one = record {
   cause = elim one.cause [
-    inl broke ↦ inl (broke.0, record {
-      front = (broke.1.front.0, IsFront-more broke.1.front.0 text more broke.1.front.1, broke.1.front.2);
-      rose = broke.1.rose;
-      fitting = fits-longer old.fits (length text) (length (text ++ more)) (omega (arith, length-append text more)) broke.1.fitting;
-    })
-  | inr ran_out ↦ inr (ran_out.0, record {
-      front = ran_out.1.front;
-      is_front = IsFront-more ran_out.1.front text more ran_out.1.is_front;
-      sent = ran_out.1.sent;
-    })
+    | inl broke ↦ inl (
+      broke.0,
+      record {
+        front = (broke.1.front.0, IsFront-more broke.1.front.0 text more broke.1.front.1, broke.1.front.2);
+        rose = broke.1.rose;
+        fitting = fits-longer old.fits (length text) (length (text ++ more)) (omega (arith, length-append text more)) broke.1.fitting;
+      },
+    )
+    | inr ran_out ↦ inr (
+      ran_out.0,
+      record {
+        front = ran_out.1.front;
+        is_front = IsFront-more ran_out.1.front text more ran_out.1.is_front;
+        sent = ran_out.1.sent;
+      },
+    )
   ];
 }
 
@@ -120,6 +127,6 @@ Interrupts-at_once at text = record {
 pub Concludes-after : (old at new : Taken) (text : List ℕ) (output : Output) (status : Status) → Sent old at text → Concludes at new output status
     → Concludes old new (record output { bytes = text ++ output.bytes }) status
 Concludes-after old at new text output status one two = elim two [
-    inl sent ↦ inl (sent.0, Sent-append old at new text output.bytes one sent.1)
+  | inl sent ↦ inl (sent.0, Sent-append old at new text output.bytes one sent.1)
   | inr interrupted ↦ inr (Interrupts-after old at new text output.bytes status one interrupted)
-  ]
+]

@@ -1,5 +1,5 @@
 -- Laws of the way through a script.
-use Rattle.std.proofs.Common.{◌≡◌, ℕ, suc, ◌+◌, ◌<◌, ◌≤◌, List, [], ◌∷◌, ◌++◌, length, refl, sym, ap, subst, ◌∙◌, append_assoc, arith, Option, Some, None, Result, Ok, Err}
+use Rattle.std.proofs.Common.{◌≡◌, ℕ, suc, ◌+◌, ◌<◌, List, [], ◌∷◌, ◌++◌, length, refl, sym, ap, ◌∙◌, append_assoc, arith, Option, Some, None, Result, Ok, Err}
 use Rattle.ic_outside.specs.Limits.{Limits, Excess, LongLine, LongScript, excess_of}
 use Rattle.ic_outside.specs.Pieces.{line_of}
 use Rattle.ic_script.specs.declared.LineCause.{LineCause}
@@ -80,5 +80,5 @@ walk-line limits at (piece ∷ pieces) bad e =
     let rest = λ (state : State). walk limits (behind_line at (length piece) state) pieces in
     let last : (onward judged rest).last ≡ Err bad = sym (ap (λ (w : Walk). w.last) (walk-cons limits at piece pieces)) ∙ e in
     onward-line at.number (length pieces) judged rest bad
-      (λ b. judge-bad limits at piece (excess_of limits at.offset piece) b)
-      (λ state h. walk-line limits (behind_line at (length piece) state) pieces bad h) last
+    (λ b. judge-bad limits at piece (excess_of limits at.offset piece) b)
+    (λ state h. walk-line limits (behind_line at (length piece) state) pieces bad h) last

@@ -1,5 +1,5 @@
 -- What the whole lines of a script print.
-use Rattle.std.specs.Prelude.{ℕ, Bool, ◌==◌, List, [], ◌∷◌, Option, Some, None}
+use Rattle.std.specs.Prelude.{ℕ, ◌==◌, List, [], Option, Some, None}
 use Rattle.std.specs.List.{filter, list_any}
 use Rattle.ic_outside.specs.Pieces.{pieces}
 use Rattle.ic_host.specs.declared.options.Options.{Options}

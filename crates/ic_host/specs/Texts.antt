@@ -1,7 +1,7 @@
 -- What the program prints.
 use Rattle.std.specs.Prelude.{ℕ, ◌++◌, List, [], ◌∷◌, codes, decimal}
 use Rattle.ic_script.specs.declared.LineCause.{LineCause}
-use Rattle.ic_script.specs.declared.LineCause.TheVariants.{Form, Principal, Hex, LineTooLong, ScriptTooLong}
+use Rattle.ic_script.specs.CauseText.{cause_text}
 
 -- what ends a printed line
 abbrev pub newline : List ℕ
@@ -19,14 +19,6 @@ accepted_text number = codes "accepted " ++ decimal number ++ newline
 unfoldable pub no_canister_text : ℕ → List ℕ → List ℕ
 no_canister_text number name =
     codes "answer " ++ (decimal number ++ (codes " rejected 3 \"no canister " ++ (name ++ codes "\"\n")))
-
--- the name of a cause
-unfoldable pub cause_text : LineCause → List ℕ
-cause_text Form = codes "Form"
-cause_text Principal = codes "Principal"
-cause_text Hex = codes "Hex"
-cause_text LineTooLong = codes "LineTooLong"
-cause_text ScriptTooLong = codes "ScriptTooLong"
 
 -- for a bad line, by its number from 1
 unfoldable pub bad_text : ℕ → LineCause → List ℕ

@@ -11,6 +11,10 @@ impl Options {
     pub fn read(words: &[String]) -> Option<Options>
         ensures { result ≡ options_of (map string_bytes words.now) }
     {
-        if words.len() > 1 { None } else { Some(Options {}) }
+        if words.len() > 1 {
+            None
+        } else {
+            Some(Options {})
+        }
     }
 }

@@ -80,7 +80,12 @@ impl Requests {
 
     /// Does a line: the requests after it, and what it prints. On an error the requests are dropped.
     #[tactic(auto, unfolding(crate::specs::AfterLine::after_line))]
-    pub fn do_line(self, alloc: Global, options: &Options, line: &[u8]) -> Result<(Requests, Bytes), NotDone>
+    pub fn do_line(
+        self,
+        alloc: Global,
+        options: &Options,
+        line: &[u8],
+    ) -> Result<(Requests, Bytes), NotDone>
         ensures { Acts (after_line options.now self line.now) result }
     {
         let command = parse_line(alloc, line)?;
@@ -88,7 +93,12 @@ impl Requests {
     }
 
     #[tactic(auto, unfolding(crate::specs::AfterCommand::after_command))]
-    fn do_command(mut self, alloc: Global, _options: &Options, command: Command) -> Result<(Requests, Bytes), NotDone>
+    fn do_command(
+        mut self,
+        alloc: Global,
+        _options: &Options,
+        command: Command,
+    ) -> Result<(Requests, Bytes), NotDone>
         ensures { Acts (after_command _options.now self command) result }
     {
         match command {

@@ -1,6 +1,6 @@
 ghost use Rattle.std.specs.Prelude.{◌≡◌, IfOk, codes};
 ghost use Rattle.ic_principal.specs.Text.{text_of};
-ghost use Rattle.ic_host.specs.Texts.{accepted_text, no_canister_text, bad_text, cause_text, usage_text};
+ghost use Rattle.ic_host.specs.Texts.{accepted_text, no_canister_text, bad_text};
 
 use ic_base::NoMemory;
 use ic_principal::{Bytes, Principal};
@@ -21,19 +21,14 @@ pub fn accepted_text(alloc: Global, number: usize) -> Result<Bytes, NoMemory>
 }
 
 /// For a call to a principal that is no canister, by the call's number from 0.
+#[tactic(auto, unfolding(crate::specs::Texts::no_canister_text))]
 pub fn no_canister_text(alloc: Global, number: usize, callee: &Principal) -> Result<Bytes, NoMemory>
     ensures { IfOk result (λ text. text ≡ no_canister_text number (text_of callee.now)) }
 {
-    let name = callee.to_text(alloc)?;
-    rejected_text(alloc, number, &name.items)
-}
-
-#[tactic(auto, unfolding(crate::specs::Texts::no_canister_text))]
-fn rejected_text(alloc: Global, number: usize, name: &str) -> Result<Bytes, NoMemory>
-    ensures { IfOk result (λ text. text ≡ no_canister_text number name.now) }
-{
     Ok(Bytes {
-        items: format!(in alloc; "answer {number} rejected 3 \"no canister {name}\"\n")?.into_bytes(),
+        items: format!(in alloc;
+            "answer {number} rejected 3 \"no canister {callee}\"\n"
+        )?.into_bytes(),
     })
 }
 
@@ -42,22 +37,7 @@ fn rejected_text(alloc: Global, number: usize, name: &str) -> Result<Bytes, NoMe
 pub fn bad_text(alloc: Global, line: u64, cause: LineCause) -> Result<Bytes, NoMemory>
     ensures { IfOk result (λ text. text ≡ bad_text line cause) }
 {
-    let cause = cause_text(cause);
     Ok(Bytes {
         items: format!(in alloc; "line {line}: {cause}\n")?.into_bytes(),
     })
-}
-
-/// The name of a cause.
-#[tactic(auto, unfolding(crate::specs::Texts::cause_text))]
-fn cause_text(cause: LineCause) -> &'static str
-    ensures { result.now ≡ cause_text cause }
-{
-    match cause {
-        LineCause::Form => "Form",
-        LineCause::Principal => "Principal",
-        LineCause::Hex => "Hex",
-        LineCause::LineTooLong => "LineTooLong",
-        LineCause::ScriptTooLong => "ScriptTooLong",
-    }
 }

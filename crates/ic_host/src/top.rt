@@ -19,6 +19,7 @@ use std::thread::Threads;
 
 // The most bytes of a line before its line feed, and of a script.
 const LARGEST_LINE: usize = 8_388_608;
+
 const LARGEST_SCRIPT: u64 = 268_435_456;
 
 /// Runs the script that the source gives, as the words ask, and prints to the sink. The words begin
@@ -35,7 +36,7 @@ pub fn replica<R: Threads + Sync, S: Source, K: Sink, G: Gate + Sync>(
     ensures headline { (Rose (S.faults source.old) (S.faults source.new) → ⊥)
         → (Rose (K.faults sink.old) (K.faults sink.new) → ⊥)
         → IfSome (S.left source.old) (λ script.
-            Gives (out (map string_bytes words.now) script) (K.taken sink.old) (K.taken sink.new) result) }
+        Gives (out (map string_bytes words.now) script) (K.taken sink.old) (K.taken sink.new) result) }
 
     // What each status says of the bytes that were read and of those that were sent.
     ensures explained { Explained (map string_bytes words.now) (S.left source.old) (S.left source.new)
@@ -52,9 +53,9 @@ pub fn replica<R: Threads + Sync, S: Source, K: Sink, G: Gate + Sync>(
     // Where in addition the whole answer fits into the sink, it is given, and neither count rises.
     ensures complete { S.cannot_fail source.old → IfSome (S.left source.old) (λ script.
         IfSome (K.fits sink.old) (λ room. length (out (map string_bytes words.now) script).bytes ≤ room
-            → Gives (out (map string_bytes words.now) script) (K.taken sink.old) (K.taken sink.new) result
-                × (S.faults source.new ≡ S.faults source.old)
-                × (K.faults sink.new ≡ K.faults sink.old))) }
+        → Gives (out (map string_bytes words.now) script) (K.taken sink.old) (K.taken sink.new) result
+        × (S.faults source.new ≡ S.faults source.old)
+        × (K.faults sink.new ≡ K.faults sink.old))) }
 {
     run(alloc, words, source, sink)
 }
@@ -86,10 +87,15 @@ fn refuse<K: Sink>(sink: &mut K) -> Status
     }
 }
 
-fn run_script<S: Source, K: Sink>(alloc: Global, options: &Options, source: &mut S, sink: &mut K) -> Status
+fn run_script<S: Source, K: Sink>(
+    alloc: Global,
+    options: &Options,
+    source: &mut S,
+    sink: &mut K,
+) -> Status
     ensures explained { (words : List (List ℕ)) → options_of words ≡ Some options.now
         → Explained words (S.left source.old) (S.left source.new)
-            (sink_at K.taken K.fits K.faults sink.old) (sink_at K.taken K.fits K.faults sink.new) result }
+        (sink_at K.taken K.fits K.faults sink.old) (sink_at K.taken K.fits K.faults sink.new) result }
     ensures read { result ≡ Status.ReadFault → Rose (S.faults source.old) (S.faults source.new) }
     ensures write { result ≡ Status.WriteFault → Rose (K.faults sink.old) (K.faults sink.new) }
     ensures accepted { result ≢ Status.BadWords }

@@ -1,11 +1,11 @@
 -- What the words of a command mean.
-use Rattle.std.specs.Prelude.{ℕ, ◌==◌, nat_lt, nat_le, bytes_eq, codes, List, [], ◌∷◌, length, if◌then◌else◌, Option, Some, None, Result, Ok, Err, ok_or}
+use Rattle.std.specs.Prelude.{ℕ, nat_lt, bytes_eq, codes, List, [], ◌∷◌, length, if◌then◌else◌, Result, Ok, Err, ok_or}
 use Rattle.std.specs.Result.{result_ok}
 use Rattle.ic_principal.specs.Text.{principal_of}
 use Rattle.hex.specs.Hex.{decode_of}
 use Rattle.ic_script.specs.declared.command.Ask.{Ask}
 use Rattle.ic_script.specs.declared.command.Command.{Command}
-use Rattle.ic_script.specs.declared.command.Command.TheVariants.{Nothing, Call}
+use Rattle.ic_script.specs.declared.command.Command.TheVariants.{Call}
 use Rattle.ic_script.specs.declared.line_cause.LineCause.{LineCause}
 use Rattle.ic_script.specs.declared.line_cause.LineCause.TheVariants.{Form, Principal, Hex}
 
@@ -28,7 +28,7 @@ unfoldable pub ask_of : List (List ℕ) → Result Ask LineCause
 ask_of (sender ∷ callee ∷ method ∷ arg ∷ []) =
     if nat_lt 20000 (length method) then Err Form
     else (principal_word sender >>= λ from. principal_word callee >>= λ to. bytes_word arg >>= λ bytes.
-        Ok (record { sender = from; callee = to; method = method; arg = bytes }))
+    Ok (record { sender = from; callee = to; method = method; arg = bytes }))
 ask_of _ = Err Form
 
 -- a command by its first word

@@ -55,8 +55,15 @@ fn parse_ask(alloc: Global, operands: Option<&str>) -> Result<Ask, LineError>
     let sender = principal(sender)?;
     let callee = principal(callee)?;
     let arg = hex_bytes(alloc, arg)?;
-    let method = Text { items: String::from_str(alloc, method)? };
-    Ok(Ask { sender, callee, method, arg })
+    let method = Text {
+        items: String::from_str(alloc, method)?,
+    };
+    Ok(Ask {
+        sender,
+        callee,
+        method,
+        arg,
+    })
 }
 
 /// The principal that a word names.
@@ -75,7 +82,9 @@ fn hex_bytes(alloc: Global, word: &str) -> Result<Bytes, LineError>
     ensures { Agrees result (bytes_word word.now) }
 {
     if word == "-" {
-        return Ok(Bytes { items: Vec::new(alloc) });
+        return Ok(Bytes {
+            items: Vec::new(alloc),
+        });
     }
     match hex::decode(alloc, word) {
         Ok(items) => Ok(Bytes { items }),

@@ -28,7 +28,10 @@ const FAULTY: [(&[u8], LineError); 29] = [
     (b"call 2vxsx-fae aaaaa-aa h\xc3\xa9llo -", LineError::Form),
     (b"call 2vxsx-fae aaaaa-aa h\xffllo -", LineError::Form),
     (b"call 2vxsx-faf aaaaa-aa  abc", LineError::Form),
-    (b"call swlgt-iiaaa-aaaaa-aaaaa-cai aaaaa-aa hello -", LineError::Principal),
+    (
+        b"call swlgt-iiaaa-aaaaa-aaaaa-cai aaaaa-aa hello -",
+        LineError::Principal,
+    ),
     (b"call 2VXSX-FAE aaaaa-aa hello -", LineError::Principal),
     (b"call 2vxsx-fae - hello -", LineError::Principal),
     (b"call 2vxsx-fae aaaaa-a hello abc", LineError::Principal),
@@ -60,9 +63,14 @@ fn faults(rt: HostRuntime) {
 fn calls(rt: HostRuntime) -> Result<(), Fail> {
     let lines: [(&[u8], &[u8]); 3] = [
         (b"call 2vxsx-fae rwlgt-iiaaa-aaaaa-aaaaa-cai hello -", b""),
-        (b"call 2vxsx-fae rwlgt-iiaaa-aaaaa-aaaaa-cai hello 00fF", &[0x00, 0xFF]),
-        (b"call 2vxsx-fae rwlgt-iiaaa-aaaaa-aaaaa-cai hello ABCDEF0123456789",
-            &[0xAB, 0xCD, 0xEF, 0x01, 0x23, 0x45, 0x67, 0x89]),
+        (
+            b"call 2vxsx-fae rwlgt-iiaaa-aaaaa-aaaaa-cai hello 00fF",
+            &[0x00, 0xFF],
+        ),
+        (
+            b"call 2vxsx-fae rwlgt-iiaaa-aaaaa-aaaaa-cai hello ABCDEF0123456789",
+            &[0xAB, 0xCD, 0xEF, 0x01, 0x23, 0x45, 0x67, 0x89],
+        ),
     ];
     for (line, arg) in lines {
         match parse_line(rt.alloc(), line) {
@@ -94,6 +102,11 @@ fn longest_method(rt: HostRuntime) -> Result<(), Fail> {
         Ok(Command::Call(ask)) => assert_eq!(rt; ask.method.items.len(), 20_000),
         other => panic!(rt; "{other:?}"),
     }
-    assert!(rt; matches!(parse_line(rt.alloc(), &long(rt.alloc(), 20_001)?), Err(LineError::Form)));
+    assert!(rt;
+        matches!(
+            parse_line(rt.alloc(), &long(rt.alloc(), 20_001)?),
+            Err(LineError::Form)
+        )
+    );
     Ok(())
 }

@@ -9,13 +9,19 @@ pub fn well_formed(line: &[u8]) -> Option<&str>
     ensures none { IfNone result (is_well_formed line.now ≡ false) }
 {
     let text = str::from_utf8(line).ok()?;
-    if all_printable(text) && all_words(text) { Some(text) } else { None }
+    if all_printable(text) && all_words(text) {
+        Some(text)
+    } else {
+        None
+    }
 }
 
 fn all_printable(text: &str) -> bool
     ensures { result ≡ list_all is_printable text.now }
 {
-    text.as_bytes().iter().all(|byte| *byte >= b' ' && *byte <= b'~')
+    text.as_bytes()
+        .iter()
+        .all(|byte| *byte >= b' ' && *byte <= b'~')
 }
 
 #[tactic(auto, unfolding(crate::specs::Words::words_of))]

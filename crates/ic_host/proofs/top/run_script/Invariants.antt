@@ -7,7 +7,7 @@ use Rattle.ic_host.proofs.top.run_script.Given as goal
 abbrev pub invariant-loop-line : goal.invariant-loop-line
 invariant-loop-line g l =
     Runs l.options (g.S.Source.left l.fn.source) (g.S.Source.left l.source)
-      (sink_at g.K.Sink.taken g.K.Sink.fits g.K.Sink.faults l.fn.sink) (sink_at g.K.Sink.taken g.K.Sink.fits g.K.Sink.faults l.sink) l.requests l.lines
+    (sink_at g.K.Sink.taken g.K.Sink.fits g.K.Sink.faults l.fn.sink) (sink_at g.K.Sink.taken g.K.Sink.fits g.K.Sink.faults l.sink) l.requests l.lines
     × Reading g.S.Source.faults g.S.Source.ended g.S.Source.cannot_fail l.fn.source l.source l.lines.ended
 
 abbrev pub decreases-loop-line : goal.decreases-loop-line

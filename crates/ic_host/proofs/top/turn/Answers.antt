@@ -1,4 +1,4 @@
-use Rattle.std.proofs.Common.{◌≡◌, ℕ, List, ap, sym, ◌∙◌, refl, inl, inr}
+use Rattle.std.proofs.Common.{◌≡◌, ap, sym, ◌∙◌, refl, inl}
 use Rattle.ic_outside.specs.declared.Line.{Line}
 use Rattle.ic_host.specs.AfterLine.{after_line}
 use Rattle.ic_host.proofs.top.turn.Goals as goal
@@ -11,5 +11,5 @@ returns-in-Err g c =
         (c.in-Ok.next, c.in-Ok.text),
         sym (ap (after_line c.args.options.now c.args.requests) line) ∙ c.in-Ok.ensures,
         c.in-Err.ensures.printed c.in-Ok.text refl,
-      )
+      );
     }

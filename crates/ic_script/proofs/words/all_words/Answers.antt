@@ -1,5 +1,4 @@
 use Rattle.std.proofs.Common.{rules, tests, lit<}
-
 use Rattle.std.proofs.lemmas.Iterator.Search.{all_from_yields_List}
 use Rattle.std.proofs.lemmas.Iterator.Splits.{YieldsList-from_str_split}
 use Rattle.ic_script.specs.Words.{words_of, is_word}

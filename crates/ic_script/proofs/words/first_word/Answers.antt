@@ -1,4 +1,4 @@
-use Rattle.std.proofs.Common.{◌≡◌, ◌<◌, length, lit<, Some, None, sym, ◌∙◌, false}
+use Rattle.std.proofs.Common.{lit<, Some, None, sym, ◌∙◌}
 use Rattle.std.specs.Prelude.{◌==◌}
 use Rattle.std.proofs.lemmas.Bool.{false_from_ne_true, eqb-true}
 use Rattle.std.proofs.lemmas.List.{get_or_default}
