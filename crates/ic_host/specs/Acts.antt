@@ -9,7 +9,7 @@ use Rattle.ic_script.specs.declared.LineError.TheVariants as error
 use Rattle.ic_host.specs.declared.status.Status.{Status}
 use Rattle.ic_host.specs.declared.status.Status.TheVariants.{Done, BadWords, BadLine, ReadFault, NoMemory}
 use Rattle.ic_host.specs.declared.requests.NotDone.{NotDone}
-use Rattle.ic_host.specs.declared.requests.NotDone.TheVariants as not
+use Rattle.ic_host.specs.declared.requests.NotDone.TheVariants as undone
 use Rattle.ic_host.specs.declared.options.Options.{Options}
 use Rattle.ic_host.specs.EndPart.{end_part}
 use Rattle.ic_host.specs.Out.{Output}
@@ -20,8 +20,8 @@ use Rattle.ic_host.specs.Texts.{usage_text, bad_text}
 -- a step gives what was said, unless memory was wanting
 abbrev pub Acts : Result (State × List ℕ) LineCause → Result (State × List ℕ) NotDone → Type 0
 Acts said (Ok done) = said ≡ Ok done
-Acts said (Err (not.Bad cause)) = said ≡ Err cause
-Acts said (Err not.NoMemory) = Unit {0}
+Acts said (Err (undone.Bad cause)) = said ≡ Err cause
+Acts said (Err undone.NoMemory) = Unit {0}
 
 -- what is printed of a bad line, and the status
 abbrev pub bad_output : ℕ → LineCause → Output
@@ -57,7 +57,7 @@ Stops old new fault.NoMemory status = (status ≡ NoMemory) × (new ≡ old)
 
 -- what the reader's error means here
 abbrev pub not_done : LineError → NotDone
-not_done error.Form = not.Bad cause.Form
-not_done error.Principal = not.Bad cause.Principal
-not_done error.Hex = not.Bad cause.Hex
-not_done error.NoMemory = not.NoMemory
+not_done error.Form = undone.Bad cause.Form
+not_done error.Principal = undone.Bad cause.Principal
+not_done error.Hex = undone.Bad cause.Hex
+not_done error.NoMemory = undone.NoMemory
