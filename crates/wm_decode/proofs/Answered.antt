@@ -43,8 +43,8 @@ is_module float m bytes p = record {
 }
 
 -- the module that was read is the one that the bytes spell
-pub only_one : (m n : Module) (bytes : List ℕ) → module_at false bytes ≡ Some m → Mod false n bytes → m ≡ n
-only_one m n bytes read p = some_is m n (sym read ∙ module_again false n bytes p)
+pub only_one : (float : Bool) (m n : Module) (bytes : List ℕ) → module_at float bytes ≡ Some m → Mod float n bytes → m ≡ n
+only_one float m n bytes read p = some_is m n (sym read ∙ module_again float n bytes p)
 
 -- nothing is read, so the bytes spell no module
 pub none_spelled : (float : Bool) (bytes : List ℕ) → module_at float bytes ≡ None → HasModule float bytes → ⊥

@@ -25,52 +25,32 @@ const LARGEST: usize = 2_097_152;
 fn module_of(alloc: Global, profile: Profile, sections: &[Section]) -> Result<Module, ReadError>
     ensures { Gives (λ m. m) result (module_in profile.float sections.now) }
 {
-    let types = FuncTypes {
-        items: list_of(alloc, &profile, sections, 1)?,
-    };
-    let imports = Imports {
-        items: list_of(alloc, &profile, sections, 2)?,
-    };
-    let functions = Indices {
-        items: list_of(alloc, &profile, sections, 3)?,
-    };
-    let tables = LimitsList {
-        items: list_of(alloc, &InTable, sections, 4)?,
-    };
-    let memories = LimitsList {
-        items: list_of(alloc, &profile, sections, 5)?,
-    };
-    let globals = GlobalDefs {
-        items: list_of(alloc, &profile, sections, 6)?,
-    };
-    let exports = Exports {
-        items: list_of(alloc, &profile, sections, 7)?,
-    };
+    let types = list_of(alloc, &profile, sections, 1)?;
+    let imports = list_of(alloc, &profile, sections, 2)?;
+    let functions = list_of(alloc, &profile, sections, 3)?;
+    let tables = list_of(alloc, &InTable, sections, 4)?;
+    let memories = list_of(alloc, &profile, sections, 5)?;
+    let globals = list_of(alloc, &profile, sections, 6)?;
+    let exports = list_of(alloc, &profile, sections, 7)?;
     let start = start_of(sections)?;
-    let elements = Elements {
-        items: list_of(alloc, &profile, sections, 9)?,
-    };
-    let codes = FuncCodes {
-        items: list_of(alloc, &profile, sections, 10)?,
-    };
-    let segments = Segments {
-        items: list_of(alloc, &profile, sections, 11)?,
-    };
-    if functions.items.len() != codes.items.len() {
+    let elements = list_of(alloc, &profile, sections, 9)?;
+    let codes = list_of(alloc, &profile, sections, 10)?;
+    let segments = list_of(alloc, &profile, sections, 11)?;
+    if functions.len() != codes.len() {
         return Err(ReadError::Refused);
     }
     Ok(Module {
-        types,
-        imports,
-        functions,
-        tables,
-        memories,
-        globals,
-        exports,
+        types: FuncTypes { items: types },
+        imports: Imports { items: imports },
+        functions: Indices { items: functions },
+        tables: LimitsList { items: tables },
+        memories: LimitsList { items: memories },
+        globals: GlobalDefs { items: globals },
+        exports: Exports { items: exports },
         start,
-        elements,
-        codes,
-        segments,
+        elements: Elements { items: elements },
+        codes: FuncCodes { items: codes },
+        segments: Segments { items: segments },
     })
 }
 

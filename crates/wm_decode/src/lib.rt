@@ -11,6 +11,7 @@ mod exprs;
 mod fault;
 mod floats;
 mod items;
+mod laws;
 mod opcodes;
 mod profile;
 mod sections;
@@ -20,6 +21,7 @@ mod words;
 
 pub use answer::decode;
 pub use fault::ModuleFault;
+pub use laws::one_module;
 
 #[cfg(test)]
 mod tests;

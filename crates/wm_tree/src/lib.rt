@@ -25,3 +25,6 @@ pub use parts::{
     Import, ImportKind, Imports, Module, Run, Runs, Segment, Segments,
 };
 pub use types::{FuncType, FuncTypes, GlobalType, Limits, LimitsList, MemArg, ValType, ValTypes};
+
+#[cfg(test)]
+mod tests;

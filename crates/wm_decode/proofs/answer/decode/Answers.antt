@@ -7,7 +7,7 @@ pub returns-in-Ok-clause-found : goal.returns-in-Ok-clause-found
 returns-in-Ok-clause-found c = ((c.if-bytes-gt-LARGEST.false, c.if-is_compressed.ensures), module_takes false c.in-Ok.m c.args.bytes.now c.in-Ok.ensures)
 
 pub returns-in-Ok-clause-only : goal.returns-in-Ok-clause-only
-returns-in-Ok-clause-only c = λ m plain p. only_one c.in-Ok.m m c.args.bytes.now c.in-Ok.ensures p
+returns-in-Ok-clause-only c = λ m plain p. only_one false c.in-Ok.m m c.args.bytes.now c.in-Ok.ensures p
 
 pub returns-in-Ok-clause-sound : goal.returns-in-Ok-clause-sound
 returns-in-Ok-clause-sound c = is_module false c.in-Ok.m c.args.bytes.now (module_takes false c.in-Ok.m c.args.bytes.now c.in-Ok.ensures)
