@@ -5,3 +5,4 @@ pub mod Fixed
 pub mod PlainLaws
 pub mod ValueTakes
 pub mod ValueAgain
+pub mod CodeLaws

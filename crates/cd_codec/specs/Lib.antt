@@ -8,3 +8,6 @@ pub mod AreValues
 pub mod ReadPlain
 pub mod ReadValue
 pub mod Answers
+pub mod Codes
+pub mod Header
+pub mod ReadHeader

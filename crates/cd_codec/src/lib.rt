@@ -1,9 +1,12 @@
 //! Candid messages
 #![tactic(auto)]
 
+mod codes;
 mod fault;
 mod header;
+mod lists;
 mod plain;
+mod read_header;
 mod reading;
 mod value;
 
