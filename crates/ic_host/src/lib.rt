@@ -11,6 +11,8 @@ mod options;
 mod printing;
 mod requests;
 mod status;
+#[cfg(test)]
+mod tests;
 mod texts;
 mod top;
 
