@@ -36,7 +36,7 @@ keep_test : (P : ℕ → Type 0) (inside fits : Bool) (place : ℕ) (found out :
 keep_test P true fits place found out e holds all = subst (AllByRecursion P) (some_same _ _ e) (all_push P found place all (holds refl))
 keep_test P false fits place found out e holds all = keep_verdict P fits found out e all
 
-keep_part : (P : ℕ → Type 0) (lower upper : List Entry) (turned : Bool) → EachPair P lower upper turned
+pub keep_part : (P : ℕ → Type 0) (lower upper : List Entry) (turned : Bool) → EachPair P lower upper turned
     → (a b : TyRef) (found out : List ℕ) → part_at lower upper turned a b found ≡ Some out → AllByRecursion P found → AllByRecursion P out
 keep_part P lower upper turned each (Index i) (Index j) found out e all =
     keep_test P (nat_lt i (length lower) && nat_lt j (length upper)) _ (place_of lower upper turned i j) found out e

@@ -6,3 +6,4 @@ mod RuleLemmas
 mod KeepLemmas
 mod PlaceLemmas
 mod SearchLemmas
+mod DecidedLemmas

@@ -118,7 +118,7 @@ dangling_right (compound x) = refl
 dangling_right dangling = refl
 
 -- a pair that is not inside the tables is none of two entries
-outside : (lower upper : List Entry) (i j : ℕ) (x y : Option Entry) → slice_get lower i ≡ x → slice_get upper j ≡ y
+pub outside : (lower upper : List Entry) (i j : ℕ) (x y : Option Entry) → slice_get lower i ≡ x → slice_get upper j ≡ y
     → (nat_lt i (length lower) && nat_lt j (length upper)) ≡ false → both_compound (shape lower (Index i)) (shape upper (Index j)) ≡ false
 outside lower upper i j None y e f past_end = ap (λ o. both_compound (entry_shape o) (shape upper (Index j))) e
 outside lower upper i j (Some x) None e f past_end = ap (λ o. both_compound (shape lower (Index i)) (entry_shape o)) f ∙ dangling_right (shape lower (Index i))
@@ -155,17 +155,17 @@ flat_down n lower upper a b not_both holds = part_free_down _ _ lower upper (sha
 pub straight_up : (n : ℕ) (first second : List Entry) → Up (PlaceSubAt n first second) first second false (λ a b. SubAt n first a second b)
 straight_up n first second = part_up _ first second false _ (straight_to n first second) (flat_up n first second)
 
-turned_up : (n : ℕ) (first second : List Entry) → Up (PlaceSubAt n first second) second first true (λ a b. SubAt n second a first b)
+pub turned_up : (n : ℕ) (first second : List Entry) → Up (PlaceSubAt n first second) second first true (λ a b. SubAt n second a first b)
 turned_up n first second = part_up _ second first true _ (turned_to n first second) (flat_up n second first)
 
 pub straight_down : (n : ℕ) (first second : List Entry) → Down (PlaceSubAt (suc n) first second) first second false (λ a b. SubAt (suc n) first a second b)
 straight_down n first second = part_down _ first second false _ (straight_from (suc n) first second) (flat_down n first second)
 
-turned_down : (n : ℕ) (first second : List Entry) → Down (PlaceSubAt (suc n) first second) second first true (λ a b. SubAt (suc n) second a first b)
+pub turned_down : (n : ℕ) (first second : List Entry) → Down (PlaceSubAt (suc n) first second) second first true (λ a b. SubAt (suc n) second a first b)
 turned_down n first second = part_down _ second first true _ (turned_from (suc n) first second) (flat_down n second first)
 
 -- entries that were looked up
-looked_up : (P : ℕ → Type 0) (lower upper : List Entry) (turned : Bool) (R Back : TyRef → TyRef → Type 0) → Up P lower upper turned R → Up P upper lower (not turned) Back
+pub looked_up : (P : ℕ → Type 0) (lower upper : List Entry) (turned : Bool) (R Back : TyRef → TyRef → Type 0) → Up P lower upper turned R → Up P upper lower (not turned) Back
     → (x y : Option Entry) (out : List ℕ) → looked_up_parts lower upper turned x y ≡ Some out → AllByRecursion P out → Rule R Back lower upper (entry_shape x) (entry_shape y)
 looked_up P lower upper turned R Back up back None y out e all = cc
 looked_up P lower upper turned R Back up back (Some x) None out e all = cc
@@ -194,7 +194,7 @@ column_in m zero number inside = absurd (omega (arith, mul_comm m zero))
 column_in m (suc n) number inside = mod-lt number (omega arith)
 
 -- a pair of entries of the tables that holds leaves parts that hold, one depth up
-looked_down : (P : ℕ → Type 0) (lower upper : List Entry) (turned : Bool) (R Back : TyRef → TyRef → Type 0) → Down P lower upper turned R → Down P upper lower (not turned) Back
+pub looked_down : (P : ℕ → Type 0) (lower upper : List Entry) (turned : Bool) (R Back : TyRef → TyRef → Type 0) → Down P lower upper turned R → Down P upper lower (not turned) Back
     → (i j : ℕ) → i < length lower → j < length upper → Rule R Back lower upper (shape lower (Index i)) (shape upper (Index j))
     → Found P (looked_up_parts lower upper turned (slice_get lower i) (slice_get upper j))
 looked_down P lower upper turned R Back down back i j row column rule =
@@ -226,7 +226,7 @@ none_at_zero first second true place = tt
 none_at_zero first second false place = tt
 
 -- what holds of all at each depth
-all_depths : (P : ℕ → ℕ → Type 0) (places : List ℕ) → ((n : ℕ) → AllByRecursion (P n) places) → AllByRecursion (λ place. (n : ℕ) → P n place) places
+pub all_depths : (P : ℕ → ℕ → Type 0) (places : List ℕ) → ((n : ℕ) → AllByRecursion (P n) places) → AllByRecursion (λ place. (n : ℕ) → P n place) places
 all_depths P [] all = tt
 all_depths P (place ∷ places) all = (λ n. (all n).0, all_depths P places (λ n. (all n).1))
 
@@ -240,7 +240,7 @@ at_depth P parts out is start all zero = each (P zero) start out
 at_depth P parts out is start all (suc n) = subst (AllByRecursion (P (suc n))) (some_same _ _ (sym (all n).1 ∙ is)) (all n).2
 
 -- parts that are found at each depth are found at all of them
-found_at_all : (P : ℕ → ℕ → Type 0) (parts : Option (List ℕ)) → ((place : ℕ) → P zero place) → ((n : ℕ) → Found (P (suc n)) parts)
+pub found_at_all : (P : ℕ → ℕ → Type 0) (parts : Option (List ℕ)) → ((place : ℕ) → P zero place) → ((n : ℕ) → Found (P (suc n)) parts)
     → Found (λ place. (n : ℕ) → P n place) parts
 found_at_all P parts start all = ((all zero).0, (all zero).1, all_depths P (all zero).0 (at_depth P parts (all zero).0 (all zero).1 start all))
 
@@ -252,7 +252,7 @@ place_down first second place inside holds =
     (λ n. place_down_at n first second place inside (holds (suc (suc n))))
 
 -- every part is the place of a pair of entries
-each_straight : (first second : List Entry) → EachPair (λ place. place < 2 * (length first * length second)) first second false
+pub each_straight : (first second : List Entry) → EachPair (λ place. place < 2 * (length first * length second)) first second false
 each_straight first second i j row column =
     omega (arith, mul-add-lt i (length second) j (length first) row column, mul_comm (length first) (length second))
 

@@ -8,3 +8,4 @@ pub mod Pairs
 pub mod Rising
 pub mod Marks
 pub mod IsPrimitive
+pub mod Below

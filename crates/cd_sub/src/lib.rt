@@ -2,6 +2,7 @@
 #![tactic(auto)]
 
 mod labels;
+pub mod laws;
 mod part_free;
 mod parts;
 mod search;

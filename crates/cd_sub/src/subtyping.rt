@@ -2,6 +2,7 @@ ghost use Rattle.std.specs.Prelude.{◌≡◌, ◌↔◌, ◌⊎◌, ◌<◌, If
 ghost use Rattle.cd_types.specs.declared.entry.TyRef.TheVariants.{Index};
 ghost use Rattle.cd_types.specs.IsInside.{is_inside};
 ghost use Rattle.cd_sub.specs.Sub.{Sub};
+ghost use Rattle.cd_sub.specs.Below.{below};
 ghost use Rattle.cd_sub.specs.IsPrimitive.{IsPrimitive};
 
 use crate::part_free::is_part_free_subtype;
@@ -13,7 +14,7 @@ use std::alloc::Global;
 use std::marker::Model;
 
 /// Answers whether types of one table are subtypes of types of another, and keeps what it finds
-/// out: asking many questions takes no longer than asking the longest one a few times.
+/// out: a pair of entries that was decided is looked up. Contracts see the two tables.
 #[derive(Drop)]
 pub struct Subtyping<'a> {
     alloc: Global,
@@ -54,6 +55,7 @@ impl<'a> Subtyping<'a> {
         requires b { IsTrue (is_inside (length self.old.1) b) }
         ensures tables { self.new ≡ self.old }
         ensures answer { IfOk result (λ yes. IsTrue yes ↔ Sub self.old.0 a self.old.1 b) }
+        ensures test { IfOk result (λ yes. yes ≡ below self.old.0 a self.old.1 b) }
         ensures answers { IsPrimitive a ⊎ IsPrimitive b → IsOk result }
     {
         match (a, b) {
