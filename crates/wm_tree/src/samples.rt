@@ -20,11 +20,7 @@ const WHOLE: MemArg = MemArg {
     offset: 0,
 };
 
-fn func_type(
-    alloc: Global,
-    params: &[ValType],
-    results: &[ValType],
-) -> Result<FuncType, NoMemory>
+fn func_type(alloc: Global, params: &[ValType], results: &[ValType]) -> Result<FuncType, NoMemory>
     ensures { IfOk result (λ t. t ≡ func_type params.now results.now) }
 {
     Ok(FuncType {
@@ -179,11 +175,7 @@ fn returns_reply(alloc: Global) -> Result<Vec<Instr>, NoMemory>
 fn returns_reject(alloc: Global) -> Result<Vec<Instr>, NoMemory>
     ensures { IfOk result (λ words. words.items ≡ returns_reject) }
 {
-    let words = vec![in alloc;
-        Instr::I32Const(0),
-        Instr::I32Const(5),
-        Instr::Call(4),
-    ]?;
+    let words = vec![in alloc; Instr::I32Const(0), Instr::I32Const(5), Instr::Call(4)]?;
     Ok(words)
 }
 
@@ -205,7 +197,6 @@ fn method(alloc: Global) -> Result<FuncCode, NoMemory>
         body: Instrs { items },
     })
 }
-
 
 // A function without locals beside its parameter.
 fn callback(alloc: Global, items: Vec<Instr>) -> Result<FuncCode, NoMemory>

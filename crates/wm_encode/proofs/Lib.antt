@@ -1,0 +1,7 @@
+pub mod Lists
+pub mod ReadFits
+pub mod Sections
+pub mod Shortest
+pub mod Sizes
+pub mod Spelled
+pub mod Whole

@@ -1,0 +1,20 @@
+//! Writing WebAssembly modules (Core 1.0, chapter 5).
+//!
+//! A module is written without custom sections and without empty ones, each number in its shortest
+//! spelling: the bytes are a function of the module (`specs/Whole`). They are in the binary grammar
+//! that `wm_decode` reads, so what is written is read back, and what was read can be written.
+#![tactic(auto)]
+
+mod instr;
+mod item;
+mod laws;
+mod number;
+mod part;
+mod types;
+mod writer;
+
+pub use laws::{read_back, read_fits};
+pub use writer::encode;
+
+#[cfg(test)]
+mod tests;
