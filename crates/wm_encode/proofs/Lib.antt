@@ -1,5 +1,6 @@
 pub mod Lists
 pub mod ReadFits
+pub mod Relay
 pub mod Sections
 pub mod Shortest
 pub mod Sizes

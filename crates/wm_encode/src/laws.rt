@@ -1,5 +1,6 @@
 ghost use Rattle.std.specs.Prelude.{◌≡◌, ◌≤◌, false, length, MatchResult};
 ghost use Rattle.wm_tree.specs.IsModule.{IsModule};
+ghost use Rattle.wm_tree.specs.Relay.{relay};
 ghost use Rattle.wm_decode.specs.Answer.{largest};
 ghost use Rattle.wm_decode.specs.Mod.{Mod};
 ghost use Rattle.wm_decode.specs.declared.fault.ModuleFault.TheVariants as fault;
@@ -28,4 +29,10 @@ pub fn read_fits(bytes: &[u8], module: &Module)
     requires spelled { Mod false «module».now bytes.now }
     requires kept { IsModule «module».now }
     ensures { Fits «module».now }
+{}
+
+/// The relay module can be written and read back. It is a law, and does nothing when it is called.
+pub fn relay_fits()
+    ensures fits { Fits relay }
+    ensures small { length (whole relay) ≤ largest }
 {}

@@ -13,7 +13,7 @@ mod part;
 mod types;
 mod writer;
 
-pub use laws::{read_back, read_fits};
+pub use laws::{read_back, read_fits, relay_fits};
 pub use writer::encode;
 
 #[cfg(test)]
