@@ -71,7 +71,12 @@ const RUNS: [(&[&str], &str, &str, Status); 13] = [
             cause: LineCause::Form,
         },
     ),
-    (&["replica", "x"], "state\n", "usage: replica\n", Status::BadWords),
+    (
+        &["replica", "x"],
+        "state\n",
+        "usage: replica\n",
+        Status::BadWords,
+    ),
     (&["replica", ""], "", "usage: replica\n", Status::BadWords),
 ];
 
@@ -81,11 +86,27 @@ const CALL: &str = "call 2vxsx-fae rwlgt-iiaaa-aaaaa-aaaaa-cai hello -\n";
 // that fail, the sink's room, what it took, and the status.
 const FAILING: [(usize, usize, &[u64], &[u64], usize, &str, Status); 6] = [
     (60, 100, &[2], &[], 1000, "accepted 0\n", Status::ReadFault),
-    (60, 100, &[3], &[], 1000, "accepted 0\naccepted 1\n", Status::ReadFault),
+    (
+        60,
+        100,
+        &[3],
+        &[],
+        1000,
+        "accepted 0\naccepted 1\n",
+        Status::ReadFault,
+    ),
     (60, 100, &[1], &[], 1000, "", Status::ReadFault),
     (60, 1, &[], &[11], 1000, "accepted 0", Status::WriteFault),
     (60, 100, &[], &[], 9, "accepted ", Status::WriteFault),
-    (60, 100, &[], &[3], 1000, "accepted 0\naccepted 1\n", Status::WriteFault),
+    (
+        60,
+        100,
+        &[],
+        &[3],
+        1000,
+        "accepted 0\naccepted 1\n",
+        Status::WriteFault,
+    ),
 ];
 
 // What a run printed, and its status.
@@ -104,7 +125,11 @@ fn run<R: Abort + Threads + Sync>(
     for word in words {
         given.push(String::from_str(alloc, word)?)?;
     }
-    let mut source = MemorySource::new(Vec::from_slice(alloc, script)?, read, Vec::from_slice(alloc, failing.0)?);
+    let mut source = MemorySource::new(
+        Vec::from_slice(alloc, script)?,
+        read,
+        Vec::from_slice(alloc, failing.0)?,
+    );
     let mut sink = MemorySink::new(alloc, room, written, Vec::from_slice(alloc, failing.1)?)?;
     let status = replica(alloc, rt, &given, &mut source, &mut sink, &OpenGate);
     Ok((Vec::from_slice(alloc, sink.taken())?, status))
@@ -114,7 +139,15 @@ fn run<R: Abort + Threads + Sync>(
 fn runs(rt: HostRuntime) -> Result<(), Fail> {
     for (words, script, printed, status) in RUNS {
         for pieces in [(1, 1), (7, 7), (65_536, 65_536)] {
-            let got = run(&rt, rt.alloc(), words, script.as_bytes(), pieces, (&[], &[]), 1000)?;
+            let got = run(
+                &rt,
+                rt.alloc(),
+                words,
+                script.as_bytes(),
+                pieces,
+                (&[], &[]),
+                1000,
+            )?;
             assert_eq!(rt; got.0.as_slice(), printed.as_bytes(), "{script}");
             assert_eq!(rt; got.1, status, "{script}");
         }
@@ -126,7 +159,15 @@ fn runs(rt: HostRuntime) -> Result<(), Fail> {
 fn failing_streams(rt: HostRuntime) -> Result<(), Fail> {
     let script = format!(in rt.alloc(); "{CALL}{CALL}")?;
     for (read, written, reads, writes, room, printed, status) in FAILING {
-        let got = run(&rt, rt.alloc(), &["replica"], script.as_bytes(), (read, written), (reads, writes), room)?;
+        let got = run(
+            &rt,
+            rt.alloc(),
+            &["replica"],
+            script.as_bytes(),
+            (read, written),
+            (reads, writes),
+            room,
+        )?;
         assert_eq!(rt; got.0.as_slice(), printed.as_bytes(), "{printed}");
         assert_eq!(rt; got.1, status, "{printed}");
     }

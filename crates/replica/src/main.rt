@@ -6,9 +6,8 @@
 use ic_host::{Status, replica};
 use ic_outside::{OpenGate, StdSink, StdSource};
 use std::alloc::AllocError;
-use std::env;
-use std::io;
 use std::process::ExitCode;
+use std::{env, io};
 
 fn main(rt: HostRuntime) -> ExitCode {
     let status = match words(&rt) {
