@@ -1,4 +1,4 @@
--- Which bytes spell a header (Candid specification, "Binary Format", T, I and "Type Table").
+-- Which bytes spell a header (Candid specification, "Binary Format", B, T and I).
 use Rattle.std.specs.Prelude.{◌≡◌, ℕ, ℤ, ◌^◌, Bool, true, List, [], ◌∷◌, ◌++◌, length, Some, nat_lt, nat_le}
 use Rattle.std.specs.List.{list_all}
 use Rattle.ic_base.specs.Spelling.{SpellsBoth, SpellsVec}

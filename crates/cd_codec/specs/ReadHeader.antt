@@ -1,4 +1,4 @@
--- A header, read from the front of the bytes.
+-- Reading what IsHeader spells, from the front of the bytes.
 use Rattle.std.specs.Prelude.{ℕ, ◌^◌, Bool, List, length, take, drop, Option, Some, None, nat_lt, nat_le, if◌then◌else◌}
 use Rattle.std.specs.Str.{bytes_eq}
 use Rattle.ic_base.specs.Reader.{Reader, ◌>>=◌, both_at, map_at, filter_at, filter_map_at, vec_at}

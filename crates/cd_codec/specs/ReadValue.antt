@@ -1,4 +1,4 @@
--- Values read from the front of the bytes: within a depth, and with so many values allowed.
+-- Reading what Wire spells, from the front of the bytes: within a depth, and with so many values allowed.
 use Rattle.std.specs.Prelude.{ℕ, zero, suc, Bool, true, false, List, [], ◌∷◌, Option, Some, None, slice_get}
 use Rattle.ic_base.specs.Reader.{Reader, ◌>>=◌}
 use Rattle.ic_leb.specs.declared.width.Width.TheVariants.{Candid}

@@ -1,4 +1,4 @@
--- The content of a value of the program.
+-- The content of a value of the program (Candid specification, "Values").
 use Rattle.std.specs.Prelude.{ℕ, List, map, Some, None}
 use Rattle.cd_codec.specs.declared.value.Value.{Value}
 use Rattle.cd_codec.specs.declared.value.Value.TheFolds.{fold-Value}

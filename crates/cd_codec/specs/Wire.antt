@@ -1,4 +1,4 @@
--- Which bytes spell a value at a type (Candid specification, "Binary Format", M and T).
+-- Which bytes spell a value at a type (Candid specification, "Binary Format", M).
 use Rattle.std.specs.Prelude.{◌≡◌, ℕ, Bool, true, false, List, [], ◌∷◌, ◌++◌, Some, slice_get}
 use Rattle.cd_types.specs.declared.primitive.Primitive.TheVariants.{Nat8}
 use Rattle.cd_types.specs.declared.entry.TyRef.{TyRef}
