@@ -6,3 +6,5 @@ pub mod PlainLaws
 pub mod ValueTakes
 pub mod ValueAgain
 pub mod CodeLaws
+pub mod HeaderLaws
+pub mod HeaderAnswers

@@ -1,14 +1,13 @@
 -- Values without parts are read exactly.
-use Rattle.std.proofs.Common.{◌≡◌, ℕ, zero, suc, ◌≤◌, Bool, true, false, List, [], ◌∷◌, ◌++◌, length, Option, Some, None, refl, sym, ap, subst, ◌∙◌, append_assoc, arith}
-use Rattle.std.specs.Prelude.{ℤ, nat_le}
+use Rattle.std.proofs.Common.{◌≡◌, ℕ, zero, suc, ◌≤◌, Bool, true, false, List, [], ◌∷◌, ◌++◌, length, Some, refl, sym, ap, subst, ◌∙◌, append_assoc}
 use Rattle.std.specs.Int.{w8, w16, w32, w64}
 use Rattle.std.specs.Str.{is_utf8}
 use Rattle.std.proofs.lemmas.Bool.{leb-true, le-leb}
-use Rattle.ic_base.specs.Reader.{Reader, ◌>>=◌, empty_at, byte_at, bytes_at, both_at, map_at, filter_map_at, filter_at}
+use Rattle.ic_base.specs.Reader.{Reader, empty_at, byte_at, bytes_at, both_at, map_at, filter_map_at, filter_at}
 use Rattle.ic_base.specs.Spelling.{Spelling, SpellsBoth}
 use Rattle.ic_base.specs.Exact.{Exact}
 use Rattle.ic_base.proofs.Steps.{bind_some, some_is}
-use Rattle.ic_base.proofs.Exact.{Takes, exact_of, taken, reworded, empty_exact, byte_exact, bytes_exact, both_exact, map_exact, filter_map_exact, filter_exact}
+use Rattle.ic_base.proofs.Exact.{Takes, exact_of, taken, reworded, byte_exact, bytes_exact, both_exact, filter_map_exact, filter_exact}
 use Rattle.ic_leb.specs.declared.width.Width.TheVariants.{Candid}
 use Rattle.ic_leb.specs.Spells.{SpellsUnsigned, SpellsSigned}
 use Rattle.ic_leb.specs.Reading.{unsigned_reader, signed_reader}
@@ -16,7 +15,7 @@ use Rattle.ic_leb.proofs.Readers.{unsigned_exact, signed_exact}
 use Rattle.cd_types.specs.declared.primitive.Primitive.{Primitive}
 use Rattle.cd_types.specs.declared.primitive.Primitive.TheVariants as primitives
 use Rattle.cd_types.specs.declared.entry.Entry.{Entry}
-use Rattle.cd_types.specs.Shape.{Shape, primitive, compound}
+use Rattle.cd_types.specs.Shape.{primitive, compound}
 use Rattle.cd_codec.specs.Content.{Plain, null, bool, nat, int, nat8, nat16, nat32, nat64, int8, int16, int32, int64, text, reserved, func, service, principal}
 use Rattle.cd_codec.specs.Basic.{SpellsNatural, SpellsInteger, SpellsCounted, SpellsText, SpellsTagged, SpellsPrincipal, SpellsFunc}
 use Rattle.cd_codec.specs.Plain.{HasShape, bool_byte, SpellsPlain}

@@ -1,5 +1,5 @@
 -- What a well formed table says of its entries.
-use Rattle.std.proofs.Common.{◌≡◌, ℕ, zero, suc, ◌+◌, ◌≤◌, ◌^◌, Bool, true, false, List, [], ◌∷◌, length, map, Option, Some, None, ◌<◌, ◌-◌, refl, arith}
+use Rattle.std.proofs.Common.{◌≡◌, ℕ, zero, suc, ◌+◌, ◌≤◌, ◌^◌, Bool, true, false, List, [], ◌∷◌, length, map, Some, ◌<◌, ◌-◌, refl, arith}
 use Rattle.std.proofs.lemmas.List.{length-map}
 use Rattle.std.specs.Prelude.{IsTrue, nat_lt, nat_le, ◌&&◌, slice_get}
 use Rattle.std.specs.List.{list_all}
@@ -7,7 +7,6 @@ use Rattle.std.proofs.lemmas.Bool.{leb-true, ltb-true}
 use Rattle.ic_base.proofs.Steps.{some_is}
 use Rattle.cd_types.specs.declared.entry.TyRef.{TyRef}
 use Rattle.cd_types.specs.declared.entry.TyRef.TheVariants.{Index}
-use Rattle.cd_types.specs.Shape.{shape}
 use Rattle.cd_codec.specs.ReadValue.{entry_at, value_at}
 use Rattle.cd_types.specs.declared.entry.Entry.{Entry}
 use Rattle.cd_types.specs.IsOrdered.{ids_rise_from, is_ordered}

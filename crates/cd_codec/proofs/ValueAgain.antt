@@ -1,13 +1,12 @@
 -- What is spelled so is read, whatever follows.
-use Rattle.std.proofs.Common.{◌≡◌, ℕ, zero, suc, ◌+◌, ◌-◌, ◌<◌, ◌≤◌, Bool, true, false, List, [], ◌∷◌, ◌++◌, Option, Some, None, refl, sym, ap, subst, ◌∙◌, append_assoc, arith}
-use Rattle.std.specs.Prelude.{max, slice_get}
+use Rattle.std.proofs.Common.{◌≡◌, ℕ, zero, suc, ◌+◌, ◌-◌, ◌<◌, ◌≤◌, List, [], ◌∷◌, ◌++◌, Option, Some, None, refl, sym, ap, ◌∙◌, append_assoc, arith}
+use Rattle.std.specs.Prelude.{max}
 use Rattle.std.proofs.lemmas.List.{append-nil, append_cancel_right}
-use Rattle.ic_base.specs.Reader.{Reader, ◌>>=◌}
+use Rattle.ic_base.specs.Reader.{Reader}
 use Rattle.ic_base.specs.Spelling.{Spelling}
 use Rattle.ic_base.specs.Exact.{Exact}
 use Rattle.ic_base.proofs.Steps.{some_is}
 use Rattle.ic_leb.specs.declared.width.Width.TheVariants.{Candid}
-use Rattle.ic_leb.specs.Reading.{unsigned_reader}
 use Rattle.ic_leb.proofs.Readers.{unsigned_exact}
 use Rattle.cd_types.specs.declared.entry.TyRef.{TyRef}
 use Rattle.cd_types.specs.declared.entry.Entry.{Entry}
@@ -17,10 +16,10 @@ use Rattle.cd_codec.specs.Content.{Content, Plain, null, bool, nat, int, nat8, n
 use Rattle.cd_codec.specs.Measure.{nesting, nesting_all, nesting_parts, nesting_each, number, number_all, number_parts, number_each}
 use Rattle.cd_codec.specs.Basic.{SpellsCounted, SpellsPrincipal, SpellsFunc}
 use Rattle.cd_codec.specs.Plain.{HasShape, SpellsPlain}
-use Rattle.cd_codec.specs.Wire.{is_nat8, Wire, WireAll, WireParts}
+use Rattle.cd_codec.specs.Wire.{Wire, WireAll, WireParts}
 use Rattle.cd_codec.specs.AreValues.{WireEach, AreValues}
 use Rattle.cd_codec.specs.ReadPlain.{counted_at, principal_at, func_at, primitive_at}
-use Rattle.cd_codec.specs.ReadValue.{Budgeted, alone, then_make, opt_at, items_at, seq_at, each_at, field_at, record_at, case_at, variant_at, entry_at, shape_at, value_at, all_read, values_at}
+use Rattle.cd_codec.specs.ReadValue.{Budgeted, alone, then_make, opt_at, items_at, seq_at, each_at, field_at, record_at, variant_at, entry_at, shape_at, value_at, values_at}
 use Rattle.cd_codec.proofs.PlainLaws.{counted_exact, principal_exact, func_exact, primitive_exact}
 
 -- the list that a list of values is made of
@@ -114,6 +113,7 @@ plain_again v (compound entry) read n left front rest e h spelled = compound_aga
 
 mutual
   unfolding entry_at opt_at seq_at items_at record_at each_at variant_at items_in parts_in
+
   -- a value is read again
   pub value_again : (v : Content) (table : List Entry) (type : TyRef) (depth n left : ℕ) (front rest : List ℕ) → Wire table type v front → nesting v ≤ depth → number v + left ≡ n
       → value_at table depth type n (front ++ rest) ≡ Some (v, left, rest)
@@ -131,14 +131,14 @@ mutual
   value_again (list vs) table type depth n left front rest w deep many =
       opened table depth type n (front ++ rest) (compound (Seq w.0)) (omega arith) (omega arith) w.1
       ∙ rw (w.2, w.5, append_assoc w.3 w.4 rest, (unsigned_exact Candid).again (count_of vs) w.3 (w.4 ++ rest) w.6)
-        (ap (then_make (λ us. list (contents_of us))) (items_again vs table w.0 (depth - 1) (n - 1) left w.4 rest w.7 (omega arith) (omega arith)) ∙ ap (λ us. Some (list us, left, rest)) (contents_in vs))
+      (ap (then_make (λ us. list (contents_of us))) (items_again vs table w.0 (depth - 1) (n - 1) left w.4 rest w.7 (omega arith) (omega arith)) ∙ ap (λ us. Some (list us, left, rest)) (contents_in vs))
   value_again (record_of ps) table type depth n left front rest w deep many =
       opened table depth type n (front ++ rest) (compound (Rec w.0)) (omega arith) (omega arith) w.1
       ∙ ap (then_make (λ qs. record_of (parts_of qs))) (parts_again ps table w.0 (depth - 1) (n - 1) left front rest w.2 (omega arith) (omega arith)) ∙ ap (λ qs. Some (record_of qs, left, rest)) (parts_made ps)
   value_again (variant i v) table type depth n left front rest w deep many =
       opened table depth type n (front ++ rest) (compound (Var w.0)) (omega arith) (omega arith) w.1
       ∙ rw (w.6, append_assoc w.4 w.5 rest, (unsigned_exact Candid).again i w.4 (w.5 ++ rest) w.7, w.3)
-        (ap (then_make (λ u. variant i u)) (value_again v table w.2.1 (depth - 1) (n - 1) left w.5 rest w.8 (omega arith) (omega arith)))
+      (ap (then_make (λ u. variant i u)) (value_again v table w.2.1 (depth - 1) (n - 1) left w.5 rest w.8 (omega arith) (omega arith)))
 
   items_again : (vs : Contents) (table : List Entry) (item : TyRef) (depth n left : ℕ) (front rest : List ℕ) → WireAll table item vs front → nesting_all vs ≤ depth → number_all vs + left ≡ n
       → items_at (value_at table depth item) (count_of vs) n (front ++ rest) ≡ Some (items_in vs, left, rest)
@@ -168,7 +168,7 @@ pub values_again : (table : List Entry) (types : List TyRef) (vs : List Content)
 unfolding values_at
 values_again table types vs bytes are =
     let read : each_at (value_at table 128) types 1000000 bytes ≡ Some (vs, 1000000 - number_each vs, []) =
-      ap (each_at (value_at table 128) types 1000000) (sym (append-nil bytes)) ∙ each_again vs table types 128 1000000 (1000000 - number_each vs) bytes [] are.spelled are.deep (omega (arith, are.many)) in
+    ap (each_at (value_at table 128) types 1000000) (sym (append-nil bytes)) ∙ each_again vs table types 128 1000000 (1000000 - number_each vs) bytes [] are.spelled are.deep (omega (arith, are.many)) in
     rw read refl
 
 -- no spelling of a value begins another of the same type

@@ -1,12 +1,12 @@
 -- What is read is spelled so: values with parts.
-use Rattle.std.proofs.Common.{◌≡◌, ℕ, zero, suc, ◌+◌, ◌≤◌, Bool, true, false, List, [], ◌∷◌, ◌++◌, length, Option, Some, None, refl, sym, ap, subst, ◌∙◌, append_assoc, arith}
-use Rattle.std.specs.Prelude.{max, slice_get}
+use Rattle.std.proofs.Common.{◌≡◌, ℕ, zero, suc, ◌+◌, ◌≤◌, Bool, true, false, List, [], ◌∷◌, ◌++◌, Option, Some, None, refl, sym, ap, subst, ◌∙◌, append_assoc, arith}
+use Rattle.std.specs.Prelude.{slice_get}
 use Rattle.std.proofs.lemmas.List.{append-nil}
-use Rattle.ic_base.specs.Reader.{Reader, ◌>>=◌}
+use Rattle.ic_base.specs.Reader.{Reader}
 use Rattle.ic_base.specs.Spelling.{Spelling}
 use Rattle.ic_base.specs.Exact.{Exact}
 use Rattle.ic_base.proofs.Steps.{bind_some, some_is}
-use Rattle.ic_base.proofs.Exact.{Takes, taken}
+use Rattle.ic_base.proofs.Exact.{taken}
 use Rattle.ic_leb.specs.declared.width.Width.TheVariants.{Candid}
 use Rattle.ic_leb.specs.Spells.{SpellsUnsigned}
 use Rattle.ic_leb.specs.Reading.{unsigned_reader}
@@ -15,7 +15,7 @@ use Rattle.cd_types.specs.declared.entry.TyRef.{TyRef}
 use Rattle.cd_types.specs.declared.entry.Entry.{Entry}
 use Rattle.cd_types.specs.declared.entry.Entry.TheVariants.{Opt, Seq, Rec, Var, Func, Service}
 use Rattle.cd_types.specs.Shape.{Shape, primitive, compound, dangling, shape}
-use Rattle.cd_codec.specs.Content.{Content, Plain, func, service, plain, blob, none, some, list, record_of, variant, Contents, contents_of, Parts, parts_of, count_of}
+use Rattle.cd_codec.specs.Content.{Content, func, service, plain, blob, none, some, list, record_of, variant, contents_of, parts_of, count_of}
 use Rattle.cd_codec.specs.Measure.{nesting, nesting_all, nesting_parts, nesting_each, number, number_all, number_parts, number_each}
 use Rattle.cd_codec.specs.Basic.{SpellsCounted, SpellsPrincipal, SpellsFunc}
 use Rattle.cd_codec.specs.Plain.{HasShape}
@@ -113,8 +113,8 @@ seq_takes table type item is depth read law false which n bytes z e =
     let a = bind_some (unsigned_reader Candid bytes) (λ c. then_make (λ vs. list (contents_of vs)) (items_at read c.0 n c.1)) z e in
     let c = taken (SpellsUnsigned Candid) (unsigned_reader Candid) (unsigned_exact Candid) bytes a.0 a.1 in
     around table type (λ vs. list (contents_of vs)) (Items table item a.0.0) (λ vs. nesting_all (contents_of vs)) (λ vs. number_all (contents_of vs)) c.front
-      (λ vs bs w. (item, is, which, c.front, bs, refl, subst (λ (k : ℕ). SpellsUnsigned Candid k c.front) (sym w.0) c.spelled, w.1)) (λ vs. refl) (λ vs. refl)
-      depth n bytes a.0.1 c.parts (items_at read a.0.0 n a.0.1) (items_takes table item depth read law a.0.0 n a.0.1) z a.2
+    (λ vs bs w. (item, is, which, c.front, bs, refl, subst (λ (k : ℕ). SpellsUnsigned Candid k c.front) (sym w.0) c.spelled, w.1)) (λ vs. refl) (λ vs. refl)
+    depth n bytes a.0.1 c.parts (items_at read a.0.0 n a.0.1) (items_takes table item depth read law a.0.0 n a.0.1) z a.2
 
 fields_take : (table : List Entry) (depth : ℕ) (read : TyRef → Budgeted Content) → ((type : TyRef) → Sound table type depth (read type))
     → (fields : List (ℕ × TyRef)) (n : ℕ) (bytes : List ℕ) (z : List (ℕ × Content) × ℕ × List ℕ) → each_at (field_at read) fields n bytes ≡ Some z
@@ -131,8 +131,8 @@ fields_take table depth read law (field ∷ fields) n bytes z e =
     let same = some_is {A = (ℕ × Content) × ℕ × List ℕ} ((field.0, v.0.0), v.0.1, v.0.2) a.0 v.2 in
     let t = fields_take table depth read law fields a.0.1 a.0.2 b.0 b.1 in
     let u : Consumes (λ p bs. (field.0 ≡ p.0) × Wire table field.1 p.1 bs) (λ p. nesting p.1) (λ p. number p.1) depth n bytes a.0 =
-      subst (Consumes (λ p bs. (field.0 ≡ p.0) × Wire table field.1 p.1 bs) (λ p. nesting p.1) (λ p. number p.1) depth n bytes) same
-      (record { front = s.front; parts = s.parts; spelled = (refl, s.spelled); deep = s.deep; left = s.left }) in
+    subst (Consumes (λ p bs. (field.0 ≡ p.0) × Wire table field.1 p.1 bs) (λ p. nesting p.1) (λ p. number p.1) depth n bytes) same
+    (record { front = s.front; parts = s.parts; spelled = (refl, s.spelled); deep = s.deep; left = s.left }) in
     subst (Consumes (λ ps bs. WireParts table (field ∷ fields) (parts_of ps) bs) (λ ps. nesting_parts (parts_of ps)) (λ ps. number_parts (parts_of ps)) depth n bytes) (some_is {A = List (ℕ × Content) × ℕ × List ℕ} (a.0.0 ∷ b.0.0, b.0.1, b.0.2) z b.2)
     (record {
       front = u.front ++ t.front;
@@ -148,7 +148,7 @@ variant_takes : (table : List Entry) (type : TyRef) (cases : List (ℕ × TyRef)
 variant_takes table type cases is depth read law i place spelled None at n whole bytes parts z e = absurd cc
 variant_takes table type cases is depth read law i place spelled (Some case) at n whole bytes parts z e =
     around table type (λ v. variant i v) (Wire table case.1) nesting number place (λ v bs w. (cases, is, case, at, place, bs, refl, spelled, w)) (λ v. refl) (λ v. refl)
-      depth n whole bytes parts (read case.1 n bytes) (law case.1 n bytes) z e
+    depth n whole bytes parts (read case.1 n bytes) (law case.1 n bytes) z e
 
 entry_takes : (table : List Entry) (type : TyRef) (depth : ℕ) (read : TyRef → Budgeted Content) → ((type : TyRef) → Sound table type depth (read type))
     → (entry : Entry) → shape table type ≡ compound entry → (n : ℕ) (bytes : List ℕ) (z : Content × ℕ × List ℕ) → entry_at read entry n bytes ≡ Some z
@@ -158,7 +158,7 @@ entry_takes table type depth read law (Opt inner) is n bytes z e = opt_takes tab
 entry_takes table type depth read law (Seq item) is n bytes z e = seq_takes table type item is depth (read item) (law item) (is_nat8 item) refl n bytes z e
 entry_takes table type depth read law (Rec fields) is n bytes z e =
     around table type (λ ps. record_of (parts_of ps)) (λ ps bs. WireParts table fields (parts_of ps) bs) (λ ps. nesting_parts (parts_of ps)) (λ ps. number_parts (parts_of ps)) []
-      (λ ps bs w. (fields, is, w)) (λ ps. refl) (λ ps. refl) depth n bytes bytes refl (each_at (field_at read) fields n bytes) (fields_take table depth read law fields n bytes) z e
+    (λ ps bs w. (fields, is, w)) (λ ps. refl) (λ ps. refl) depth n bytes bytes refl (each_at (field_at read) fields n bytes) (fields_take table depth read law fields n bytes) z e
 entry_takes table type depth read law (Var cases) is n bytes z e =
     let a = bind_some (unsigned_reader Candid bytes) (λ i. case_at read i.0 (slice_get cases i.0) n i.1) z e in
     let c = taken (SpellsUnsigned Candid) (unsigned_reader Candid) (unsigned_exact Candid) bytes a.0 a.1 in
@@ -167,7 +167,6 @@ entry_takes table type depth read law (Func args results notes) is n bytes z e =
     alone_takes table type (λ f. plain (func f.0 f.1)) SpellsFunc func_at func_exact (λ f bs h. ((args, results, notes, is), h)) (λ f. refl) (λ f. refl) depth n bytes z e
 entry_takes table type depth read law (Service methods) is n bytes z e =
     alone_takes table type (λ p. plain (service p)) SpellsPrincipal principal_at principal_exact (λ p bs h. ((methods, is), h)) (λ p. refl) (λ p. refl) depth n bytes z e
-
 
 shape_takes : (table : List Entry) (type : TyRef) (depth : ℕ) (read : TyRef → Budgeted Content) → ((type : TyRef) → Sound table type depth (read type))
     → (s : Shape) → shape table type ≡ s → (n : ℕ) (bytes : List ℕ) (z : Content × ℕ × List ℕ) → shape_at read s n bytes ≡ Some z

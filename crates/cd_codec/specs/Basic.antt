@@ -1,5 +1,5 @@
--- Spellings that several types share (Candid specification, "Binary Format").
-use Rattle.std.specs.Prelude.{◌≡◌, ℕ, ℤ, ◌<◌, ◌≤◌, ◌^◌, true, List, [], ◌∷◌, ◌++◌, length}
+-- Spellings that several types share (Candid specification, "Binary Format", M).
+use Rattle.std.specs.Prelude.{◌≡◌, ℕ, ℤ, ◌<◌, ◌≤◌, ◌^◌, true, List, ◌∷◌, ◌++◌, length}
 use Rattle.std.specs.Int.{Width, byte_len, to_le_bytes, cast_signed}
 use Rattle.std.specs.Str.{is_utf8}
 use Rattle.ic_leb.specs.declared.width.Width.TheVariants.{Candid}

@@ -9,5 +9,5 @@ pub mod ReadPlain
 pub mod ReadValue
 pub mod Answers
 pub mod Codes
-pub mod Header
+pub mod IsHeader
 pub mod ReadHeader

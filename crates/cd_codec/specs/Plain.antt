@@ -1,7 +1,6 @@
--- Values without parts: which type they have, and how they are spelled (Candid specification, "Binary Format").
+-- Values without parts: their types, and their bytes (Candid specification, "Binary Format", M).
 use Rattle.std.specs.Prelude.{◌≡◌, ℕ, Bool, true, false, List, [], ◌∷◌}
 use Rattle.std.specs.Int.{w8, w16, w32, w64}
-use Rattle.cd_types.specs.declared.primitive.Primitive.{Primitive}
 use Rattle.cd_types.specs.declared.primitive.Primitive.TheVariants as primitives
 use Rattle.cd_types.specs.declared.entry.TyRef.{TyRef}
 use Rattle.cd_types.specs.declared.entry.Entry.TheVariants.{Func, Service}

@@ -1,5 +1,5 @@
--- A header, read from the front of the bytes.
-use Rattle.std.specs.Prelude.{ℕ, ◌^◌, Bool, true, false, List, length, take, drop, Option, Some, None, nat_lt, nat_le, if◌then◌else◌}
+-- Reading what IsHeader spells, from the front of the bytes.
+use Rattle.std.specs.Prelude.{ℕ, ◌^◌, Bool, List, length, take, drop, Option, Some, None, nat_lt, nat_le, if◌then◌else◌}
 use Rattle.std.specs.Str.{bytes_eq}
 use Rattle.ic_base.specs.Reader.{Reader, ◌>>=◌, both_at, map_at, filter_at, filter_map_at, vec_at}
 use Rattle.ic_leb.specs.declared.width.Width.TheVariants.{Candid}
@@ -11,7 +11,7 @@ use Rattle.cd_types.specs.IsTable.{is_table}
 use Rattle.cd_codec.specs.declared.codes.Kind.{Kind}
 use Rattle.cd_codec.specs.declared.codes.Kind.TheVariants as kinds
 use Rattle.cd_codec.specs.Codes.{reference_named, kind_named}
-use Rattle.cd_codec.specs.Header.{magic, are_inside}
+use Rattle.cd_codec.specs.IsHeader.{magic, are_inside}
 use Rattle.cd_codec.specs.ReadPlain.{counted_at, text_at}
 
 -- what follows `DIDL`

@@ -1,4 +1,4 @@
--- Values without parts, read from the front of the bytes.
+-- Reading what Plain spells, from the front of the bytes.
 use Rattle.std.specs.Prelude.{ℕ, ℤ, zero, suc, Bool, true, false, List, [], ◌∷◌, length, Option, Some, None, nat_lt, nat_le}
 use Rattle.std.specs.Int.{Width, w8, w16, w32, w64, byte_len, from_le_bytes, cast_signed}
 use Rattle.std.specs.List.{list_all}
@@ -8,7 +8,7 @@ use Rattle.ic_leb.specs.declared.width.Width.TheVariants.{Candid}
 use Rattle.ic_leb.specs.Reading.{unsigned_reader, signed_reader}
 use Rattle.cd_types.specs.declared.primitive.Primitive.{Primitive}
 use Rattle.cd_types.specs.declared.primitive.Primitive.TheVariants as primitives
-use Rattle.cd_codec.specs.Content.{Plain, null, bool, nat, int, nat8, nat16, nat32, nat64, int8, int16, int32, int64, text, reserved, func, service, principal}
+use Rattle.cd_codec.specs.Content.{Plain, null, bool, nat, int, nat8, nat16, nat32, nat64, int8, int16, int32, int64, text, reserved, principal}
 
 -- the numbers are bytes
 abbrev pub are_bytes : List ℕ → Bool

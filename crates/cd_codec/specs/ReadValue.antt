@@ -1,5 +1,5 @@
--- Values read from the front of the bytes: within a depth, and with so many values allowed.
-use Rattle.std.specs.Prelude.{ℕ, zero, suc, ◌<◌, Bool, true, false, List, [], ◌∷◌, Option, Some, None, slice_get}
+-- Reading what Wire spells, from the front of the bytes: within a depth, and with so many values allowed.
+use Rattle.std.specs.Prelude.{ℕ, zero, suc, Bool, true, false, List, [], ◌∷◌, Option, Some, None, slice_get}
 use Rattle.ic_base.specs.Reader.{Reader, ◌>>=◌}
 use Rattle.ic_leb.specs.declared.width.Width.TheVariants.{Candid}
 use Rattle.ic_leb.specs.Reading.{unsigned_reader}
@@ -7,7 +7,7 @@ use Rattle.cd_types.specs.declared.entry.TyRef.{TyRef}
 use Rattle.cd_types.specs.declared.entry.Entry.{Entry}
 use Rattle.cd_types.specs.declared.entry.Entry.TheVariants.{Opt, Seq, Rec, Var, Func, Service}
 use Rattle.cd_types.specs.Shape.{Shape, primitive, compound, dangling, shape}
-use Rattle.cd_codec.specs.Content.{Content, Plain, func, service, plain, blob, none, some, list, record_of, variant, contents_of, parts_of}
+use Rattle.cd_codec.specs.Content.{Content, func, service, plain, blob, none, some, list, record_of, variant, contents_of, parts_of}
 use Rattle.cd_codec.specs.Wire.{is_nat8}
 use Rattle.cd_codec.specs.ReadPlain.{counted_at, principal_at, func_at, primitive_at}
 

@@ -1,5 +1,5 @@
--- The content of a value of the program.
-use Rattle.std.specs.Prelude.{ℕ, List, map, Option, Some, None}
+-- The content of a value of the program (Candid specification, "Values").
+use Rattle.std.specs.Prelude.{ℕ, List, map, Some, None}
 use Rattle.cd_codec.specs.declared.value.Value.{Value}
 use Rattle.cd_codec.specs.declared.value.Value.TheFolds.{fold-Value}
 use Rattle.cd_codec.specs.declared.value.Value.TheOpen.{Value-F, FieldValues-F, Values-F}

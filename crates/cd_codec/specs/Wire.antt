@@ -1,11 +1,11 @@
--- Which bytes spell a value at a type (Candid specification, "Binary Format", M and T).
+-- Which bytes spell a value at a type (Candid specification, "Binary Format", M).
 use Rattle.std.specs.Prelude.{◌≡◌, ℕ, Bool, true, false, List, [], ◌∷◌, ◌++◌, Some, slice_get}
 use Rattle.cd_types.specs.declared.primitive.Primitive.TheVariants.{Nat8}
 use Rattle.cd_types.specs.declared.entry.TyRef.{TyRef}
-use Rattle.cd_types.specs.declared.entry.TyRef.TheVariants.{Prim, Index}
+use Rattle.cd_types.specs.declared.entry.TyRef.TheVariants.{Prim}
 use Rattle.cd_types.specs.declared.entry.Entry.{Entry}
 use Rattle.cd_types.specs.declared.entry.Entry.TheVariants.{Opt, Seq, Rec, Var}
-use Rattle.cd_types.specs.Shape.{Shape, primitive, compound, shape}
+use Rattle.cd_types.specs.Shape.{compound, shape}
 use Rattle.ic_leb.specs.declared.width.Width.TheVariants.{Candid}
 use Rattle.ic_leb.specs.Spells.{SpellsUnsigned}
 use Rattle.cd_codec.specs.Content.{Content, plain, blob, none, some, list, record_of, variant, Contents, no_content, content, Parts, no_part, part, count_of}

@@ -1,16 +1,27 @@
-//! Candid messages
+//! Candid's messages, DIDL (Candid specification, "Binary Format"): the header with its type
+//! table, and the values at wire types.
+//!
+//! `specs/IsHeader` and `specs/Wire` say which bytes spell a header and a value. A header or values
+//! are read exactly where the bytes are one by these grammars, with every number padded or not,
+//! within the limits: 10,000 entries, 10,000 arguments, nesting 128 and 1,000,000 values.
 #![tactic(auto)]
 
 mod codes;
 mod fault;
 mod header;
+mod header_reader;
+mod laws;
 mod lists;
 mod plain;
-mod read_header;
 mod reading;
 mod value;
 
-pub use fault::ValueFault;
+pub use fault::{HeaderFault, ValueFault};
 pub use header::Header;
+pub use header_reader::read_header;
+pub use laws::{one_header_spelling, one_value_spelling};
 pub use reading::read_values;
 pub use value::{FieldValues, Value, Values};
+
+#[cfg(test)]
+mod tests;

@@ -175,7 +175,11 @@ fn bool_of(bytes: &[u8]) -> Result<(bool, &[u8]), ReadError>
 
 /// A value of a primitive type.
 #[tactic(auto, using(crate::proofs::Views::layers), unfolding(crate::specs::ReadPlain::primitive_at, crate::specs::ReadPlain::integer_at))]
-pub(crate) fn primitive_of(alloc: Global, prim: Prim, bytes: &[u8]) -> Result<(Value, &[u8]), ReadError>
+pub(crate) fn primitive_of(
+    alloc: Global,
+    prim: Prim,
+    bytes: &[u8],
+) -> Result<(Value, &[u8]), ReadError>
     ensures { Gives (λ x. (view x.0, x.1.now)) result (map_at plain (primitive_at prim) bytes.now) }
 {
     match prim {

@@ -298,8 +298,8 @@ fn all_of(
 ) -> Result<Vec<Value>, ReadError>
     ensures { Gives (λ x. views x.items) result (values_at table.now types.now bytes.now) }
 {
-    let (values, _, rest) = each_of(alloc, table, types, bytes)?;
-    match rest {
+    let (values, _, after) = each_of(alloc, table, types, bytes)?;
+    match after {
         [] => Ok(values),
         [_, ..] => Err(ReadError::Refused),
     }

@@ -27,14 +27,8 @@ pub enum Value {
     /// `record`
     Rec(FieldValues),
     /// `variant`: the place of the case among the cases of the type, and its value.
-    Var {
-        position: u32,
-        part: Box<Value>,
-    },
-    Func {
-        service: Principal,
-        method: Text,
-    },
+    Var { position: u32, part: Box<Value> },
+    Func { service: Principal, method: Text },
     Service(Principal),
     Principal(Principal),
 }

@@ -1,4 +1,5 @@
-use Rattle.std.specs.Prelude.{ℕ, List, Option, Some, None, slice_get}
+-- What a reference of a type table stands for (Candid specification, "Binary Format", I).
+use Rattle.std.specs.Prelude.{List, Option, Some, None, slice_get}
 use Rattle.cd_types.specs.declared.primitive.Primitive.{Primitive}
 use Rattle.cd_types.specs.declared.entry.TyRef.{TyRef}
 use Rattle.cd_types.specs.declared.entry.TyRef.TheVariants.{Prim, Index}

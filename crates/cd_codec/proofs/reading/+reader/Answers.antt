@@ -26,12 +26,12 @@ pub parts_of-returns-in_err-value : goal.parts_of-returns-in_err-value
 parts_of-returns-in_err-value t c =
     let p = err_from_is_err_and c.from_residual.result c.from_residual.ensures.1 in
     rw (p.1, p.2) (each_refused c.in_err-value.field-0.0 (field_at (value_at c.args.table.now c.args.depth)) (views_of_fields c.loop-id.parts.items) c.args.fields.now c.loop-id.id-index c.loop-id.unread c.loop-id.rest.now _ _ c.loop-id-test.true
-      (field_refused _ (value_at c.args.table.now c.args.depth) _ _ _ c.in_err-value.ensures) c.loop-id.invariant)
+    (field_refused _ (value_at c.args.table.now c.args.depth) _ _ _ c.in_err-value.ensures) c.loop-id.invariant)
 
 pub parts_of-loop-id-preserved : goal.parts_of-loop-id-preserved
 parts_of-loop-id-preserved t c =
     rw (part_push _ _ _ _ c.in_ok-push.ensures.items) (each_read (field_at (value_at c.args.table.now c.args.depth)) (views_of_fields c.loop-id.parts.items) c.args.fields.now c.loop-id.id-index c.loop-id.unread c.loop-id.rest.now _ _ c.in_ok-value.left c.in_ok-value.after.now _ c.loop-id-test.true
-      (field_read (value_at c.args.table.now c.args.depth) _ _ _ _ _ _ c.in_ok-value.ensures) c.loop-id.invariant)
+    (field_read (value_at c.args.table.now c.args.depth) _ _ _ _ _ _ c.in_ok-value.ensures) c.loop-id.invariant)
 
 pub parts_of-returns : goal.parts_of-returns
 parts_of-returns t c = each_done (field_at (value_at c.args.table.now c.args.depth)) (views_of_fields c.loop-id.parts.items) c.args.fields.now c.loop-id.id-index c.loop-id.unread c.loop-id.rest.now _ c.loop-id-test.false c.loop-id.invariant
@@ -44,6 +44,9 @@ pub value_of-entry_of-requires : goal.value_of-entry_of-requires
 value_of-entry_of-requires t c = (omega arith, is_ordered_at c.args.table.now c.in-Index.index c.in-Some.entry.now c.entry.ensures.well_formed (sym c.in-Some.ensures.value))
 
 pub entry_of-variant_of-requires : goal.entry_of-variant_of-requires
-entry_of-variant_of-requires t c = (omega arith, few_ids c.deref-in-Var.result.now
-    (let is_cases : c.deref-in-Var.result.now ≡ c.in-Var.cases = c.deref-in-Var.ensures.value ∙ c.cases.view_is in
-    rw is_cases (subst (λ e. is_ordered e ≡ true) c.in-Var.is c.requires)))
+entry_of-variant_of-requires t c = (
+  omega arith,
+  few_ids c.deref-in-Var.result.now
+      (let is_cases : c.deref-in-Var.result.now ≡ c.in-Var.cases = c.deref-in-Var.ensures.value ∙ c.cases.view_is in
+      rw is_cases (subst (λ e. is_ordered e ≡ true) c.in-Var.is c.requires)),
+)

@@ -1,4 +1,4 @@
-use Rattle.std.proofs.Common.{◌≡◌, List, Option, Some, None, sym, ◌∙◌}
+use Rattle.std.proofs.Common.{sym, ◌∙◌}
 use Rattle.ic_base.proofs.Steps.{some_is}
 use Rattle.cd_codec.proofs.Views.{contents_made}
 use Rattle.cd_codec.proofs.ValueTakes.{values_found}

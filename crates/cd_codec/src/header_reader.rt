@@ -1,12 +1,15 @@
-ghost use Rattle.std.specs.Prelude.{◌≡◌};
+ghost use Rattle.std.specs.Prelude.{◌≡◌, ◌≤◌, ◌++◌, ℕ, List, length, take, true, false, IfOk, IsErrOf};
 ghost use Rattle.std.specs.Option.{option_copied};
 ghost use Rattle.ic_base.specs.Gives.{Gives};
 ghost use Rattle.cd_types.specs.IsInside.{is_inside};
-ghost use Rattle.cd_codec.specs.Header.{are_inside};
+ghost use Rattle.cd_codec.specs.IsHeader.{are_inside, IsHeader};
+ghost use Rattle.cd_codec.specs.Answers.{BeginsWithHeader, ReadsHeader, IsFault};
 ghost use Rattle.cd_codec.specs.ReadPlain.{counted_at};
 ghost use Rattle.cd_codec.specs.ReadHeader.{magic_at, reference_at, id_at, typed_field_at, fields_at, method_at, methods_at, types_at, body_at, kind_at, row_at, table_at, arguments_at, header_at};
 
 use crate::codes::{Kind, kind_named, reference_named};
+use crate::fault::HeaderFault;
+use crate::header::Header;
 use crate::lists::{Floats, list_of, short_list_of};
 use crate::plain::{counted_of, signed_of, text_of, unsigned_of};
 use cd_types::{Entry, Fields, Methods, TyRef, TyRefs, TypeTable};
@@ -269,5 +272,42 @@ fn header_of(
             let (types, rest) = arguments_of(alloc, &floats, table.len(), rest)?;
             Ok((table, types, rest))
         }
+    }
+}
+
+/// Why bytes at whose front no header without floats is read are no header.
+fn fault_of(alloc: Global, bytes: &[u8]) -> HeaderFault
+    ensures { IsFault result (header_at true bytes.now) }
+{
+    match header_of(alloc, true, bytes) {
+        Ok(_) => HeaderFault::Float,
+        Err(ReadError::Refused) => HeaderFault::NotHeader,
+        Err(ReadError::NoMemory) => HeaderFault::NoMemory,
+    }
+}
+
+/// Reads the header at the front of a message (Candid specification, "Binary Format"). Whatever
+/// follows it is left to `read_values`.
+pub fn read_header(alloc: Global, bytes: &[u8]) -> Result<Header, HeaderFault>
+    // What is read is a header.
+    ensures header { IfOk result (λ header. (header.length ≤ length bytes.now) × IsHeader false header.table header.types (take header.length bytes.now)) }
+    // A header is read, whatever follows it, unless memory runs out.
+    ensures only { (table : List Entry) (types : List TyRef) (front rest : List ℕ) → bytes.now ≡ front ++ rest → IsHeader false table types front → ReadsHeader result table types (length front) }
+    // Where floats are admitted, a front is a header.
+    ensures float { IsErrOf result HeaderFault.Float → BeginsWithHeader true bytes.now }
+    // Even where floats are admitted, no front is a header.
+    ensures not_header { IsErrOf result HeaderFault.NotHeader → BeginsWithHeader true bytes.now → ⊥ }
+{
+    match header_of(alloc, false, bytes) {
+        Ok((table, types, rest)) => {
+            let length = bytes.len() - rest.len();
+            Ok(Header {
+                table,
+                types,
+                length,
+            })
+        }
+        Err(ReadError::Refused) => Err(fault_of(alloc, bytes)),
+        Err(ReadError::NoMemory) => Err(HeaderFault::NoMemory),
     }
 }

@@ -1,5 +1,5 @@
--- Which bytes spell a header (Candid specification, "Binary Format", T, I and "Type Table").
-use Rattle.std.specs.Prelude.{◌≡◌, ℕ, ℤ, ◌^◌, ◌≤◌, Bool, true, List, [], ◌∷◌, ◌++◌, length, Some, nat_lt, nat_le}
+-- Which bytes spell a header (Candid specification, "Binary Format", B, T and I).
+use Rattle.std.specs.Prelude.{◌≡◌, ℕ, ℤ, ◌^◌, Bool, true, List, [], ◌∷◌, ◌++◌, length, Some, nat_lt, nat_le}
 use Rattle.std.specs.List.{list_all}
 use Rattle.ic_base.specs.Spelling.{SpellsBoth, SpellsVec}
 use Rattle.ic_leb.specs.declared.width.Width.TheVariants.{Candid}
@@ -68,7 +68,7 @@ are_inside count types = list_all (is_inside count) types
 
 -- the bytes are a header: `DIDL`, at most 10,000 entries that are a well formed table, and at most 10,000 types inside it.
 -- Where floats are admitted, a number of a float may stand for null: so a header names a float where it is one with floats and none without
-pub record Header (floats : Bool) (table : List Entry) (types : List TyRef) (bytes : List ℕ) : Type 0 where
+pub record IsHeader (floats : Bool) (table : List Entry) (types : List TyRef) (bytes : List ℕ) : Type 0 where
   pub entries : List ℕ
   pub arguments : List ℕ
   pub whole : bytes ≡ magic ++ (entries ++ arguments)
