@@ -11,7 +11,7 @@ pub trait Sink {
     // The bytes taken so far, where the sink tells them. Whether it tells them never changes.
     ghost taken: { Self → Option (List ℕ) };
 
-    // How many writes failed, up to 2^64-1.
+    // A count of faults that never falls, and rises where a write fails, up to 2^64-1.
     ghost faults: { Self → ℕ };
 
     // How many bytes the sink still takes without a fault, where it tells this.

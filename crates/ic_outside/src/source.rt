@@ -12,7 +12,7 @@ pub trait Source {
     // The bytes left, where the source tells them. Whether it tells them never changes.
     ghost left: { Self → Option (List ℕ) };
 
-    // How many reads failed, up to 2^64-1.
+    // A count of faults that never falls, and rises where a read fails, up to 2^64-1.
     ghost faults: { Self → ℕ };
 
     // No read will fail.

@@ -1,9 +1,9 @@
--- What every module keeps, whether it is valid or not.
+-- What every module keeps that is read from bytes, whether it is valid or not.
 use Rattle.std.specs.Prelude.{◌≡◌, ◌<◌, ◌^◌, length, All}
 use Rattle.wm_tree.specs.declared.parts.Module.{Module}
 use Rattle.wm_tree.specs.Seq.{IsFlat}
 
--- as many codes as functions, numbers of 32 bits, and words of nested blocks
+-- as many codes as functions, fewer than 2^32 imports, functions and exports, and words of nested blocks
 pub record IsModule (m : Module) : Type 0 where
   pub counts : length m.functions ≡ length m.codes
   pub imports : length m.imports < 2 ^ 32
