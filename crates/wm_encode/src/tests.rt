@@ -2,7 +2,7 @@ use crate::{encode, read_back, read_fits, relay_fits};
 use ic_principal::Bytes;
 use std::alloc::Global;
 use std::test::*;
-use wm_decode::decode;
+use wm_decode::{ModuleFault, decode};
 use wm_tree::samples::relay;
 
 // The magic bytes and the version.
@@ -40,10 +40,17 @@ fn with_body(alloc: Global, words: &[u8]) -> Result<Vec<u8>, Fail> {
 }
 
 /// Reads a module and writes it.
-fn rewritten(alloc: Global, bytes: &[u8]) -> Result<Bytes, Fail> {
-    let module = decode(alloc, bytes).ok().ok_or("a module")?;
+fn read_and_written(alloc: Global, bytes: &[u8]) -> Result<Bytes, ModuleFault> {
+    let module = decode(alloc, bytes)?;
     read_fits(bytes, &module);
-    let written = encode(alloc, &module)?;
+    match encode(alloc, &module) {
+        Ok(written) => Ok(written),
+        Err(_) => Err(ModuleFault::NoMemory),
+    }
+}
+
+fn rewritten(alloc: Global, bytes: &[u8]) -> Result<Bytes, Fail> {
+    let written = read_and_written(alloc, bytes).ok().ok_or("a module")?;
     Ok(written)
 }
 
