@@ -12,7 +12,7 @@ const BAD_FORM: Status = Status::BadLine {
 };
 
 // Words, a script, what is printed, and the status.
-const RUNS: [(&[&str], &str, &str, Status); 13] = [
+const RUNS: [(&[&str], &str, &str, Status); 14] = [
     (&["replica"], "", "", Status::Done),
     (&[], "", "", Status::Done),
     (
@@ -34,6 +34,12 @@ const RUNS: [(&[&str], &str, &str, Status); 13] = [
         Status::Done,
     ),
     (&["replica"], "state\n", "line 1: Form\n", BAD_FORM),
+    (
+        &["replica"],
+        "call 2vxsx-fae rwlgt-iiaaa-aaaaa-aaaaa-cai hello",
+        "line 1: Form\n",
+        BAD_FORM,
+    ),
     (&["replica"], "hello\n", "line 1: Form\n", BAD_FORM),
     (
         &["replica"],
@@ -187,4 +193,71 @@ fn codes(rt: HostRuntime) {
     for (status, code) in codes {
         assert_eq!(rt; status.code(), code);
     }
+}
+
+// Twelve calls, so that the numbers have one digit and two.
+#[test]
+fn many_calls(rt: HostRuntime) -> Result<(), Fail> {
+    let mut script = Vec::new(rt.alloc());
+    let mut printed = String::new(rt.alloc());
+    for number in 0..12 {
+        script.extend_from_slice(CALL.as_bytes())?;
+        printed.push_str(&format!(in rt.alloc(); "accepted {number}\n")?)?;
+    }
+    for number in 0..12 {
+        printed.push_str(&format!(in rt.alloc();
+            "answer {number} rejected 3 \"no canister rwlgt-iiaaa-aaaaa-aaaaa-cai\"\n"
+        )?)?;
+    }
+    let got = run(
+        &rt,
+        rt.alloc(),
+        &["replica"],
+        &script,
+        (65_536, 65_536),
+        (&[], &[]),
+        2000,
+    )?;
+    assert_eq!(rt; got.0.as_slice(), printed.as_bytes());
+    assert_eq!(rt; got.1, Status::Done);
+    Ok(())
+}
+
+// A comment of the largest length, and one byte more.
+#[test]
+fn longest_line(rt: HostRuntime) -> Result<(), Fail> {
+    let rows = [
+        (8_388_608, "", Status::Done),
+        (
+            8_388_609,
+            "line 1: LineTooLong\n",
+            Status::BadLine {
+                line: 1,
+                cause: LineCause::LineTooLong,
+            },
+        ),
+    ];
+    for (length, printed, status) in rows {
+        let script = comment(rt.alloc(), length)?;
+        let got = run(
+            &rt,
+            rt.alloc(),
+            &["replica"],
+            &script,
+            (65_536, 65_536),
+            (&[], &[]),
+            100,
+        )?;
+        assert_eq!(rt; got.0.as_slice(), printed.as_bytes());
+        assert_eq!(rt; got.1, status);
+    }
+    Ok(())
+}
+
+fn comment(alloc: Global, length: usize) -> Result<Vec<u8>, Fail> {
+    let mut script = Vec::new(alloc);
+    for _ in 0..length {
+        script.push(b'#')?;
+    }
+    Ok(script)
 }
