@@ -1,0 +1,7 @@
+pub mod Missing
+pub mod Parts
+pub mod Coerce
+pub mod Read
+pub mod Decides
+pub mod BelowOutside
+pub mod Place

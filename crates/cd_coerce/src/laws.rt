@@ -1,0 +1,34 @@
+//! What holds of reading at expected types whatever the tables: each function does nothing, and
+//! its contract is the law.
+
+ghost use Rattle.std.specs.Prelude.{◌≡◌, ◌↔◌, ◌≤◌, ◌<◌, ℕ, List, Some, IsTrue};
+ghost use Rattle.std.specs.List.{AllByRecursion};
+ghost use Rattle.cd_types.specs.declared.entry.TyRef.{TyRef};
+ghost use Rattle.cd_types.specs.declared.entry.Entry.{Entry};
+ghost use Rattle.cd_types.specs.IsTable.{is_table};
+ghost use Rattle.cd_codec.specs.Content.{Content};
+ghost use Rattle.cd_codec.specs.Measure.{nesting};
+ghost use Rattle.cd_codec.specs.Wire.{Wire};
+ghost use Rattle.cd_coerce.specs.Coerce.{IsReadAs};
+ghost use Rattle.cd_coerce.specs.Read.{coerced};
+ghost use Rattle.cd_coerce.specs.Place.{setting};
+
+use cd_sub::laws::decided;
+
+/// A value is read as the one value that the rules of coercion give, if they give one: so they
+/// give at most one.
+pub fn one_reading()
+    ensures { (lower upper : List Entry) (t u : TyRef) (v r : Content) → (coerced (setting lower upper) v t u ≡ Some r) ↔ IsReadAs lower upper t v u r }
+{
+    decided();
+}
+
+/// What is read nests at most twice as deep and two levels more: 258 for a value of a message.
+pub fn nests_at_most()
+    ensures { (lower upper : List Entry) (t u : TyRef) (v r : Content) → IsReadAs lower upper t v u r → nesting v ≤ 128 → nesting r ≤ 258 }
+{}
+
+/// What a value on the wire is read as has the expected type: some bytes spell it at that type.
+pub fn has_the_type()
+    ensures { (lower upper : List Entry) (t u : TyRef) (v r : Content) (bytes : List ℕ) → IsTrue (is_table upper) → AllByRecursion (λ b. b < 256) bytes → Wire lower t v bytes → IsReadAs lower upper t v u r → (out : List ℕ) × Wire upper u r out }
+{}

@@ -1,0 +1,196 @@
+ghost use Rattle.std.specs.Prelude.{◌≡◌, IfOk, Option, Some, length, ◌&&◌};
+ghost use Rattle.cd_types.specs.IsInside.{is_inside};
+ghost use Rattle.ic_base.specs.Gives.{Gives};
+ghost use Rattle.cd_codec.specs.Content.{Content, plain, reserved, none, some};
+ghost use Rattle.cd_codec.specs.View.{view};
+ghost use Rattle.cd_coerce.specs.declared.plain.Kind.TheVariants.{Inner, Full};
+ghost use Rattle.cd_coerce.specs.Read.{readers, coerced};
+ghost use Rattle.cd_coerce.specs.Place.{setting, kind, lifted, placed, Settles};
+
+use crate::plain::{Kind, kind_of, plain_of};
+use crate::shapes::{Way, is_inside, is_outside_subtype, may_miss, opt_of, way_of};
+use cd_codec::Value;
+use cd_sub::Subtyping;
+use cd_types::{TyRef, TypeTable};
+use ic_base::{NoMemory, ReadError};
+use std::alloc::{AllocError, Global};
+use std::marker::Model;
+
+/// Values read at types of one table as values of types of another. Contracts see both tables.
+#[derive(Drop)]
+pub(crate) struct Coercion<'a> {
+    pub(crate) alloc: Global,
+    pub(crate) lower: &'a TypeTable,
+    pub(crate) upper: &'a TypeTable,
+    pub(crate) subtyping: Subtyping<'a>,
+    /// How many values may still be made.
+    pub(crate) left: u32,
+}
+
+impl<'a> Model for Coercion<'a> {
+    ghost use Rattle.std.specs.Prelude.{◌≡◌, List};
+    ghost use Rattle.cd_types.specs.declared.entry.Entry.{Entry};
+
+    ghost Value = { List Entry × List Entry };
+
+    ghost view = { λ c. (c.lower.now, c.upper.now) };
+
+    ghost invariant = { λ c. c.subtyping ≡ (c.lower.now, c.upper.now) };
+}
+
+/// How a value is read at a type, as far as that is settled without its parts.
+pub(crate) enum Place {
+    /// It is read as this.
+    Done(Value),
+    /// It is some of a value of the first type, read at the second.
+    Inner(TyRef, TyRef),
+    /// Its parts are to be read, at a type that is no opt; the result is some of that value if it
+    /// is to be lifted.
+    Parts(TyRef, bool),
+}
+
+impl<'a> Coercion<'a> {
+    /// Takes one from the values that may still be made.
+    pub(crate) fn count(&mut self) -> Result<(), NoMemory>
+        ensures { self.new ≡ self.old }
+    {
+        if self.left == 0 {
+            return Err(AllocError);
+        }
+        self.left -= 1;
+        Ok(())
+    }
+
+    fn are_inside(&self, t: TyRef, u: TyRef) -> bool
+        ensures { result ≡ (is_inside (length self.now.0) t && is_inside (length self.now.1) u) }
+    {
+        is_inside(self.lower, t) && is_inside(self.upper, u)
+    }
+
+    /// Whether the one type is a subtype of the other.
+    pub(crate) fn is_below(&mut self, t: TyRef, u: TyRef) -> Result<bool, NoMemory>
+        ensures tables { self.new ≡ self.old }
+        ensures test { IfOk result (λ yes. yes ≡ (setting self.old.0 self.old.1).below t u) }
+    {
+        if self.are_inside(t, u) {
+            self.subtyping.is_subtype(t, u)
+        } else {
+            Ok(is_outside_subtype(self.upper, t, u))
+        }
+    }
+
+    /// Some of what was read, where it is lifted.
+    pub(crate) fn wrap(
+        &mut self,
+        lift: bool,
+        read: Result<Value, ReadError>,
+    ) -> Result<Value, ReadError>
+        ensures tables { self.new ≡ self.old }
+        ensures lifts { (content : Option Content) → Gives view read content → Gives view result (lifted lift content) }
+    {
+        if !lift {
+            return read;
+        }
+        let value = read?;
+        self.count()?;
+        some_value(self.alloc, value)
+    }
+
+    /// At a type that is no opt.
+    fn settle_own(
+        &mut self,
+        value: &Value,
+        t: TyRef,
+        u: TyRef,
+        lift: bool,
+    ) -> Result<Place, ReadError>
+        ensures tables { self.new ≡ self.old }
+        ensures settles { Settles (lifted lift ((readers (setting self.old.0 self.old.1) (view value.now)).own t u)) (placed (setting self.old.0 self.old.1) (view value.now) t) result }
+    {
+        match plain_of(self.upper, value, u)? {
+            None => Ok(Place::Parts(u, lift)),
+            Some(done) => {
+                let done = self.wrap(lift, Ok(done))?;
+                Ok(Place::Done(done))
+            }
+        }
+    }
+
+    /// Some of a value, at an opt.
+    fn settle_inner(&mut self, value: &Value, t: TyRef, w: TyRef) -> Result<Place, ReadError>
+        requires { kind (view value.now) ≡ Inner }
+        ensures tables { self.new ≡ self.old }
+        ensures settles { Settles ((readers (setting self.old.0 self.old.1) (view value.now)).opt t w) (placed (setting self.old.0 self.old.1) (view value.now) t) result }
+    {
+        match opt_of(self.lower, t) {
+            None => Err(ReadError::Refused),
+            Some(x) => {
+                if self.is_below(x, w)? {
+                    Ok(Place::Inner(x, w))
+                } else {
+                    Ok(Place::Done(none_value()))
+                }
+            }
+        }
+    }
+
+    /// A value that is neither null, reserved nor an opt, at an opt.
+    fn settle_full(&mut self, value: &Value, t: TyRef, w: TyRef) -> Result<Place, ReadError>
+        requires { kind (view value.now) ≡ Full }
+        ensures tables { self.new ≡ self.old }
+        ensures settles { Settles ((readers (setting self.old.0 self.old.1) (view value.now)).opt t w) (placed (setting self.old.0 self.old.1) (view value.now) t) result }
+    {
+        if may_miss(self.upper, w) {
+            return Ok(Place::Done(none_value()));
+        }
+        if self.is_below(t, w)? {
+            self.settle_own(value, t, w, true)
+        } else {
+            Ok(Place::Done(none_value()))
+        }
+    }
+
+    fn settle_opt(&mut self, value: &Value, t: TyRef, w: TyRef) -> Result<Place, ReadError>
+        ensures tables { self.new ≡ self.old }
+        ensures settles { Settles ((readers (setting self.old.0 self.old.1) (view value.now)).opt t w) (placed (setting self.old.0 self.old.1) (view value.now) t) result }
+    {
+        match kind_of(value) {
+            Kind::Void => Ok(Place::Done(none_value())),
+            Kind::Inner => self.settle_inner(value, t, w),
+            Kind::Full => self.settle_full(value, t, w),
+        }
+    }
+
+    /// How a value of the type t is read at the type u.
+    pub(crate) fn settle(&mut self, value: &Value, t: TyRef, u: TyRef) -> Result<Place, ReadError>
+        ensures tables { self.new ≡ self.old }
+        ensures settles { Settles (coerced (setting self.old.0 self.old.1) (view value.now) t u) (placed (setting self.old.0 self.old.1) (view value.now) t) result }
+    {
+        match way_of(self.upper, u) {
+            Way::Reserved => Ok(Place::Done(reserved_value())),
+            Way::Opt(w) => self.settle_opt(value, t, w),
+            Way::Own => self.settle_own(value, t, u, false),
+        }
+    }
+}
+
+#[tactic(auto, using(cd_codec::proofs::Views::layers))]
+pub(crate) fn none_value() -> Value
+    ensures { view result ≡ none }
+{
+    Value::Opt(None)
+}
+
+#[tactic(auto, using(cd_codec::proofs::Views::layers))]
+fn reserved_value() -> Value
+    ensures { view result ≡ plain reserved }
+{
+    Value::Reserved
+}
+
+#[tactic(auto, using(cd_codec::proofs::Views::layers))]
+fn some_value(alloc: Global, part: Value) -> Result<Value, ReadError>
+    ensures { Gives view result (Some (some (view part))) }
+{
+    Ok(Value::Opt(Some(Box::new(alloc, part)?)))
+}
