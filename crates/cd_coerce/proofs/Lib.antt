@@ -6,3 +6,11 @@ pub mod Typed
 pub mod PlaceLemmas
 pub mod TableLemmas
 pub mod DecidesLemmas
+mod FloatLemmas
+mod ArgumentLemmas
+mod MessageLemmas
+mod ResultLemmas
+mod FindLemmas
+pub mod LoopLemmas
+pub mod PartsLemmas
+mod ValueLemmas

@@ -5,3 +5,5 @@ pub mod Read
 pub mod Decides
 pub mod BelowOutside
 pub mod Place
+pub mod Decodes
+pub mod Decoded

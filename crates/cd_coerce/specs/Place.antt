@@ -89,6 +89,10 @@ seconds xs = map (λ x. x.1) xs
 abbrev pub target : Shape → Shape → ℕ → Option (TyRef × ℕ × TyRef)
 target s r j = cases_of s >>= λ fs. slice_get fs j >>= λ f. cases_of r >>= λ gs. case_from 0 f.0 gs >>= λ g. Some (f.1, g.0, g.1)
 
+-- what f makes of what is read
+abbrev pub made : {A B : Type 0} → (A → B) → Option A → Option B
+made f read = read >>= λ x. Some (f x)
+
 -- what f gives of each, if it gives something of each
 abbrev pub each_by : {A B : Type 0} → (A → Option B) → List A → Option (List B)
 each_by f [] = Some []

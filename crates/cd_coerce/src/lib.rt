@@ -1,16 +1,23 @@
-//! Reading Candid values at expected types (Candid specification, "Coercion").
+//! Reading Candid messages at expected types (Candid specification, "Parameters and Results" and
+//! "Coercion").
 //!
-//! `specs/Coerce` says which value is read where a value of one type is read at another, and
-//! `specs/Read` is the same as functions. `laws` promises that both agree, so that a value has at
-//! most one reading, that what is read has the expected type, and how deep it nests. `Expected`
-//! holds the types of a message's arguments. A value is settled at its type as far as that goes
-//! without its parts; its parts, and whole messages, are not read yet.
+//! `decode` reads a message at `Expected` types. `specs/Decodes` says which arguments a message
+//! decodes to and which fault comes where it does not, and `specs/Coerce` which value is read where
+//! a value of one type is read at another. `specs/Decoded` and `specs/Read` are the same as
+//! functions, which the code follows. `laws` promises that a value has at most one reading, that
+//! what is read has the expected type, and how deep it nests.
 #![tactic(auto)]
 
+mod arguments;
 mod expected;
+mod fault;
 pub mod laws;
+mod message;
 mod place;
 mod plain;
+mod reading;
 mod shapes;
 
 pub use expected::Expected;
+pub use fault::DidlFault;
+pub use message::decode;

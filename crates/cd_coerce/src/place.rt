@@ -1,4 +1,4 @@
-ghost use Rattle.std.specs.Prelude.{◌≡◌, IfOk, Option, Some, length, ◌&&◌};
+ghost use Rattle.std.specs.Prelude.{◌≡◌, IfOk, Option, Some, length, true, ◌&&◌};
 ghost use Rattle.cd_types.specs.IsInside.{is_inside};
 ghost use Rattle.ic_base.specs.Gives.{Gives};
 ghost use Rattle.cd_codec.specs.Content.{Content, plain, reserved, none, some};
@@ -49,7 +49,22 @@ pub(crate) enum Place {
     Parts(TyRef, bool),
 }
 
+/// How many values one message may be read as.
+const MAX_VALUES: u32 = 16_777_216;
+
 impl<'a> Coercion<'a> {
+    pub(crate) fn new(alloc: Global, lower: &'a TypeTable, upper: &'a TypeTable) -> Coercion<'a>
+        ensures { result ≡ (lower.now, upper.now) }
+    {
+        Coercion {
+            alloc,
+            lower,
+            upper,
+            subtyping: Subtyping::new(alloc, lower, upper),
+            left: MAX_VALUES,
+        }
+    }
+
     /// Takes one from the values that may still be made.
     pub(crate) fn count(&mut self) -> Result<(), NoMemory>
         ensures { self.new ≡ self.old }
@@ -186,6 +201,14 @@ fn reserved_value() -> Value
     ensures { view result ≡ plain reserved }
 {
     Value::Reserved
+}
+
+/// Some of what was read.
+pub(crate) fn some_read(alloc: Global, read: Result<Value, ReadError>) -> Result<Value, ReadError>
+    ensures { (content : Option Content) → Gives view read content → Gives view result (lifted true content) }
+{
+    let value = read?;
+    some_value(alloc, value)
 }
 
 #[tactic(auto, using(cd_codec::proofs::Views::layers))]

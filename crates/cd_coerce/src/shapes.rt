@@ -1,4 +1,5 @@
-ghost use Rattle.std.specs.Prelude.{◌≡◌, Some, None, MatchOption, length, map, true};
+ghost use Rattle.std.specs.Prelude.{◌≡◌, Some, None, IsTrue, MatchOption, length, map, true};
+ghost use Rattle.cd_types.specs.IsTable.{is_table};
 ghost use Rattle.cd_types.specs.IsOrdered.{ids_rise_from};
 ghost use Rattle.ic_base.specs.Gives.{Gives};
 ghost use Rattle.cd_types.specs.IsInside.{is_inside};
@@ -21,6 +22,13 @@ pub(crate) enum Way {
     Reserved,
     Opt(TyRef),
     Own,
+}
+
+/// What holds of each table. It does nothing when it is called.
+pub(crate) fn well_formed_table(table: &TypeTable)
+    ensures { IsTrue (is_table table.now) }
+{
+    let _entries = table.len();
 }
 
 pub(crate) fn is_inside(table: &TypeTable, ty: TyRef) -> bool

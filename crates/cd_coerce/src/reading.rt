@@ -1,0 +1,303 @@
+ghost use Rattle.std.specs.Prelude.{◌≡◌, ℕ, Option, List, Some, None, map, true};
+ghost use Rattle.ic_base.specs.Gives.{Gives};
+ghost use Rattle.cd_types.specs.declared.entry.TyRef.{TyRef};
+ghost use Rattle.cd_types.specs.IsOrdered.{ids_rise_from};
+ghost use Rattle.cd_types.specs.Shape.{shape};
+ghost use Rattle.cd_codec.specs.Content.{Content, blob, list, record_of, variant, contents_of, parts_of};
+ghost use Rattle.cd_codec.specs.View.{view, views, views_of_fields};
+ghost use Rattle.cd_coerce.specs.Parts.{byte_value, under, with_fields, case_from};
+ghost use Rattle.cd_codec.specs.declared.value.Value.{Value};
+ghost use Rattle.cd_coerce.specs.Read.{Readers, readers, empty_blob, field_at, coerced};
+ghost use Rattle.cd_coerce.specs.Missing.{missing};
+ghost use Rattle.cd_coerce.specs.Place.{setting, target, inner_at, parts_at, made, each_by, part_values, expected_at};
+
+use crate::place::{Coercion, Place, some_read};
+use crate::shapes::{cases_of, fields_of, is_nat8, item_of, missing_value};
+use cd_codec::{FieldValues, Value, Values};
+use cd_types::TyRef;
+use ic_base::ReadError;
+use ic_principal::Bytes;
+use std::alloc::Global;
+
+impl<'a> Coercion<'a> {
+    /// A value without parts, at a type.
+    fn leaf(&mut self, value: &Value, t: TyRef, u: TyRef) -> Result<Value, ReadError>
+        requires parts { (t w : TyRef) → parts_at (setting self.old.0 self.old.1) (view value.now) t w ≡ None }
+        requires whole { (t w : TyRef) → inner_at (setting self.old.0 self.old.1) (view value.now) t w ≡ None }
+        ensures tables { self.new ≡ self.old }
+        ensures value { Gives view result (coerced (setting self.old.0 self.old.1) (view value.now) t u) }
+    {
+        self.count()?;
+        match self.settle(value, t, u)? {
+            Place::Done(done) => Ok(done),
+            Place::Inner(_, _) => Err(ReadError::Refused),
+            Place::Parts(_, _) => Err(ReadError::Refused),
+        }
+    }
+
+    /// A byte of a blob, at a type.
+    #[tactic(auto, using(cd_codec::proofs::Views::layers))]
+    fn byte(&mut self, byte: u8, t: TyRef, u: TyRef) -> Result<Value, ReadError>
+        ensures tables { self.new ≡ self.old }
+        ensures value { Gives view result (coerced (setting self.old.0 self.old.1) (byte_value byte) t u) }
+    {
+        let value = Value::Nat8(byte);
+        self.leaf(&value, t, u)
+    }
+
+    fn bytes(&mut self, bytes: &[u8], t: TyRef, u: TyRef) -> Result<Vec<Value>, ReadError>
+        ensures tables { self.new ≡ self.old }
+        ensures values { Gives (λ vs. views vs.items) result (each_by (λ b. coerced (setting self.old.0 self.old.1) (byte_value b) t u) bytes.now) }
+    {
+        let mut items = Vec::new(self.alloc);
+        for byte in bytes {
+            let value = self.byte(*byte, t, u)?;
+            items.push(value)?;
+        }
+        Ok(items)
+    }
+
+    /// A blob, at a type that is no opt.
+    fn blob(&mut self, bytes: &[u8], t: TyRef, u: TyRef) -> Result<Value, ReadError>
+        ensures tables { self.new ≡ self.old }
+        ensures value { Gives view result (parts_at (setting self.old.0 self.old.1) (blob bytes.now) t u) }
+    {
+        match (item_of(self.lower, t), item_of(self.upper, u)) {
+            (Some(from), Some(to)) => {
+                if is_nat8(to) {
+                    let items = Vec::from_slice(self.alloc, bytes)?;
+                    return Ok(blob_value(items));
+                }
+                list_read(self.bytes(bytes, from, to))
+            }
+            (Some(_), None) => Err(ReadError::Refused),
+            (None, _) => Err(ReadError::Refused),
+        }
+    }
+
+    /// What stands for a missing field of this type.
+    pub(crate) fn missing(&mut self, u: TyRef) -> Result<Value, ReadError>
+        ensures tables { self.new ≡ self.old }
+        ensures value { Gives view result (missing (shape self.old.1 u)) }
+    {
+        self.count()?;
+        missing_value(self.upper, u)
+    }
+
+    /// The type of the case at this place, and the place and type of the expected case with its id.
+    fn target(&self, position: u32, t: TyRef, u: TyRef) -> Option<(TyRef, u32, TyRef)>
+        ensures { result ≡ target (shape self.now.0 t) (shape self.now.1 u) position }
+    {
+        match (cases_of(self.lower, t), cases_of(self.upper, u)) {
+            (Some(cases), Some(expected)) => {
+                let (id, from) = *cases.get(position as usize)?;
+                let (place, to) = find(expected, id)?;
+                Some((from, place as u32, to))
+            }
+            (Some(_), None) => None,
+            (None, _) => None,
+        }
+    }
+
+    /// Each of the values, at a type.
+    #[cycle(reader)]
+    fn items(&mut self, values: &[Value], t: TyRef, u: TyRef) -> Result<Vec<Value>, ReadError>
+        ensures tables { self.new ≡ self.old }
+        ensures values { Gives (λ vs. views vs.items) result (each_by (λ v. coerced (setting self.old.0 self.old.1) (view v) t u) values.now) }
+    {
+        let mut items = Vec::new(self.alloc);
+        for value in values {
+            let value = self.read(value, t, u)?;
+            items.push(value)?;
+        }
+        Ok(items)
+    }
+
+    /// A vec that is no blob, at a type that is no opt.
+    #[cycle(reader)]
+    fn list(&mut self, values: &[Value], t: TyRef, u: TyRef) -> Result<Value, ReadError>
+        ensures tables { self.new ≡ self.old }
+        ensures value { Gives view result (parts_at (setting self.old.0 self.old.1) (list (contents_of (views values.now))) t u) }
+    {
+        match (item_of(self.lower, t), item_of(self.upper, u)) {
+            (Some(from), Some(to)) => {
+                if is_nat8(to) {
+                    return no_bytes(self.alloc, values);
+                }
+                list_read(self.items(values, from, to))
+            }
+            (Some(_), None) => Err(ReadError::Refused),
+            (None, _) => Err(ReadError::Refused),
+        }
+    }
+
+    /// The value of a case, at a type that is no opt.
+    #[cycle(reader)]
+    fn case(&mut self, position: u32, part: &Value, t: TyRef, u: TyRef) -> Result<Value, ReadError>
+        ensures tables { self.new ≡ self.old }
+        ensures value { Gives view result (parts_at (setting self.old.0 self.old.1) (variant position (view part.now)) t u) }
+    {
+        match self.target(position, t, u) {
+            None => Err(ReadError::Refused),
+            Some((from, place, to)) => {
+                let read = self.read(part, from, to);
+                variant_read(self.alloc, place, read)
+            }
+        }
+    }
+
+    /// An expected field, read from the field with its id, or missing.
+    #[cycle(reader)]
+    fn field(
+        &mut self,
+        fields: &[(u32, TyRef)],
+        parts: &[(u32, Value)],
+        id: u32,
+        u: TyRef,
+    ) -> Result<Value, ReadError>
+        requires { ids_rise_from 0 (map (λ f. f.0) fields.now) ≡ true }
+        ensures tables { self.new ≡ self.old }
+        ensures value { Gives view result (field_at (setting self.old.0 self.old.1) (under id (with_fields fields.now (map (readers (setting self.old.0 self.old.1)) (part_values parts.now)))) u) }
+    {
+        match find(fields, id) {
+            Some((place, t)) => match parts.get(place) {
+                Some((_, part)) => self.read(part, t, u),
+                None => self.missing(u),
+            },
+            None => self.missing(u),
+        }
+    }
+
+    /// The expected fields, each read from the field with its id, or missing.
+    #[cycle(reader)]
+    fn fields(
+        &mut self,
+        fields: &[(u32, TyRef)],
+        parts: &[(u32, Value)],
+        expected: &[(u32, TyRef)],
+    ) -> Result<Vec<(u32, Value)>, ReadError>
+        requires { ids_rise_from 0 (map (λ f. f.0) fields.now) ≡ true }
+        ensures tables { self.new ≡ self.old }
+        ensures values { Gives (λ vs. views_of_fields vs.items) result (each_by (expected_at (setting self.old.0 self.old.1) fields.now (part_values parts.now)) expected.now) }
+    {
+        let mut items = Vec::new(self.alloc);
+        for (id, ty) in expected {
+            let value = self.field(fields, parts, *id, *ty)?;
+            items.push((*id, value))?;
+        }
+        Ok(items)
+    }
+
+    /// A record, at a type that is no opt.
+    #[cycle(reader)]
+    fn record(&mut self, parts: &[(u32, Value)], t: TyRef, u: TyRef) -> Result<Value, ReadError>
+        ensures tables { self.new ≡ self.old }
+        ensures value { Gives view result (parts_at (setting self.old.0 self.old.1) (record_of (parts_of (views_of_fields parts.now))) t u) }
+    {
+        match (fields_of(self.lower, t), fields_of(self.upper, u)) {
+            (Some(fields), Some(expected)) => record_read(self.fields(fields, parts, expected)),
+            (Some(_), None) => Err(ReadError::Refused),
+            (None, _) => Err(ReadError::Refused),
+        }
+    }
+
+    /// The value of the type t, read at the type u.
+    #[cycle(reader)]
+    pub(crate) fn read(&mut self, value: &Value, t: TyRef, u: TyRef) -> Result<Value, ReadError>
+        ensures tables { self.new ≡ self.old }
+        ensures value { Gives view result (coerced (setting self.old.0 self.old.1) (view value.now) t u) }
+    {
+        self.count()?;
+        match self.settle(value, t, u)? {
+            Place::Done(done) => Ok(done),
+            Place::Inner(x, w) => match value {
+                Value::Opt(inner) => match inner {
+                    Some(part) => {
+                        let read = self.read(part, x, w);
+                        some_read(self.alloc, read)
+                    }
+                    None => Err(ReadError::Refused),
+                },
+                _ => Err(ReadError::Refused),
+            },
+            Place::Parts(w, lift) => match value {
+                Value::Blob(bytes) => {
+                    let read = self.blob(&bytes.items, t, w);
+                    self.wrap(lift, read)
+                }
+                Value::Seq(values) => {
+                    let read = self.list(&values.items, t, w);
+                    self.wrap(lift, read)
+                }
+                Value::Rec(parts) => {
+                    let read = self.record(&parts.items, t, w);
+                    self.wrap(lift, read)
+                }
+                Value::Var { position, part } => {
+                    let read = self.case(*position, part, t, w);
+                    self.wrap(lift, read)
+                }
+                _ => Err(ReadError::Refused),
+            },
+        }
+    }
+}
+
+/// The place and the type of the field or case with this id.
+fn find(fields: &[(u32, TyRef)], id: u32) -> Option<(usize, TyRef)>
+    requires { ids_rise_from 0 (map (λ f. f.0) fields.now) ≡ true }
+    ensures { result ≡ case_from 0 id fields.now }
+{
+    match fields.binary_search_by_key(&id, |field| field.0) {
+        Ok(place) => Some((place, fields[place].1)),
+        Err(_) => None,
+    }
+}
+
+/// An empty blob, for a list without items.
+fn no_bytes(alloc: Global, values: &[Value]) -> Result<Value, ReadError>
+    ensures { (readers : Value → Readers) → Gives view result (empty_blob (map readers values.now)) }
+{
+    match values {
+        [] => Ok(blob_value(Vec::new(alloc))),
+        [_, ..] => Err(ReadError::Refused),
+    }
+}
+
+#[tactic(auto, using(cd_codec::proofs::Views::layers))]
+fn blob_value(items: Vec<u8>) -> Value
+    ensures { view result ≡ blob items.items }
+{
+    Value::Blob(Bytes { items })
+}
+
+/// The list of the items that were read.
+#[tactic(auto, using(cd_codec::proofs::Views::layers))]
+fn list_read(items: Result<Vec<Value>, ReadError>) -> Result<Value, ReadError>
+    ensures { (values : Option (List Content)) → Gives (λ vs. views vs.items) items values → Gives view result (made (λ rs. list (contents_of rs)) values) }
+{
+    let items = items?;
+    Ok(Value::Seq(Values { items }))
+}
+
+/// The record of the fields that were read.
+#[tactic(auto, using(cd_codec::proofs::Views::layers))]
+fn record_read(items: Result<Vec<(u32, Value)>, ReadError>) -> Result<Value, ReadError>
+    ensures { (fields : Option (List (ℕ × Content))) → Gives (λ vs. views_of_fields vs.items) items fields → Gives view result (made (λ rs. record_of (parts_of rs)) fields) }
+{
+    let items = items?;
+    Ok(Value::Rec(FieldValues { items }))
+}
+
+/// The case at this place, whose value was read.
+#[tactic(auto, using(cd_codec::proofs::Views::layers))]
+fn variant_read(
+    alloc: Global,
+    position: u32,
+    part: Result<Value, ReadError>,
+) -> Result<Value, ReadError>
+    ensures { (content : Option Content) → Gives view part content → Gives view result (made (variant position) content) }
+{
+    let part = Box::new(alloc, part?)?;
+    Ok(Value::Var { position, part })
+}
