@@ -14,3 +14,5 @@ mod FindLemmas
 pub mod LoopLemmas
 pub mod PartsLemmas
 mod ValueLemmas
+mod RuleLemmas
+mod Exists

@@ -58,19 +58,19 @@ blob_typed : (lower upper : List Entry) (s : List ℕ) (v : Content) (t u x : Ty
 blob_typed lower upper s v t u x bytes is byte (inl e) wire = (bytes, (x, is, byte, (subst (λ (v : Content). Wire lower t v bytes) e wire).3))
 blob_typed lower upper s v t u x bytes is byte (inr e) wire = subst (λ (s : List ℕ). IsTyped upper u (blob s)) (sym e.1) (unsigned_spelling 0 ++ [], (x, is, byte, empty_counted))
 
-same_opt : (s : Shape) (x y : TyRef) → s ≡ compound (Opt x) → s ≡ compound (Opt y) → x ≡ y
+pub same_opt : (s : Shape) (x y : TyRef) → s ≡ compound (Opt x) → s ≡ compound (Opt y) → x ≡ y
 same_opt s x y e f = let k : compound (Opt x) ≡ compound (Opt y) = sym e ∙ f in cc
 
-same_seq : (s : Shape) (x y : TyRef) → s ≡ compound (Seq x) → s ≡ compound (Seq y) → x ≡ y
+pub same_seq : (s : Shape) (x y : TyRef) → s ≡ compound (Seq x) → s ≡ compound (Seq y) → x ≡ y
 same_seq s x y e f = let k : compound (Seq x) ≡ compound (Seq y) = sym e ∙ f in cc
 
-same_rec : (s : Shape) (x y : List (ℕ × TyRef)) → s ≡ compound (Rec x) → s ≡ compound (Rec y) → x ≡ y
+pub same_rec : (s : Shape) (x y : List (ℕ × TyRef)) → s ≡ compound (Rec x) → s ≡ compound (Rec y) → x ≡ y
 same_rec s x y e f = let k : compound (Rec x) ≡ compound (Rec y) = sym e ∙ f in cc
 
-same_var : (s : Shape) (x y : List (ℕ × TyRef)) → s ≡ compound (Var x) → s ≡ compound (Var y) → x ≡ y
+pub same_var : (s : Shape) (x y : List (ℕ × TyRef)) → s ≡ compound (Var x) → s ≡ compound (Var y) → x ≡ y
 same_var s x y e f = let k : compound (Var x) ≡ compound (Var y) = sym e ∙ f in cc
 
-nat8_is : (x : TyRef) → is_nat8 x ≡ true → x ≡ Prim Nat8
+pub nat8_is : (x : TyRef) → is_nat8 x ≡ true → x ≡ Prim Nat8
 nat8_is (Prim Nat8) e = refl
 nat8_is _ e = absurd cc
 

@@ -7,3 +7,4 @@ pub mod BelowOutside
 pub mod Place
 pub mod Decodes
 pub mod Decoded
+pub mod Small

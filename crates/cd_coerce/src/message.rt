@@ -9,11 +9,10 @@ ghost use Rattle.cd_coerce.specs.Decoded.{decoded, message_read, values_read, An
 
 use crate::expected::Expected;
 use crate::fault::DidlFault;
-use crate::laws::one_reading;
+use crate::laws::one_answer;
 use crate::place::Coercion;
 use crate::shapes::well_formed_table;
 use cd_codec::{Header, HeaderFault, ValueFault, Values, read_header, read_values};
-use cd_sub::laws::decided;
 use cd_types::TyRef;
 use ic_base::ReadError;
 use std::alloc::Global;
@@ -95,8 +94,7 @@ pub fn decode(alloc: Global, expected: &Expected, bytes: &[u8]) -> Result<Values
     ensures typed { IfOk result (λ values. HasTypes expected.now.0 expected.now.1 (contents values)) }
 {
     // What the proof takes from elsewhere; these calls do nothing.
-    decided();
-    one_reading();
+    one_answer();
     well_formed_table(expected.table());
     arguments_of(alloc, expected, bytes)
 }
