@@ -10,18 +10,21 @@ mod codes;
 mod fault;
 mod header;
 mod header_reader;
+mod header_writer;
 mod laws;
 mod lists;
 mod plain;
 mod reading;
 mod value;
+mod writer;
 
 pub use fault::{HeaderFault, ValueFault};
 pub use header::Header;
 pub use header_reader::read_header;
-pub use laws::{one_header_spelling, one_value_spelling};
+pub use laws::{one_header_spelling, one_value_spelling, read_back};
 pub use reading::read_values;
 pub use value::{FieldValues, Value, Values};
+pub use writer::encode;
 
 #[cfg(test)]
 mod tests;
