@@ -1,13 +1,13 @@
 -- What is written for a header is a header.
-use Rattle.std.proofs.Common.{◌≡◌, ℕ, zero, suc, ◌<◌, ◌≤◌, ◌^◌, Bool, true, false, List, [], ◌∷◌, ◌++◌, length, map, Some, refl, sym, ap, ◌∙◌, subst, append_assoc, length-append, arith}
+use Rattle.std.proofs.Common.{◌≡◌, ℕ, suc, ◌<◌, ◌≤◌, ◌^◌, Bool, true, false, List, [], ◌∷◌, ◌++◌, length, map, Some, refl, sym, ◌∙◌, append_assoc, length-append, arith}
 use Rattle.std.specs.Prelude.{ℤ, pos, negsuc, FitsSigned, nat_lt, nat_le, ◌&&◌}
 use Rattle.std.specs.Int.{w128}
 use Rattle.std.specs.List.{AllByRecursion, flat_map, list_all}
 use Rattle.std.specs.Str.{is_utf8}
 use Rattle.std.proofs.lemmas.Bool.{ltb-true, lt-ltb, le-leb, leb-true}
 use Rattle.std.proofs.lemmas.Int.{fits_signed_from_abs}
-use Rattle.std.proofs.lemmas.List.Folds.{list_all-append, list_all-map}
-use Rattle.ic_base.specs.Spelling.{Spelling, SpellsMany, SpellsBoth, SpellsVec}
+use Rattle.std.proofs.lemmas.List.Folds.{list_all-append}
+use Rattle.ic_base.specs.Spelling.{Spelling, SpellsMany, SpellsVec}
 use Rattle.ic_leb.specs.declared.width.Width.TheVariants.{Candid}
 use Rattle.ic_leb.specs.Spelling.{unsigned_spelling, signed_spelling}
 use Rattle.ic_leb.specs.Spells.{SpellsUnsigned}
@@ -24,9 +24,9 @@ use Rattle.cd_types.specs.IsOrdered.{ids_rise_from, names_rise_after, names_rise
 use Rattle.cd_types.specs.IsTable.{names_inside, has_funcs, is_well_formed, is_table}
 use Rattle.cd_codec.specs.declared.codes.Kind.{Kind}
 use Rattle.cd_codec.specs.declared.codes.Kind.TheVariants as kinds
-use Rattle.cd_codec.specs.Basic.{SpellsCounted, SpellsText}
+use Rattle.cd_codec.specs.Basic.{SpellsCounted}
 use Rattle.cd_codec.specs.Codes.{primitive_named, primitive_code, reference_number, kind_named, kind_code, kind_of}
-use Rattle.cd_codec.specs.IsHeader.{magic, SpellsReference, SpellsTypes, SpellsId, SpellsField, SpellsMethod, SpellsBody, SpellsKind, SpellsEntry, SpellsFew, are_inside, IsHeader}
+use Rattle.cd_codec.specs.IsHeader.{magic, SpellsReference, SpellsTypes, SpellsField, SpellsMethod, SpellsBody, SpellsKind, SpellsEntry, SpellsFew, are_inside, IsHeader}
 use Rattle.cd_codec.specs.Spelling.{counted}
 use Rattle.cd_codec.specs.HeaderSpelling.{list_spelling, reference_spelling, field_spelling, method_spelling, kind_spelling, body_spelling, entry_spelling, header_spelling}
 use Rattle.cd_codec.proofs.Tables.{both_true}

@@ -1,17 +1,16 @@
 -- What is written for a message is that message.
-use Rattle.std.proofs.Common.{◌≡◌, ℕ, zero, suc, ◌<◌, ◌≤◌, ◌^◌, Bool, true, false, List, [], ◌∷◌, ◌++◌, length, drop, Some, None, refl, sym, ap, ◌∙◌, inl, inr}
-use Rattle.std.specs.Prelude.{nat_lt, nat_le, ◌&&◌, slice_get}
-use Rattle.std.specs.List.{flat_map, list_all}
+use Rattle.std.proofs.Common.{◌≡◌, ℕ, ◌≤◌, true, List, [], ◌∷◌, length, drop, refl, sym, ap, ◌∙◌, inl, inr}
+use Rattle.std.specs.Prelude.{nat_lt}
+use Rattle.std.specs.List.{flat_map}
 use Rattle.std.proofs.lemmas.Bool.{lt-ltb, cases_lt}
 use Rattle.std.proofs.lemmas.Option.{slice_get_past}
 use Rattle.std.proofs.lemmas.List.{drop_at}
-use Rattle.ic_leb.specs.Spelling.{unsigned_spelling}
 use Rattle.cd_types.specs.declared.entry.TyRef.{TyRef}
 use Rattle.cd_types.specs.declared.entry.TyRef.TheVariants.{Prim, Index}
 use Rattle.cd_types.specs.declared.entry.Entry.{Entry}
 use Rattle.cd_types.specs.IsInside.{is_inside}
 use Rattle.cd_types.specs.IsTable.{is_table}
-use Rattle.cd_types.specs.Shape.{Shape, primitive, compound, dangling, entry_shape, shape}
+use Rattle.cd_types.specs.Shape.{compound, dangling, entry_shape, shape}
 use Rattle.cd_codec.specs.Content.{Content, plain, blob, none, some, list, record_of, variant}
 use Rattle.cd_codec.specs.Wire.{Wire}
 use Rattle.cd_codec.specs.AreValues.{WireEach, HasTypes, AreValues}

@@ -1,13 +1,12 @@
 -- The definitions at known messages, by computing.
 use Rattle.std.proofs.Common.{◌≡◌, [], ◌∷◌, refl}
-use Rattle.std.specs.Prelude.{negsuc}
 use Rattle.cd_types.specs.declared.primitive.Primitive.TheVariants as primitives
 use Rattle.cd_types.specs.declared.entry.TyRef.TheVariants.{Prim, Index}
-use Rattle.cd_types.specs.declared.entry.Entry.TheVariants.{Opt, Seq, Rec, Var, Func, Service}
-use Rattle.cd_codec.specs.Content.{null, bool, nat, int, int16, text, service, principal, func, plain, blob, none, some, list, record_of, variant, no_content, content, no_part, part}
+use Rattle.cd_types.specs.declared.entry.Entry.TheVariants.{Opt, Seq, Rec}
+use Rattle.cd_codec.specs.Content.{nat, plain, none, some, record_of, no_part, part}
 use Rattle.cd_codec.specs.Message.{message_spelling}
 use Rattle.ic_leb.specs.Spelling.{seven_bits_each, unsigned_spelling, signed_spelling}
-use Rattle.cd_codec.specs.Spelling.{plain_spelling, spelling, spelling_all, spelling_parts}
+use Rattle.cd_codec.specs.Spelling.{plain_spelling, spelling}
 
 -- 42 at nat
 nat_42 : message_spelling [] (Prim primitives.Nat ∷ []) (plain (nat 42) ∷ []) ≡ 0x44 ∷ 0x49 ∷ 0x44 ∷ 0x4c ∷ 0x00 ∷ 0x01 ∷ 0x7d ∷ 0x2a ∷ []

@@ -1,5 +1,5 @@
 -- What is written for a value spells it, at each type that it has.
-use Rattle.std.proofs.Common.{◌≡◌, ℕ, suc, ◌^◌, ◌*◌, ◌<◌, List, [], ◌∷◌, ◌++◌, length, refl, sym, ap, ◌∙◌}
+use Rattle.std.proofs.Common.{◌≡◌, ℕ, suc, List, [], ◌∷◌, ◌++◌, length, refl, sym, ap, ◌∙◌}
 use Rattle.std.specs.List.{flat_map}
 use Rattle.std.proofs.lemmas.List.Concat.{flat_map-cons}
 use Rattle.std.specs.Prelude.{ℤ}
@@ -8,11 +8,10 @@ use Rattle.std.proofs.lemmas.Int.{of_z-to_z}
 use Rattle.cd_types.specs.declared.entry.TyRef.{TyRef}
 use Rattle.cd_types.specs.declared.entry.Entry.{Entry}
 use Rattle.ic_leb.specs.declared.width.Width.TheVariants.{Candid}
-use Rattle.ic_leb.specs.Spells.{SpellsUnsigned, SpellsSigned}
-use Rattle.ic_leb.specs.Spelling.{unsigned_spelling, signed_spelling}
+use Rattle.ic_leb.specs.Spelling.{unsigned_spelling}
 use Rattle.ic_leb.proofs.Shortest.{unsigned_spelled, signed_spelled}
 use Rattle.cd_codec.specs.Content.{Plain, null, bool, nat, int, nat8, nat16, nat32, nat64, int8, int16, int32, int64, text, reserved, func, service, principal, Content, plain, blob, none, some, list, record_of, variant, Contents, no_content, content, Parts, no_part, part, count_of, contents_of, parts_of}
-use Rattle.cd_codec.specs.Basic.{SpellsNatural, SpellsInteger, SpellsCounted}
+use Rattle.cd_codec.specs.Basic.{SpellsCounted}
 use Rattle.cd_codec.specs.Plain.{SpellsPlain}
 use Rattle.cd_codec.specs.Wire.{Wire, WireAll, WireParts}
 use Rattle.cd_codec.specs.AreValues.{WireEach}

@@ -1,4 +1,5 @@
--- The numbers of types (Candid specification, "Binary Format", T and I).
+-- The numbers of types (Candid specification, "Binary Format", T and I). Candid also has the floats, -13 and -14, and leaves
+-- numbers below -24 to types to come: this replica refuses both.
 use Rattle.std.specs.Prelude.{ℕ, ℤ, pos, negsuc, ◌-◌, ◌^◌, Bool, ◌&&◌, ◌||◌, List, [], ◌∷◌, Option, Some, None, nat_lt, ◌==◌, slice_get, option_map, if◌then◌else◌}
 use Rattle.std.specs.Option.{option_flatten}
 use Rattle.cd_types.specs.declared.primitive.Primitive.{Primitive}
