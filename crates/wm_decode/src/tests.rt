@@ -13,13 +13,18 @@ const FUNCTION: [u8; 4] = [0x03, 0x02, 0x01, 0x00];
 
 const DROPS: [u8; 10] = [0x0A, 0x08, 0x01, 0x06, 0x00, 0x41, 0x01, 0x6A, 0x1A, 0x0B];
 
-/// The parts behind the magic bytes.
-fn module_of(alloc: Global, parts: &[&[u8]]) -> Result<Vec<u8>, Fail> {
-    let mut bytes = Vec::from_slice(alloc, &MAGIC)?;
+fn joined(alloc: Global, parts: &[&[u8]]) -> Result<Vec<u8>, Fail> {
+    let mut bytes = Vec::new(alloc);
     for part in parts {
         bytes.extend_from_slice(part)?;
     }
     Ok(bytes)
+}
+
+/// The parts behind the magic bytes.
+fn module_of(alloc: Global, parts: &[&[u8]]) -> Result<Vec<u8>, Fail> {
+    let behind = joined(alloc, parts)?;
+    joined(alloc, &[&MAGIC, &behind])
 }
 
 /// The bytes behind these and their number.
@@ -42,6 +47,11 @@ fn fault_of(alloc: Global, bytes: &[u8]) -> Option<ModuleFault> {
         Ok(_) => None,
         Err(fault) => Some(fault),
     }
+}
+
+fn module_in(alloc: Global, bytes: &[u8]) -> Result<Module, Fail> {
+    let module = decode(alloc, bytes).ok().ok_or("a module")?;
+    Ok(module)
 }
 
 /// The first of these parts of which a module has another fault.
@@ -322,8 +332,9 @@ fn first_shown(alloc: Global, module: &Module) -> Result<String, Fail> {
 /// What is read where this instruction stands alone.
 fn read_as(alloc: Global, opcode: u8, operands: &[u8]) -> Result<String, Fail> {
     let bytes = with_instruction(alloc, opcode, operands)?;
-    let module = decode(alloc, &bytes).ok().ok_or("a module")?;
-    first_shown(alloc, &module)
+    let module = module_in(alloc, &bytes)?;
+    let shown = first_shown(alloc, &module)?;
+    Ok(shown)
 }
 
 /// The first of these names, of instructions with opcodes that follow one another, that is not read.
@@ -442,11 +453,9 @@ fn codes(rt: HostRuntime) -> Result<(), Fail> {
 
 /// A function's code with so many blocks, each in the one before.
 fn nested_blocks(alloc: Global, depth: usize) -> Result<Vec<u8>, Fail> {
-    let mut code = Vec::from_slice(alloc, b"\x00")?;
-    code.append(&mut b"\x02\x40".repeat(alloc, depth)?)?;
-    code.append(&mut b"\x0B".repeat(alloc, depth)?)?;
-    code.push(0x0B)?;
-    Ok(code)
+    let begins = b"\x02\x40".repeat(alloc, depth)?;
+    let ends = b"\x0B".repeat(alloc, depth)?;
+    joined(alloc, &[b"\x00", &begins, &ends, b"\x0B"])
 }
 
 /// How many words the first function of a module has.
@@ -459,7 +468,7 @@ fn first_length(module: &Module) -> Result<usize, Fail> {
 fn deep_blocks(rt: HostRuntime) -> Result<(), Fail> {
     let code = nested_blocks(rt.alloc(), 200_000)?;
     let bytes = with_code(rt.alloc(), &code)?;
-    let module = decode(rt.alloc(), &bytes).ok().ok_or("a module")?;
+    let module = module_in(rt.alloc(), &bytes)?;
     assert_eq!(rt; first_length(&module)?, 400_000);
     Ok(())
 }
@@ -510,7 +519,7 @@ segments: Segments { items: [Segment { memory: 0, offset: Instrs { items: [I32Co
 fn each_section(rt: HostRuntime) -> Result<(), Fail> {
     let alloc = rt.alloc();
     let bytes = module_of(alloc, &parts())?;
-    let module = decode(alloc, &bytes).ok().ok_or("a module")?;
+    let module = module_in(alloc, &bytes)?;
     let read = format!(in alloc; "{module:?}")?;
     assert_eq!(rt; read.as_str(), shown());
     Ok(())
