@@ -1,0 +1,4 @@
+mod Rows
+mod Steps
+pub mod FlatTree
+pub mod StopsTree
