@@ -1,6 +1,7 @@
 -- What the functions that validate a body answer, beside what the definitions say.
 use Rattle.std.specs.Prelude.{◌≡◌, ◌≤◌, ◌-◌, ℕ, Bool, true, false, List, [], ◌∷◌, length, take, drop, Option, Some, None, Result, Ok, Err}
 use Rattle.wm_tree.specs.declared.class.Shape.{Shape}
+use Rattle.wm_tree.specs.declared.class.Shape.TheVariants as shape
 use Rattle.wm_tree.specs.declared.types.ValType.{ValType}
 use Rattle.wm_typing.specs.declared.operand.Operand.{Operand}
 use Rattle.wm_typing.specs.declared.fault.BodyFault.{BodyFault}
@@ -60,9 +61,21 @@ abbrev pub Becomes : {A : Type 0} → Levels → Result A BodyFault → Option L
 Becomes new (Ok _) o = o ≡ Some new
 Becomes new (Err e) o = Fails e o
 
--- the block may end here
-abbrev pub IsEnd : Result (Unit {0}) BodyFault → Levels → Type 0
-IsEnd (Ok _) old = ends old.around.result old.point ≡ true
-IsEnd (Err fault.Untyped) old = ends old.around.result old.point ≡ false
-IsEnd (Err fault.NoMemory) old = ⊥
-IsEnd (Err fault.Nesting) old = ⊥
+-- the result of the innermost block was there and nothing else, and is taken
+abbrev pub EndsWith : Levels → Levels → Result (Unit {0}) BodyFault → Type 0
+EndsWith old new (Ok _) = (ends old.around.result old.point ≡ true) × (new.point.operands ≡ []) × (new.around ≡ old.around)
+EndsWith old new (Err fault.Untyped) = ends old.around.result old.point ≡ false
+EndsWith old new (Err fault.NoMemory) = Unit {0}
+EndsWith old new (Err fault.Nesting) = ⊥
+
+-- where there is a block around, its point is the point again
+abbrev pub PopsFrame : List Level → Levels → Bool → Type 0
+PopsFrame [] new popped = popped ≡ false
+PopsFrame (l ∷ ls) new popped = (popped ≡ true) × (new ≡ levels l.point (around l.shape l.target l.result ls))
+
+-- an `if` without `else` gives nothing
+abbrev pub has_all_parts : Shape → Option ValType → Bool
+has_all_parts shape.If (Some t) = false
+has_all_parts shape.If None = true
+has_all_parts shape.Block t = true
+has_all_parts shape.Loop t = true

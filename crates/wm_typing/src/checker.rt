@@ -1,6 +1,6 @@
 ghost use Rattle.std.specs.Prelude.{◌≡◌, [], false, None, OnOk, slice_get};
 ghost use Rattle.wm_tree.specs.declared.class.Shape.TheVariants as shape;
-ghost use Rattle.wm_typing.specs.Checks.{Moves, Pops, Gives, IsEnd, Becomes};
+ghost use Rattle.wm_typing.specs.Checks.{Moves, Pops, Gives, EndsWith, PopsFrame, Becomes, has_all_parts};
 ghost use Rattle.wm_typing.specs.Points as points;
 ghost use Rattle.wm_typing.specs.Flat.{levels, around, branches, labels, label_type, entered, turned, closed_to, to_label, height};
 ghost use Rattle.wm_typing.specs.Runs.{branch};
@@ -217,10 +217,10 @@ impl Checker {
 
     /// Takes the result of the innermost block, behind which nothing may be left.
     pub(crate) fn end(&mut self) -> Result<(), BodyFault>
-        ensures fails { IsEnd result self.old }
-        ensures same { self.new.around ≡ self.old.around }
+        ensures { EndsWith self.old self.new result }
     {
-        self.take_maybe(self.frame.result)?;
+        let gives = self.frame.result;
+        self.take_maybe(gives)?;
         if self.operands.len() == self.frame.height as usize {
             Ok(())
         } else {
@@ -228,36 +228,66 @@ impl Checker {
         }
     }
 
+    /// The innermost block begins again as one that is no `if`.
+    fn begin_again(&mut self)
+        requires { self.old.point.operands ≡ [] }
+        ensures { self.new ≡ levels points.start (around shape.Block self.old.around.target self.old.around.result self.old.around.outer) }
+    {
+        self.frame.shape = Shape::Block;
+        self.frame.is_unreachable = false;
+    }
+
     /// The `else` of an `if`.
     pub(crate) fn turn(&mut self) -> Result<(), BodyFault>
         ensures { Becomes self.new result (turned self.old.around.shape self.old) }
     {
-        if self.frame.shape != Shape::If {
-            return Err(BodyFault::Untyped);
+        match self.frame.shape {
+            Shape::If => {
+                self.end()?;
+                self.begin_again();
+                Ok(())
+            }
+            Shape::Block | Shape::Loop => Err(BodyFault::Untyped),
         }
-        self.end()?;
-        self.frame.shape = Shape::Block;
-        self.frame.is_unreachable = false;
-        Ok(())
+    }
+
+    /// The innermost block goes. False: it is the body.
+    fn pop_frame(&mut self) -> bool
+        requires { self.old.point.operands ≡ [] }
+        ensures { PopsFrame self.old.around.outer self.new result }
+    {
+        match self.outer.pop() {
+            Some(frame) => {
+                self.frame = frame;
+                true
+            }
+            None => false,
+        }
     }
 
     /// The innermost block ends, and gives its result.
     pub(crate) fn close(&mut self) -> Result<(), BodyFault>
         ensures { Becomes self.new result (closed_to self.old.around.outer self.old) }
     {
+        let shape = self.frame.shape;
+        let gives = self.frame.result;
         self.end()?;
-        let frame = self.frame;
-        if frame.shape == Shape::If && frame.result.is_some() {
-            return Err(BodyFault::Untyped);
+        if has_all_parts(shape, gives) && self.pop_frame() {
+            self.give_maybe(gives)?;
+            Ok(())
+        } else {
+            Err(BodyFault::Untyped)
         }
-        match self.outer.pop() {
-            Some(outer) => {
-                self.frame = outer;
-                self.give_maybe(frame.result)?;
-                Ok(())
-            }
-            None => Err(BodyFault::Untyped),
-        }
+    }
+}
+
+/// Whether a block of that shape may end: an `if` without `else` gives nothing.
+fn has_all_parts(shape: Shape, gives: Option<ValType>) -> bool
+    ensures { result ≡ has_all_parts shape gives }
+{
+    match (shape, gives) {
+        (Shape::If, Some(_)) => false,
+        _ => true,
     }
 }
 

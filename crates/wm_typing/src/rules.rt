@@ -51,9 +51,9 @@ fn select(checker: &mut Checker) -> Result<(), BodyFault>
 fn takes(checker: &Checker, t: Option<ValType>, label: u32) -> bool
     ensures { result ≡ typed.takes t (slice_get (labels checker.now.around) label) }
 {
-    match checker.label_type(label) {
-        Ok(u) => t == u,
-        Err(_) => false,
+    match checker.label(label) {
+        Some(branch) => t == branch.result,
+        None => false,
     }
 }
 
