@@ -95,15 +95,15 @@ applies s ts q next e then_next =
     let z = bind_some (take_maybe s.third y.0) (λ p. Some (give_maybe s.gives p)) q y.2 in
     applied s ts x.0 y.0 z.0 q next x.1 y.1 z.1 (some_is (give_maybe s.gives z.0) q z.2) then_next
   where
-  applied : (s : Signature) (ts : List ValType) (p1 p2 p3 q : Point) (next : List ValType → Type 0)
-      → take_maybe s.first (known ts) ≡ Some p1 → take_maybe s.second p1 ≡ Some p2 → take_maybe s.third p2 ≡ Some p3 → give_maybe s.gives p3 ≡ q
-      → Then q next → Applies s ts next
-  applied s ts p1 p2 p3 q next e1 e2 e3 e4 then_next =
-      let a = take_maybe_known s.first ts p1 e1 in
-      let b = take_maybe_known s.second a.left p2 (ap (take_maybe s.second) (sym a.now) ∙ e2) in
-      let d = take_maybe_known s.third b.left p3 (ap (take_maybe s.third) (sym b.now) ∙ e3) in
-      let all = took_both (types_of s.first) (types_of s.second ++ types_of s.third) ts p1 p3 a (took_both (types_of s.second) (types_of s.third) a.left p2 p3 b d) in
-      (all.left, all.were, then_next (types_of s.gives ++ all.left) (sym e4 ∙ ap (give_maybe s.gives) all.now ∙ give_maybe_known s.gives all.left))
+    applied : (s : Signature) (ts : List ValType) (p1 p2 p3 q : Point) (next : List ValType → Type 0)
+        → take_maybe s.first (known ts) ≡ Some p1 → take_maybe s.second p1 ≡ Some p2 → take_maybe s.third p2 ≡ Some p3 → give_maybe s.gives p3 ≡ q
+        → Then q next → Applies s ts next
+    applied s ts p1 p2 p3 q next e1 e2 e3 e4 then_next =
+        let a = take_maybe_known s.first ts p1 e1 in
+        let b = take_maybe_known s.second a.left p2 (ap (take_maybe s.second) (sym a.now) ∙ e2) in
+        let d = take_maybe_known s.third b.left p3 (ap (take_maybe s.third) (sym b.now) ∙ e3) in
+        let all = took_both (types_of s.first) (types_of s.second ++ types_of s.third) ts p1 p3 a (took_both (types_of s.second) (types_of s.third) a.left p2 p3 b d) in
+        (all.left, all.were, then_next (types_of s.gives ++ all.left) (sym e4 ∙ ap (give_maybe s.gives) all.now ∙ give_maybe_known s.gives all.left))
 
 pub calls : (f : FuncType) (ts : List ValType) (q : Point) (next : List ValType → Type 0) → by_type f (known ts) ≡ Some q → Then q next → Calls f ts next
 calls f ts q next e then_next =
@@ -120,9 +120,14 @@ select_known t (u ∷ []) q next e then_next = absurd cc
 select_known t (u ∷ v ∷ ts) q next e then_next =
     let x = bind_some (cond (same_type u v) (Some (Known u)) None) (λ t. Some (give t (known ts))) q e in
     let y = tested (same_type u v) (Some (Known u)) x.0 x.1 in
-    let which : Known u ≡ x.0 = some_is (Known u) x.0 y.1 in
-    (u, (ts, ap (λ (w : ValType). u ∷ w ∷ ts) (sym (same_is u v y.0)),
-    then_next (u ∷ ts) (sym (some_is (give x.0 (known ts)) q x.2) ∙ ap (λ (w : Operand). give w (known ts)) (sym which))))
+    let which : Known u ≡ x.0 = some_is (Known u) x.0 y.1 in (
+      u,
+      (
+        ts,
+        ap (λ (w : ValType). u ∷ w ∷ ts) (sym (same_is u v y.0)),
+        then_next (u ∷ ts) (sym (some_is (give x.0 (known ts)) q x.2) ∙ ap (λ (w : Operand). give w (known ts)) (sym which)),
+      ),
+    )
 
 pub selects : (ts : List ValType) (q : Point) (next : List ValType → Type 0) → select (known ts) ≡ Some q → Then q next
     → (t : ValType) × Takes (I32 ∷ t ∷ t ∷ []) ts (λ left. next (t ∷ left))

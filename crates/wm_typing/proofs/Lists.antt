@@ -74,7 +74,8 @@ pub table_done : (old s1 s2 s3 : Levels) (t : Option ValType) (ls : List ℕ) (o
 table_done old s1 s2 s3 t ls other a b d e s =
     let here : slice_get (labels old.around) other ≡ Some t = subst (λ (r : Around). slice_get (labels r) other ≡ Some t) a.1 b in
     let all : true ≡ list_all (λ l. takes t (slice_get (labels old.around) l)) ls = subst (λ (r : Around). true ≡ list_all (λ l. takes t (slice_get (labels r) l)) ls) (d.1 ∙ a.1) e in
-    let stays : s3.around ≡ old.around = ap (λ (s : Levels). s.around) s ∙ d.1 ∙ a.1 in
-    (table_steps (points.take I32 old.point) (slice_get (labels old.around) other) points.take_maybe (λ t. list_all (λ l. takes t (slice_get (labels old.around) l)) ls)
-      s1.point s2.point t a.0 here d.0 (sym all) ∙ ap (λ (s : Levels). Some s.point) (sym s),
-    stays)
+    let stays : s3.around ≡ old.around = ap (λ (s : Levels). s.around) s ∙ d.1 ∙ a.1 in (
+      table_steps (points.take I32 old.point) (slice_get (labels old.around) other) points.take_maybe (λ t. list_all (λ l. takes t (slice_get (labels old.around) l)) ls)
+          s1.point s2.point t a.0 here d.0 (sym all) ∙ ap (λ (s : Levels). Some s.point) (sym s),
+      stays,
+    )

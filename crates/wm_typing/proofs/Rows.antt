@@ -107,15 +107,15 @@ two_deep = refl
 
 -- a branch out of a block, over an operand that goes, with one that stays
 leaves_a_block : IsSound (record {
-      context = simple (Some I32);
-      words = i.Block (Some I32) ∷ i.LocalGet 0 ∷ one ∷ i.Br 0 ∷ i.End ∷ [];
-      laid = record {
-        ops = op.Block ∷ op.LocalGet 0 ∷ op.I32Const (pos 1) ∷ op.Br ∷ op.End ∷ op.Finish ∷ [];
-        entries = jump 0 ∷ jump 0 ∷ jump 0 ∷ branch 5 0 (Some I32) ∷ jump 0 ∷ [];
-        arms = [];
-        room = 2;
-      };
-    })
+  context = simple (Some I32);
+  words = i.Block (Some I32) ∷ i.LocalGet 0 ∷ one ∷ i.Br 0 ∷ i.End ∷ [];
+  laid = record {
+    ops = op.Block ∷ op.LocalGet 0 ∷ op.I32Const (pos 1) ∷ op.Br ∷ op.End ∷ op.Finish ∷ [];
+    entries = jump 0 ∷ jump 0 ∷ jump 0 ∷ branch 5 0 (Some I32) ∷ jump 0 ∷ [];
+    arms = [];
+    room = 2;
+  };
+})
 leaves_a_block = record {
   ops = refl;
   runs = (lit≤ tt, refl, (lit≤ tt, refl, (I64, refl, (lit≤ tt, refl, (_, refl, (lit≤ tt, refl, (_, refl, refl, (_, refl, tt))))))), refl, (lit≤ tt, refl));

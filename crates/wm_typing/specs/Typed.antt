@@ -137,8 +137,8 @@ typed context labels (IfOf t body rest) p = do
 typed context labels (IfElseOf t body other rest) p = do
   q ← take I32 p
   cond (ends_well t (typed context (t ∷ labels) body start) && ends_well t (typed context (t ∷ labels) other start))
-    (typed context labels rest (give_maybe t q))
-    None
+      (typed context labels rest (give_maybe t q))
+      None
 
 -- the body has a typing: its label and its end have the function's result
 abbrev pub is_typed : Context → Seq → Bool

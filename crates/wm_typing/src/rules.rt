@@ -220,7 +220,10 @@ pub(crate) fn step(
     ensures { Becomes checker.new result (flat_step context.now place stop instr.now checker.old) }
 {
     match class_of(instr) {
-        Class::Opens { shape, result: gives } => open(checker, place, stop, shape, gives),
+        Class::Opens {
+            shape,
+            result: gives,
+        } => open(checker, place, stop, shape, gives),
         Class::Turns => checker.turn(),
         Class::Closes => checker.close(),
         Class::Fixed(signature) => by_signature(checker, signature),

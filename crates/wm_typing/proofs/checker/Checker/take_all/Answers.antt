@@ -5,9 +5,10 @@ use Rattle.wm_typing.proofs.Lists.{taken_next, taken_none}
 use Rattle.wm_typing.proofs.checker.Checker.take_all.Goals as goal
 
 pub loop-i-preserved : goal.loop-i-preserved
-loop-i-preserved c =
-    (taken_next c.args.types.now c.loop-i.i I32 c.loop-i.self.point c.take.new.self.point _ (omega arith) (omega arith) c.loop-i.invariant.0 c.in_ok-take.ensures.0,
-    c.in_ok-take.ensures.1 ∙ c.loop-i.invariant.1)
+loop-i-preserved c = (
+  taken_next c.args.types.now c.loop-i.i I32 c.loop-i.self.point c.take.new.self.point _ (omega arith) (omega arith) c.loop-i.invariant.0 c.in_ok-take.ensures.0,
+  c.in_ok-take.ensures.1 ∙ c.loop-i.invariant.1,
+)
 
 pub returns-in_err-take : goal.returns-in_err-take
 returns-in_err-take c =
