@@ -1,5 +1,5 @@
 -- Taking and giving at a point whose operands are all known.
-use Rattle.std.proofs.Common.{◌≡◌, ℕ, suc, Bool, true, false, cond, List, [], ◌∷◌, ◌++◌, length, map, Option, Some, None, refl, sym, ap, subst, ◌∙◌, append_assoc}
+use Rattle.std.proofs.Common.{◌≡◌, Bool, true, false, cond, List, [], ◌∷◌, ◌++◌, map, Option, Some, None, refl, sym, ap, ◌∙◌, append_assoc}
 use Rattle.std.specs.Prelude.{reverse}
 use Rattle.std.proofs.lemmas.List.{reverse-append}
 use Rattle.ic_base.specs.Reader.{◌>>=◌}
@@ -9,10 +9,10 @@ use Rattle.wm_tree.specs.declared.types.ValType.TheVariants.{I32, I64}
 use Rattle.wm_tree.specs.declared.types.FuncType.{FuncType}
 use Rattle.wm_tree.specs.declared.class.Signature.{Signature}
 use Rattle.wm_typing.specs.declared.operand.Operand.{Operand}
-use Rattle.wm_typing.specs.declared.operand.Operand.TheVariants.{Known, Any}
-use Rattle.wm_typing.specs.Points.{Point, point, same_type, fits, common, pop, take, take_maybe, take_all, give, give_maybe, give_all, ends}
+use Rattle.wm_typing.specs.declared.operand.Operand.TheVariants.{Known}
+use Rattle.wm_typing.specs.Points.{Point, point, same_type, common, pop, take, take_maybe, take_all, give, give_maybe, give_all}
 use Rattle.wm_typing.specs.Typed.{by_signature, by_type, select}
-use Rattle.wm_typing.specs.Runs.{types_of, Takes, Has, Applies, Calls, taken_by}
+use Rattle.wm_typing.specs.Runs.{types_of, Takes, Has, Applies, Calls}
 
 -- the point of these operands, none of any type
 abbrev pub known : List ValType → Point

@@ -1,5 +1,5 @@
 -- Taking and giving operands one after the other.
-use Rattle.std.proofs.Common.{◌≡◌, ℕ, suc, ◌+◌, ◌-◌, ◌<◌, ◌≤◌, List, [], ◌∷◌, ◌++◌, length, take, drop, get_or, Option, Some, None, Bool, true, cond, refl, sym, ap, subst, ◌∙◌, arith, add-one}
+use Rattle.std.proofs.Common.{◌≡◌, ℕ, ◌+◌, ◌-◌, ◌<◌, ◌≤◌, List, [], ◌∷◌, ◌++◌, length, take, get_or, Option, Some, None, Bool, true, cond, refl, sym, ap, subst, ◌∙◌, arith}
 use Rattle.std.proofs.lemmas.List.{take_more}
 use Rattle.ic_base.specs.Reader.{◌>>=◌}
 use Rattle.std.specs.Prelude.{slice_get}
@@ -11,7 +11,7 @@ use Rattle.wm_typing.specs.declared.fault.BodyFault.TheVariants as fault
 use Rattle.wm_typing.specs.Checks.{Fails}
 use Rattle.wm_typing.specs.Points as points
 use Rattle.wm_typing.specs.Points.{Point, unreachable}
-use Rattle.wm_typing.specs.Typed.{takes, table_takes}
+use Rattle.wm_typing.specs.Typed.{label_has, branch_table}
 use Rattle.wm_typing.specs.Flat.{Levels, Around, levels, labels}
 
 pub assoc : {A B C : Type 0} (o : Option A) (f : A → Option B) (g : B → Option C) → ((o >>= f) >>= g) ≡ (o >>= λ x. f x >>= g)
@@ -41,6 +41,14 @@ pub taken_next : (ts : List ValType) (i : ℕ) (d : ValType) (p q : Point) (tota
 taken_next ts i d p q total some low so_far one =
     sym (last_type ts i d p some low ∙ ap (λ o. o >>= points.take_all (take (i - 1) ts)) one) ∙ so_far
 
+-- nothing changes where all is given that is asked for
+take_all_open : (ts : List ValType) → points.take_all ts unreachable ≡ Some unreachable
+take_all_open [] = refl
+take_all_open (t ∷ ts) = ap (λ o. o >>= points.take t) (take_all_open ts)
+
+pub taken_open : (ts : List ValType) (p : Point) (total : Option Point) → p ≡ unreachable → points.take_all ts p ≡ total → total ≡ Some p
+taken_open ts p total is so_far = sym so_far ∙ ap (points.take_all ts) is ∙ take_all_open ts ∙ ap (λ (q : Point). Some q) (sym is)
+
 -- where a step fails, so does the whole
 pub fails_on : {A B : Type 0} (e : BodyFault) (o : Option A) (f : A → Option B) → Fails e o → Fails e (o >>= f)
 fails_on fault.Untyped o f h = ap (λ o. o >>= f) h
@@ -68,14 +76,14 @@ table_steps o t f g p q u e1 e2 e3 e4 = rw (e1, e2, e3, e4) refl
 -- a table takes its operands, and each label the same type
 pub table_done : (old s1 s2 s3 : Levels) (t : Option ValType) (ls : List ℕ) (other : ℕ)
     → (points.take I32 old.point ≡ Some s1.point) × (s1.around ≡ old.around) → slice_get (labels s1.around) other ≡ Some t
-    → (points.take_maybe t s1.point ≡ Some s2.point) × (s2.around ≡ s1.around) → true ≡ list_all (λ l. takes t (slice_get (labels s2.around) l)) ls
+    → (points.take_maybe t s1.point ≡ Some s2.point) × (s2.around ≡ s1.around) → true ≡ list_all (λ l. label_has t (slice_get (labels s2.around) l)) ls
     → s3 ≡ levels unreachable s2.around
-    → (table_takes (labels old.around) ls other old.point ≡ Some s3.point) × (s3.around ≡ old.around)
+    → (branch_table (labels old.around) ls other old.point ≡ Some s3.point) × (s3.around ≡ old.around)
 table_done old s1 s2 s3 t ls other a b d e s =
     let here : slice_get (labels old.around) other ≡ Some t = subst (λ (r : Around). slice_get (labels r) other ≡ Some t) a.1 b in
-    let all : true ≡ list_all (λ l. takes t (slice_get (labels old.around) l)) ls = subst (λ (r : Around). true ≡ list_all (λ l. takes t (slice_get (labels r) l)) ls) (d.1 ∙ a.1) e in
+    let all : true ≡ list_all (λ l. label_has t (slice_get (labels old.around) l)) ls = subst (λ (r : Around). true ≡ list_all (λ l. label_has t (slice_get (labels r) l)) ls) (d.1 ∙ a.1) e in
     let stays : s3.around ≡ old.around = ap (λ (s : Levels). s.around) s ∙ d.1 ∙ a.1 in (
-      table_steps (points.take I32 old.point) (slice_get (labels old.around) other) points.take_maybe (λ t. list_all (λ l. takes t (slice_get (labels old.around) l)) ls)
+      table_steps (points.take I32 old.point) (slice_get (labels old.around) other) points.take_maybe (λ t. list_all (λ l. label_has t (slice_get (labels old.around) l)) ls)
           s1.point s2.point t a.0 here d.0 (sym all) ∙ ap (λ (s : Levels). Some s.point) (sym s),
       stays,
     )

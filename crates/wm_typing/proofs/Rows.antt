@@ -1,5 +1,5 @@
 -- Small bodies, computed from the definitions.
-use Rattle.std.proofs.Common.{◌≡◌, ℕ, pos, Bool, true, false, List, [], ◌∷◌, Option, Some, None, refl, lit≤}
+use Rattle.std.proofs.Common.{◌≡◌, ℕ, pos, Bool, true, false, List, [], ◌∷◌, Option, Some, None, refl, lit≤, map}
 use Rattle.wm_tree.specs.declared.types.ValType.{ValType}
 use Rattle.wm_tree.specs.declared.types.ValType.TheVariants.{I32, I64}
 use Rattle.wm_tree.specs.declared.types.MemArg.{MemArg}
@@ -10,18 +10,21 @@ use Rattle.wm_typing.specs.declared.op.Op.TheVariants as op
 use Rattle.wm_typing.specs.Context.{Context}
 use Rattle.wm_typing.specs.Typed.{is_typed}
 use Rattle.wm_typing.specs.Nesting.{nesting}
-use Rattle.wm_typing.specs.Runs.{Body, IsSound, branch, jump}
+use Rattle.wm_typing.specs.Ops.{op_of}
+use Rattle.wm_typing.specs.Runs.{frame_of, IsSound, branch, jump}
 
 -- a function () -> () with a local of type i64 in a module that has a memory, a table and a type (i32) -> i64
 abbrev simple : Option ValType → Context
 simple result =
     record {
       types = record { params = I32 ∷ []; results = I64 ∷ [] } ∷ [];
-      functions = 0 ∷ [];
+      functions = 0 ∷ 0 ∷ [];
+      hosts = 7 ∷ [];
       globals = record { kind = I32; mutable = false } ∷ record { kind = I64; mutable = true } ∷ [];
       has_table = true;
       has_memory = true;
       locals = I64 ∷ [];
+      params = 0;
       result = result;
     }
 
@@ -87,7 +90,7 @@ labels_differ = refl
 calls : typing (Some I64) (one ∷ i.Call 0 ∷ []) ≡ true
 calls = refl
 
-no_function : typing None (one ∷ i.Call 1 ∷ i.Drop ∷ []) ≡ false
+no_function : typing None (one ∷ i.Call 2 ∷ i.Drop ∷ []) ≡ false
 no_function = refl
 
 constant_global : typing None (one ∷ i.GlobalSet 0 ∷ []) ≡ false
@@ -109,14 +112,30 @@ two_deep = refl
 leaves_a_block : IsSound (record {
   context = simple (Some I32);
   words = i.Block (Some I32) ∷ i.LocalGet 0 ∷ one ∷ i.Br 0 ∷ i.End ∷ [];
-  laid = record {
+  code = record {
     ops = op.Block ∷ op.LocalGet 0 ∷ op.I32Const (pos 1) ∷ op.Br ∷ op.End ∷ op.Finish ∷ [];
     entries = jump 0 ∷ jump 0 ∷ jump 0 ∷ branch 5 0 (Some I32) ∷ jump 0 ∷ [];
     arms = [];
-    room = 2;
+    frame = frame_of (simple (Some I32)) 2;
   };
 })
 leaves_a_block = record {
   ops = refl;
+  entries = refl;
+  fills = refl;
+  frame = refl;
+  room = lit≤ tt;
   runs = (lit≤ tt, refl, (lit≤ tt, refl, (I64, refl, (lit≤ tt, refl, (_, refl, (lit≤ tt, refl, (_, refl, refl, (_, refl, tt))))))), refl, (lit≤ tt, refl));
 }
+
+-- a call of an imported function, and of the first defined one
+calls_run : map (op_of (simple None)) (i.Call 0 ∷ i.Call 1 ∷ []) ≡ op.CallHost 7 ∷ op.Call 0 ∷ []
+calls_run = refl
+
+-- there is room for the result, though nothing gives it
+never_ends : IsSound (record {
+  context = simple (Some I32);
+  words = i.Unreachable ∷ [];
+  code = record { ops = op.Unreachable ∷ op.Finish ∷ []; entries = jump 0 ∷ []; arms = []; frame = frame_of (simple (Some I32)) 1 };
+})
+never_ends = record { ops = refl; entries = refl; fills = refl; frame = refl; room = lit≤ tt; runs = (lit≤ tt, refl, tt) }

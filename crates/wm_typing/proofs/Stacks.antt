@@ -1,5 +1,5 @@
 -- The stacks of operands and of frames, seen by the open blocks.
-use Rattle.std.proofs.Common.{◌≡◌, ℕ, zero, suc, ◌+◌, ◌-◌, ◌≤◌, Bool, true, false, List, [], ◌∷◌, length, take, drop, map, Option, Some, None, refl, sym, ap, subst, ◌∙◌, arith, length-drop}
+use Rattle.std.proofs.Common.{◌≡◌, ℕ, zero, suc, ◌+◌, ◌-◌, ◌≤◌, true, false, List, [], ◌∷◌, length, map, Some, refl, sym, ap, subst, ◌∙◌, arith, length-drop}
 use Rattle.std.proofs.lemmas.List.{length-take-le}
 use Rattle.std.specs.Prelude.{slice_get}
 use Rattle.std.specs.Option.{option_map}
@@ -8,9 +8,9 @@ use Rattle.wm_tree.specs.declared.class.Shape.TheVariants as shape
 use Rattle.wm_typing.specs.declared.operand.Operand.{Operand}
 use Rattle.wm_typing.specs.declared.flat.Branch.{Branch}
 use Rattle.wm_typing.specs.declared.checker.ControlFrame.{ControlFrame}
-use Rattle.wm_typing.specs.Points.{Point, point, pop, start}
+use Rattle.wm_typing.specs.Points.{pop, start, unreachable}
 use Rattle.wm_typing.specs.Runs.{branch}
-use Rattle.wm_typing.specs.Flat.{Level, Levels, levels, level, around, depth, height, label_type, outer_branches, branches}
+use Rattle.wm_typing.specs.Flat.{Levels, levels, around, depth, height, label_type, outer_branches, branches}
 use Rattle.wm_typing.specs.Checks.{above, below, outer_levels, levels_of, Descends, PopsFrame}
 
 length-above : (h : ℕ) (xs : List Operand) → h ≤ length xs → length (above h xs) + h ≡ length xs
@@ -64,6 +64,12 @@ unfolding levels_of
 all_below xs f fs s e low none =
     let short : length (above f.height xs) ≡ 0 = ap length (ap (λ (s : Levels). s.point.operands) e ∙ none) in
     omega (arith, length-above f.height xs low, short)
+
+pub bottomless : (xs : List Operand) (f : ControlFrame) (fs : List ControlFrame) (s : Levels) → levels_of xs f fs ≡ s → f.is_unreachable ≡ true → length xs ≡ f.height → s.point ≡ unreachable
+unfolding levels_of
+bottomless xs f fs s e open_ same =
+    let none : length xs - f.height ≡ 0 = omega arith in
+    subst (λ (s : Levels). s.point ≡ unreachable) e (rw (none, open_) refl)
 
 -- ---- frames
 

@@ -1,4 +1,4 @@
--- What the functions that validate a body answer, beside what the definitions say.
+-- What the functions that validate a body answer, beside the typing rules (WebAssembly Core 1.0, 3.3).
 use Rattle.std.specs.Prelude.{◌≡◌, ◌≤◌, ◌-◌, ℕ, Bool, true, false, List, [], ◌∷◌, length, take, drop, Option, Some, None, Result, Ok, Err}
 use Rattle.wm_tree.specs.declared.class.Shape.{Shape}
 use Rattle.wm_tree.specs.declared.class.Shape.TheVariants as shape
@@ -22,7 +22,8 @@ below height operands = drop (length operands - height) operands
 abbrev pub outer_levels : List Operand → List ControlFrame → List Level
 outer_levels operands [] = []
 outer_levels operands (f ∷ fs) =
-    record { shape = f.shape; target = f.target; result = f.result; point = point (above f.height operands) f.is_unreachable } ∷ outer_levels (below f.height operands) fs
+    record { shape = f.shape; target = f.target; result = f.result; point = point (above f.height operands) f.is_unreachable }
+    ∷ outer_levels (below f.height operands) fs
 
 unfoldable pub levels_of : List Operand → ControlFrame → List ControlFrame → Levels
 levels_of operands f fs =

@@ -1,5 +1,5 @@
--- How deep blocks nest (WebAssembly Core 1.0, 2.4.5). The standard sets no bound; a profile does.
-use Rattle.std.specs.Prelude.{ℕ, suc, max, List}
+-- How deep blocks nest (WebAssembly Core 1.0, 2.4.5, control instructions). The standard sets no bound.
+use Rattle.std.specs.Prelude.{ℕ, suc, max}
 use Rattle.wm_tree.specs.Seq.{Seq, Empty, Plain, BlockOf, LoopOf, IfOf, IfElseOf}
 
 -- the largest number of blocks that are open at a place

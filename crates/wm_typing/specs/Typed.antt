@@ -4,18 +4,18 @@ use Rattle.std.specs.Prelude.{◌≡◌, ℕ, Bool, true, false, List, [], ◌�
 use Rattle.std.specs.List.{list_all}
 use Rattle.ic_base.specs.Reader.{◌>>=◌}
 use Rattle.wm_tree.specs.declared.types.ValType.{ValType}
-use Rattle.wm_tree.specs.declared.types.ValType.TheVariants.{I32, I64}
+use Rattle.wm_tree.specs.declared.types.ValType.TheVariants.{I32}
 use Rattle.wm_tree.specs.declared.types.FuncType.{FuncType}
 use Rattle.wm_tree.specs.declared.class.Signature.{Signature}
 use Rattle.wm_tree.specs.declared.class.Class.{Class}
-use Rattle.wm_tree.specs.declared.class.Class.TheVariants.{Opens, Turns, Closes, Fixed, Memory, Access, Special}
+use Rattle.wm_tree.specs.declared.class.Class.TheVariants.{Fixed, Memory, Access, Special}
 use Rattle.wm_tree.specs.declared.instr.Instr.{Instr}
 use Rattle.wm_tree.specs.declared.instr.Instr.TheVariants as op
 use Rattle.wm_tree.specs.Row.{row_of}
 use Rattle.wm_tree.specs.Seq.{Seq, Empty, Plain, BlockOf, LoopOf, IfOf, IfElseOf}
 use Rattle.wm_tree.specs.TreeOf.{tree_of}
 use Rattle.wm_typing.specs.declared.operand.Operand.TheVariants.{Known}
-use Rattle.wm_typing.specs.Context.{Context, type_of, table_type}
+use Rattle.wm_typing.specs.Context.{Context, type_of, indirect_type}
 use Rattle.wm_typing.specs.Points.{Point, start, unreachable, same_type, common, pop, take, take_maybe, take_all, give, give_maybe, give_all, ends, ends_well}
 
 -- ---- one instruction; a label is the type that a branch to it takes, the innermost first
@@ -41,19 +41,19 @@ select p = do
   Some (give t y.1)
 
 -- whether a label is there and takes that type
-abbrev pub takes : Option ValType → Option (Option ValType) → Bool
-takes t None = false
-takes None (Some None) = true
-takes None (Some (Some u)) = false
-takes (Some t) (Some None) = false
-takes (Some t) (Some (Some u)) = same_type t u
+abbrev pub label_has : Option ValType → Option (Option ValType) → Bool
+label_has t None = false
+label_has None (Some None) = true
+label_has None (Some (Some u)) = false
+label_has (Some t) (Some None) = false
+label_has (Some t) (Some (Some u)) = same_type t u
 
-abbrev pub table_takes : List (Option ValType) → List ℕ → ℕ → Point → Option Point
-table_takes labels ls other p = do
+abbrev pub branch_table : List (Option ValType) → List ℕ → ℕ → Point → Option Point
+branch_table labels ls other p = do
   p1 ← take I32 p
   t ← slice_get labels other
   _ ← take_maybe t p1
-  cond (list_all (λ l. takes t (slice_get labels l)) ls) (Some unreachable) None
+  cond (list_all (λ l. label_has t (slice_get labels l)) ls) (Some unreachable) None
 
 abbrev pub branch_if : List (Option ValType) → ℕ → Point → Option Point
 branch_if labels l p = do
@@ -73,6 +73,26 @@ indirect t p = do
   q ← take I32 p
   by_type t q
 
+-- the instructions for locals and globals (3.3.3)
+abbrev pub variable : Context → Instr → Point → Option Point
+variable context (op.LocalGet n) p = do
+  t ← slice_get context.locals n
+  Some (give (Known t) p)
+variable context (op.LocalSet n) p = do
+  t ← slice_get context.locals n
+  take t p
+variable context (op.LocalTee n) p = do
+  t ← slice_get context.locals n
+  q ← take t p
+  Some (give (Known t) q)
+variable context (op.GlobalGet n) p = do
+  g ← slice_get context.globals n
+  Some (give (Known g.kind) p)
+variable context (op.GlobalSet n) p = do
+  g ← slice_get context.globals n
+  cond g.mutable (take g.kind p) None
+variable context _ p = None
+
 -- an instruction with a rule of its own
 abbrev pub special : Context → List (Option ValType) → Instr → Point → Option Point
 special context labels op.Unreachable p = Some unreachable
@@ -80,35 +100,19 @@ special context labels (op.Br l) p = do
   t ← slice_get labels l
   leaving t p
 special context labels (op.BrIf l) p = branch_if labels l p
-special context labels (op.BrTable ls other) p = table_takes labels ls other p
+special context labels (op.BrTable ls other) p = branch_table labels ls other p
 special context labels op.Return p = leaving context.result p
 special context labels (op.Call f) p = do
   t ← type_of context f
   by_type t p
 special context labels (op.CallIndirect n) p = do
-  t ← table_type context n
+  t ← indirect_type context n
   indirect t p
 special context labels op.Drop p = do
   x ← pop p
   Some x.1
 special context labels op.Select p = select p
-special context labels (op.LocalGet n) p = do
-  t ← slice_get context.locals n
-  Some (give (Known t) p)
-special context labels (op.LocalSet n) p = do
-  t ← slice_get context.locals n
-  take t p
-special context labels (op.LocalTee n) p = do
-  t ← slice_get context.locals n
-  q ← take t p
-  Some (give (Known t) q)
-special context labels (op.GlobalGet n) p = do
-  g ← slice_get context.globals n
-  Some (give (Known g.kind) p)
-special context labels (op.GlobalSet n) p = do
-  g ← slice_get context.globals n
-  cond g.mutable (take g.kind p) None
-special context labels _ p = None
+special context labels i p = variable context i p
 
 -- an instruction of that class
 abbrev pub plain : Context → List (Option ValType) → Class → Instr → Point → Option Point

@@ -1,4 +1,4 @@
-ghost use Rattle.std.specs.Prelude.{◌≡◌, [], false, None, OnOk, slice_get};
+ghost use Rattle.std.specs.Prelude.{◌≡◌, [], false, None, IsTrue, OnOk, slice_get};
 ghost use Rattle.wm_tree.specs.declared.class.Shape.TheVariants as shape;
 ghost use Rattle.wm_typing.specs.Checks.{Moves, Pops, Gives, EndsWith, PopsFrame, Becomes, has_all_parts};
 ghost use Rattle.wm_typing.specs.Points as points;
@@ -139,11 +139,27 @@ impl Checker {
         }
     }
 
+    /// Whether the point can't be reached and none of its operands is known.
+    fn is_bottomless(&self) -> bool
+        ensures { IsTrue result → self.now.point ≡ points.unreachable }
+    {
+        let height = self.frame.height as usize;
+        if self.operands.len() == height {
+            self.frame.is_unreachable
+        } else {
+            false
+        }
+    }
+
     /// Takes operands of these types, the last from the top.
     pub(crate) fn take_all(&mut self, types: &[ValType]) -> Result<(), BodyFault>
         ensures { Moves self.old self.new result (points.take_all types.now self.old.point) }
     {
         for i in (0..types.len()).rev() {
+            // It gives all that is asked for, however long the list.
+            if self.is_bottomless() {
+                return Ok(());
+            }
             self.take(types[i])?;
         }
         Ok(())

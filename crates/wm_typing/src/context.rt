@@ -1,5 +1,5 @@
 ghost use Rattle.std.specs.Prelude.{slice_get};
-ghost use Rattle.wm_typing.specs.Context.{type_of, table_type};
+ghost use Rattle.wm_typing.specs.Context.{type_of, indirect_type};
 ghost use Rattle.wm_typing.specs.Checks.{Gives};
 
 use crate::fault::BodyFault;
@@ -13,6 +13,8 @@ pub struct Context<'a> {
     pub types: &'a [FuncType],
     /// The index of each function's type, the imported functions first.
     pub functions: &'a [u32],
+    /// The number by which the host knows each imported function.
+    pub hosts: &'a [u32],
     /// The types of the globals.
     pub globals: &'a [GlobalType],
     /// Whether the module has a table.
@@ -21,6 +23,8 @@ pub struct Context<'a> {
     pub has_memory: bool,
     /// The types of the function's parameters, and then of its locals.
     pub locals: &'a [ValType],
+    /// How many of these are parameters.
+    pub params: u32,
     /// The type of the function's result.
     pub result: Option<ValType>,
 }
@@ -30,7 +34,7 @@ impl<'a> Model for Context<'a> {
 
     ghost Value = { Context };
 
-    ghost view = { λ c. record { types = c.types.now; functions = c.functions.now; globals = c.globals.now; has_table = c.has_table; has_memory = c.has_memory; locals = c.locals.now; result = c.result } };
+    ghost view = { λ c. record { types = c.types.now; functions = c.functions.now; hosts = c.hosts.now; globals = c.globals.now; has_table = c.has_table; has_memory = c.has_memory; locals = c.locals.now; params = c.params; result = c.result } };
 }
 
 impl<'a> Context<'a> {
@@ -46,8 +50,8 @@ impl<'a> Context<'a> {
     }
 
     /// The type that an indirect call names.
-    pub(crate) fn table_type(&self, index: u32) -> Result<&'a FuncType, BodyFault>
-        ensures { Gives (λ t. t.now) result (table_type self.now index) }
+    pub(crate) fn indirect_type(&self, index: u32) -> Result<&'a FuncType, BodyFault>
+        ensures { Gives (λ t. t.now) result (indirect_type self.now index) }
     {
         if self.has_table {
             let types = self.types;

@@ -22,7 +22,7 @@ mod table;
 pub use body::validate_body;
 pub use context::Context;
 pub use fault::BodyFault;
-pub use flat::{Branch, FlatCode};
+pub use flat::{Branch, FlatCode, Frame};
 pub use nesting::nests_within;
 pub use op::Op;
 pub use operand::Operand;

@@ -4,7 +4,7 @@ ghost use Rattle.wm_typing.specs.Points as points;
 use wm_tree::ValType;
 
 /// The type of an operand as far as it is known. Behind an instruction that never goes on, an
-/// operand that nothing gave is of any type.
+/// operand that nothing gave is of any type. The definitions of typing speak of it.
 #[derive(Clone, Copy, Debug, PartialEq, Eq)]
 pub enum Operand {
     Known(ValType),

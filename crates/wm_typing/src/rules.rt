@@ -49,7 +49,7 @@ fn select(checker: &mut Checker) -> Result<(), BodyFault>
 
 /// Whether the label takes the type.
 fn takes(checker: &Checker, t: Option<ValType>, label: u32) -> bool
-    ensures { result ≡ typed.takes t (slice_get (labels checker.now.around) label) }
+    ensures { result ≡ typed.label_has t (slice_get (labels checker.now.around) label) }
 {
     match checker.label(label) {
         Some(branch) => t == branch.result,
@@ -59,13 +59,13 @@ fn takes(checker: &Checker, t: Option<ValType>, label: u32) -> bool
 
 /// Whether each label takes the type.
 fn all_take(checker: &Checker, t: Option<ValType>, ls: &[u32]) -> bool
-    ensures { result ≡ list_all (λ l. typed.takes t (slice_get (labels checker.now.around) l)) ls.now }
+    ensures { result ≡ list_all (λ l. typed.label_has t (slice_get (labels checker.now.around) l)) ls.now }
 {
     ls.iter().all(|l| takes(checker, t, *l))
 }
 
 fn br_table(checker: &mut Checker, ls: &[u32], other: u32) -> Result<(), BodyFault>
-    ensures { Moves checker.old checker.new result (typed.table_takes (labels checker.old.around) ls.now other checker.old.point) }
+    ensures { Moves checker.old checker.new result (typed.branch_table (labels checker.old.around) ls.now other checker.old.point) }
 {
     checker.take(ValType::I32)?;
     let t = checker.label_type(other)?;
@@ -115,35 +115,11 @@ fn set_global(checker: &mut Checker, g: GlobalType) -> Result<(), BodyFault>
     }
 }
 
-/// An instruction with a rule of its own.
-fn special(checker: &mut Checker, context: &Context, instr: &Instr) -> Result<(), BodyFault>
-    ensures { Moves checker.old checker.new result (typed.special context.now (labels checker.old.around) instr.now checker.old.point) }
+/// An instruction for a local or a global.
+fn variable(checker: &mut Checker, context: &Context, instr: &Instr) -> Result<(), BodyFault>
+    ensures { Moves checker.old checker.new result (typed.variable context.now instr.now checker.old.point) }
 {
     match instr {
-        Instr::Unreachable => {
-            checker.set_unreachable();
-            Ok(())
-        }
-        Instr::Br(label) => {
-            let t = checker.label_type(*label)?;
-            leave(checker, t)
-        }
-        Instr::BrIf(label) => br_if(checker, *label),
-        Instr::BrTable { labels, other } => br_table(checker, &labels.items, *other),
-        Instr::Return => leave(checker, context.result),
-        Instr::Call(f) => {
-            let t = context.type_of(*f)?;
-            by_type(checker, t)
-        }
-        Instr::CallIndirect(n) => {
-            let t = context.table_type(*n)?;
-            call_indirect(checker, t)
-        }
-        Instr::Drop => {
-            let _ = checker.pop()?;
-            Ok(())
-        }
-        Instr::Select => select(checker),
         Instr::LocalGet(n) => {
             let t = context.local(*n)?;
             checker.give(Operand::Known(t))?;
@@ -169,6 +145,39 @@ fn special(checker: &mut Checker, context: &Context, instr: &Instr) -> Result<()
             set_global(checker, g)
         }
         _ => Err(BodyFault::Untyped),
+    }
+}
+
+/// An instruction with a rule of its own.
+fn special(checker: &mut Checker, context: &Context, instr: &Instr) -> Result<(), BodyFault>
+    ensures { Moves checker.old checker.new result (typed.special context.now (labels checker.old.around) instr.now checker.old.point) }
+{
+    match instr {
+        Instr::Unreachable => {
+            checker.set_unreachable();
+            Ok(())
+        }
+        Instr::Br(label) => {
+            let t = checker.label_type(*label)?;
+            leave(checker, t)
+        }
+        Instr::BrIf(label) => br_if(checker, *label),
+        Instr::BrTable { labels, other } => br_table(checker, &labels.items, *other),
+        Instr::Return => leave(checker, context.result),
+        Instr::Call(f) => {
+            let t = context.type_of(*f)?;
+            by_type(checker, t)
+        }
+        Instr::CallIndirect(n) => {
+            let t = context.indirect_type(*n)?;
+            call_indirect(checker, t)
+        }
+        Instr::Drop => {
+            let _ = checker.pop()?;
+            Ok(())
+        }
+        Instr::Select => select(checker),
+        _ => variable(checker, context, instr),
     }
 }
 

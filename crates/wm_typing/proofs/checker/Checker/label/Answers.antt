@@ -1,4 +1,4 @@
-use Rattle.std.proofs.Common.{◌≡◌, Some, None, refl, ap, sym, ◌∙◌}
+use Rattle.std.proofs.Common.{Some, refl, ap, sym, ◌∙◌}
 use Rattle.std.specs.Option.{option_map}
 use Rattle.wm_typing.proofs.Stacks.{label_is, outer_label, branch_of}
 use Rattle.wm_typing.proofs.checker.Checker.label.Goals as goal
