@@ -26,3 +26,6 @@ pub use flat::{Branch, FlatCode, Frame};
 pub use nesting::nests_within;
 pub use op::Op;
 pub use operand::Operand;
+
+#[cfg(test)]
+mod tests;
