@@ -7,7 +7,7 @@ use Rattle.cd_types.specs.declared.entry.TyRef.{TyRef}
 use Rattle.cd_types.specs.declared.entry.Entry.{Entry}
 use Rattle.cd_codec.specs.declared.fault.HeaderFault.{HeaderFault}
 use Rattle.cd_codec.specs.declared.fault.HeaderFault.TheVariants as faults
-use Rattle.std.specs.Prelude.{Result, Err}
+use Rattle.std.specs.Prelude.{Result, Err, ◌↔◌}
 use Rattle.cd_codec.specs.declared.header.Header.{Header}
 use Rattle.cd_codec.specs.IsHeader.{IsHeader}
 use Rattle.cd_codec.specs.Answers.{BeginsWithHeader, IsFault}
@@ -40,6 +40,11 @@ header_found floats bytes x e =
 
 again : (floats : Bool) (bytes : List ℕ) (table : List Entry) (types : List TyRef) (front rest : List ℕ) → bytes ≡ front ++ rest → IsHeader floats table types front → header_at floats bytes ≡ Some ((table, types), rest)
 again floats bytes table types front rest e header = ap (header_at floats) e ∙ (header_exact floats).again (table, types) front rest header
+
+-- what is read is a front that is a header, and such a front is read
+pub header_is_read : (floats : Bool) (table : List Entry) (types : List TyRef) (bytes rest : List ℕ) → (header_at floats bytes ≡ Some ((table, types), rest)) ↔ ((front : List ℕ) × (bytes ≡ front ++ rest) × IsHeader floats table types front)
+header_is_read floats table types bytes rest =
+    (λ read. let t = taken (SpellsHeader floats) (header_at floats) (header_exact floats) bytes ((table, types), rest) read in (t.front, t.parts, t.spelled), λ h. again floats bytes table types h.0 rest h.1 h.2)
 
 pub header_only : (floats : Bool) (bytes : List ℕ) (x : Found) → header_at floats bytes ≡ Some x → (table : List Entry) (types : List TyRef) (front rest : List ℕ) → bytes ≡ front ++ rest → IsHeader floats table types front
     → (x.0.0 ≡ table) × (x.0.1 ≡ types) × (length bytes - length x.1 ≡ length front)

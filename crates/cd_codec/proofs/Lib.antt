@@ -8,3 +8,8 @@ pub mod ValueAgain
 pub mod CodeLaws
 pub mod HeaderLaws
 pub mod HeaderAnswers
+pub mod ValueSpelled
+pub mod HeaderSpelled
+pub mod Written
+pub mod MessageSpelled
+mod Rows

@@ -58,7 +58,7 @@ alone_again : {A : Type 0} (f : A → Content) (P : Spelling A) (read : Reader A
 alone_again {A} f P read exact x front rest p n left e = rw (exact.again x front rest p, e) refl
 
 -- no value has a type that names nothing
-not_dangling : (v : Plain) → HasShape v dangling → ⊥
+pub not_dangling : (v : Plain) → HasShape v dangling → ⊥
 not_dangling null h = cc
 not_dangling (bool b) h = cc
 not_dangling (nat n) h = cc

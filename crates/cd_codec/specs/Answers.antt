@@ -1,4 +1,4 @@
--- What a call that reads a message answers.
+-- What a call that reads a message answers (Candid specification, "Binary Format", B).
 use Rattle.std.specs.Prelude.{◌≡◌, ℕ, Bool, List, ◌++◌, Option, Some, None, Result, Ok, Err}
 use Rattle.cd_types.specs.declared.entry.TyRef.{TyRef}
 use Rattle.cd_types.specs.declared.entry.Entry.{Entry}

@@ -16,7 +16,7 @@ WireEach table types (v ∷ vs) bytes = (type : TyRef) × (more : List TyRef) ×
 abbrev pub HasTypes : List Entry → List TyRef → List Content → Type 0
 HasTypes table types values = (bytes : List ℕ) × WireEach table types values bytes
 
--- the bytes are the values of a message with these types, within nesting 128 and 1,000,000 values
+-- the bytes are the values of a message with these types. Nesting 128 and 1,000,000 values are limits of this replica, not of Candid
 pub record AreValues (table : List Entry) (types : List TyRef) (values : List Content) (bytes : List ℕ) : Type 0 where
   pub spelled : WireEach table types values bytes
   pub deep : nesting_each values ≤ 128

@@ -1,4 +1,5 @@
--- The numbers of types (Candid specification, "Binary Format", T and I).
+-- The numbers of types (Candid specification, "Binary Format", T and I). Candid also has the floats, -13 and -14, and leaves
+-- numbers below -24 to types to come: this replica refuses both.
 use Rattle.std.specs.Prelude.{ℕ, ℤ, pos, negsuc, ◌-◌, ◌^◌, Bool, ◌&&◌, ◌||◌, List, [], ◌∷◌, Option, Some, None, nat_lt, ◌==◌, slice_get, option_map, if◌then◌else◌}
 use Rattle.std.specs.Option.{option_flatten}
 use Rattle.cd_types.specs.declared.primitive.Primitive.{Primitive}
@@ -50,3 +51,36 @@ kind_of (entries.Rec fields) = kinds.Rec
 kind_of (entries.Var cases) = kinds.Var
 kind_of (entries.Func args results notes) = kinds.Func
 kind_of (entries.Service methods) = kinds.Service
+
+-- how many below -1 the number of a primitive type is
+abbrev pub primitive_code : Primitive → ℕ
+primitive_code primitives.Null = 0
+primitive_code primitives.Bool = 1
+primitive_code primitives.Nat = 2
+primitive_code primitives.Int = 3
+primitive_code primitives.Nat8 = 4
+primitive_code primitives.Nat16 = 5
+primitive_code primitives.Nat32 = 6
+primitive_code primitives.Nat64 = 7
+primitive_code primitives.Int8 = 8
+primitive_code primitives.Int16 = 9
+primitive_code primitives.Int32 = 10
+primitive_code primitives.Int64 = 11
+primitive_code primitives.Text = 14
+primitive_code primitives.Reserved = 15
+primitive_code primitives.Empty = 16
+primitive_code primitives.Principal = 23
+
+-- the number that refers to a type
+abbrev pub reference_number : TyRef → ℤ
+reference_number (Prim p) = negsuc (primitive_code p)
+reference_number (Index place) = pos place
+
+-- how many below -1 the number of a kind of entry is
+abbrev pub kind_code : Kind → ℕ
+kind_code kinds.Opt = 17
+kind_code kinds.Seq = 18
+kind_code kinds.Rec = 19
+kind_code kinds.Var = 20
+kind_code kinds.Func = 21
+kind_code kinds.Service = 22

@@ -58,7 +58,7 @@ pub record SpellsEntry (floats : Bool) (entry : Entry) (bytes : List ℕ) : Type
   pub kind : SpellsKind (kind_of entry) number
   pub body : SpellsBody floats entry rest
 
--- a count of at most 10,000
+-- a count of at most 10,000, a limit of this replica
 abbrev pub SpellsFew : ℕ → List ℕ → Type 0
 SpellsFew n bytes = (nat_le n 10000 ≡ true) × SpellsUnsigned Candid n bytes
 
@@ -66,7 +66,8 @@ SpellsFew n bytes = (nat_le n 10000 ≡ true) × SpellsUnsigned Candid n bytes
 abbrev pub are_inside : ℕ → List TyRef → Bool
 are_inside count types = list_all (is_inside count) types
 
--- the bytes are a header: `DIDL`, at most 10,000 entries that are a well formed table, and at most 10,000 types inside it.
+-- the bytes are a header: `DIDL`, entries that are a well formed table, and types inside it. At most 10,000 of either are a
+-- limit of this replica, not of Candid.
 -- Where floats are admitted, a number of a float may stand for null: so a header names a float where it is one with floats and none without
 pub record IsHeader (floats : Bool) (table : List Entry) (types : List TyRef) (bytes : List ℕ) : Type 0 where
   pub entries : List ℕ

@@ -11,3 +11,6 @@ pub mod Answers
 pub mod Codes
 pub mod IsHeader
 pub mod ReadHeader
+pub mod Spelling
+pub mod HeaderSpelling
+pub mod Message

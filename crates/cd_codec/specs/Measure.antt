@@ -1,4 +1,5 @@
--- How deep a value nests, and how many values it is. A blob is one value without parts.
+-- How deep a value nests, and how many values it is. Candid names no such measures: they are for the limits of this replica.
+-- A blob and a func are one value without parts.
 use Rattle.std.specs.Prelude.{ℕ, suc, ◌+◌, max, List, [], ◌∷◌}
 use Rattle.cd_codec.specs.Content.{Content, plain, blob, none, some, list, record_of, variant, Contents, no_content, content, Parts, no_part, part}
 

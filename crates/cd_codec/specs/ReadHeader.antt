@@ -1,4 +1,4 @@
--- Reading what IsHeader spells, from the front of the bytes.
+-- The grammar of headers as functions that read (Candid specification, "Binary Format", B, T and I): they read what IsHeader spells.
 use Rattle.std.specs.Prelude.{ℕ, ◌^◌, Bool, List, length, take, drop, Option, Some, None, nat_lt, nat_le, if◌then◌else◌}
 use Rattle.std.specs.Str.{bytes_eq}
 use Rattle.ic_base.specs.Reader.{Reader, ◌>>=◌, both_at, map_at, filter_at, filter_map_at, vec_at}

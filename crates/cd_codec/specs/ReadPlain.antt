@@ -1,4 +1,4 @@
--- Reading what Plain spells, from the front of the bytes.
+-- The grammar of values without parts as functions that read (Candid specification, "Binary Format", M): they read what Plain spells.
 use Rattle.std.specs.Prelude.{ℕ, ℤ, zero, suc, Bool, true, false, List, [], ◌∷◌, length, Option, Some, None, nat_lt, nat_le}
 use Rattle.std.specs.Int.{Width, w8, w16, w32, w64, byte_len, from_le_bytes, cast_signed}
 use Rattle.std.specs.List.{list_all}

@@ -1,4 +1,5 @@
--- Reading what Wire spells, from the front of the bytes: within a depth, and with so many values allowed.
+-- The grammar of values as functions that read (Candid specification, "Binary Format", M): they read what Wire spells,
+-- within a depth and with so many values allowed, which are limits of this replica.
 use Rattle.std.specs.Prelude.{ℕ, zero, suc, Bool, true, false, List, [], ◌∷◌, Option, Some, None, slice_get}
 use Rattle.ic_base.specs.Reader.{Reader, ◌>>=◌}
 use Rattle.ic_leb.specs.declared.width.Width.TheVariants.{Candid}

@@ -1,8 +1,8 @@
 ghost use Rattle.std.specs.Prelude.{◌≡◌, ◌-◌, ◌^◌, nat_lt, slice_get, option_map, Some, None, pos, negsuc, ◌<ℤ◌, if◌then◌else◌};
 ghost use Rattle.std.specs.Option.{option_flatten};
-ghost use Rattle.cd_codec.specs.Codes.{primitive_numbers, kind_numbers, is_float, primitive_named, reference_named, kind_named};
+ghost use Rattle.cd_codec.specs.Codes.{primitive_numbers, kind_numbers, is_float, primitive_named, reference_named, kind_named, kind_of, primitive_code, reference_number, kind_code};
 
-use cd_types::{Prim, TyRef};
+use cd_types::{Entry, Prim, TyRef};
 
 /// The kinds of entries of a type table.
 #[derive(Clone, Copy, Debug, PartialEq, Eq)]
@@ -144,4 +144,71 @@ fn kind_below(code: u128) -> Option<Kind>
         return None;
     }
     KINDS.get(code as usize - 17).copied()
+}
+
+/// The kind of an entry.
+pub(crate) fn kind_of(entry: &Entry) -> Kind
+    ensures { result ≡ kind_of entry.now }
+{
+    match entry {
+        Entry::Opt(_) => Kind::Opt,
+        Entry::Seq(_) => Kind::Seq,
+        Entry::Rec(_) => Kind::Rec,
+        Entry::Var(_) => Kind::Var,
+        Entry::Func { .. } => Kind::Func,
+        Entry::Service(_) => Kind::Service,
+    }
+}
+
+fn primitive_code(prim: Prim) -> u8
+    ensures { result ≡ primitive_code prim }
+{
+    match prim {
+        Prim::Null => 0,
+        Prim::Bool => 1,
+        Prim::Nat => 2,
+        Prim::Int => 3,
+        Prim::Nat8 => 4,
+        Prim::Nat16 => 5,
+        Prim::Nat32 => 6,
+        Prim::Nat64 => 7,
+        Prim::Int8 => 8,
+        Prim::Int16 => 9,
+        Prim::Int32 => 10,
+        Prim::Int64 => 11,
+        Prim::Text => 14,
+        Prim::Reserved => 15,
+        Prim::Empty => 16,
+        Prim::Principal => 23,
+    }
+}
+
+fn kind_code(kind: Kind) -> u8
+    ensures { result ≡ kind_code kind }
+{
+    match kind {
+        Kind::Opt => 17,
+        Kind::Seq => 18,
+        Kind::Rec => 19,
+        Kind::Var => 20,
+        Kind::Func => 21,
+        Kind::Service => 22,
+    }
+}
+
+/// The number that refers to a type.
+pub(crate) fn number_of_reference(ty: TyRef) -> i128
+    ensures { result ≡ reference_number ty }
+{
+    match ty {
+        TyRef::Prim(prim) => -1 - i128::from(primitive_code(prim)),
+        TyRef::Index(place) => i128::from(place),
+    }
+}
+
+/// The number of a kind of entry.
+pub(crate) fn number_of_kind(kind: Kind) -> i128
+    ensures { result ≡ negsuc (kind_code kind) }
+{
+    -1 - i128::from(kind_code(kind))
 }

@@ -293,8 +293,8 @@ pub fn read_header(alloc: Global, bytes: &[u8]) -> Result<Header, HeaderFault>
     ensures header { IfOk result (λ header. (header.length ≤ length bytes.now) × IsHeader false header.table header.types (take header.length bytes.now)) }
     // A header is read, whatever follows it, unless memory runs out.
     ensures only { (table : List Entry) (types : List TyRef) (front rest : List ℕ) → bytes.now ≡ front ++ rest → IsHeader false table types front → ReadsHeader result table types (length front) }
-    // Where floats are admitted, a front is a header.
-    ensures float { IsErrOf result HeaderFault.Float → BeginsWithHeader true bytes.now }
+    // Where floats are admitted a front is a header, and else none is.
+    ensures float { IsErrOf result HeaderFault.Float → BeginsWithHeader true bytes.now × (BeginsWithHeader false bytes.now → ⊥) }
     // Even where floats are admitted, no front is a header.
     ensures not_header { IsErrOf result HeaderFault.NotHeader → BeginsWithHeader true bytes.now → ⊥ }
 {

@@ -1,10 +1,10 @@
 -- How the parts of a run make up what the top call promises.
-use Rattle.std.proofs.Common.{◌≡◌, ◌≢◌, ℕ, ◌+◌, ◌-◌, ◌≤◌, List, [], ◌++◌, length, map, take, refl, sym, ap, subst, ◌∙◌, append-nil, length-append, length-take, arith, inl, inr, Option, Some, None, IfSome, Ok, Err, Result}
+use Rattle.std.proofs.Common.{◌≡◌, ◌≢◌, ℕ, ◌+◌, ◌≤◌, List, [], ◌++◌, length, map, take, refl, sym, ap, subst, ◌∙◌, append-nil, length-take, arith, inl, inr, Option, Some, None, IfSome, Ok, Err, Result}
 use Rattle.std.specs.Io.KnownBytes.{prepend_known}
 use Rattle.std.specs.List.{enumerate_from}
 use Rattle.std.proofs.lemmas.List.{length-map}
 use Rattle.std.proofs.lemmas.List.FromFn.{length-enumerate_from}
-use Rattle.ic_outside.specs.Given.{IsFront}
+use Rattle.ic_outside.specs.Limits.{script_limits}
 use Rattle.ic_outside.specs.Pieces.{pieces, line_of}
 use Rattle.ic_host.specs.declared.options.Options.{Options}
 use Rattle.ic_host.specs.declared.status.Status.{Status}
@@ -18,23 +18,20 @@ use Rattle.ic_host.specs.Out.{Output, out, out_of, output_of, ended}
 use Rattle.ic_host.specs.Script.{script, script_of, walk_of, lines_until}
 use Rattle.ic_host.specs.Sending.{Taken, Sent, Interrupts}
 use Rattle.ic_host.specs.State.{State}
-use Rattle.ic_host.specs.Walk.{Bad, Walk, script_limits, start, behind, walk}
+use Rattle.ic_host.specs.Walk.{Bad, Walk, start, behind, walk}
 use Rattle.ic_host.proofs.WalkLaws.{stopped, walk-line}
 
-fitting-sent : (before after : Taken) (text whole : List ℕ) (status : Status) → Sent before after text → length text ≤ length whole → status ≢ WriteFault
+fitting-sent : (before after : Taken) (text whole : List ℕ) (status : Status) → Sent before after text → status ≢ WriteFault
     → IfSome before.fits (λ room. length whole ≤ room → (after.faults ≡ before.faults) × (status ≢ WriteFault))
-fitting-sent before after text whole status sent shorter ne = fits before.fits sent.fitting where
-  fits : (o : Option ℕ) → IfSome o (λ room. length text ≤ room → (after.fits ≡ Some (room - length text)) × (after.faults ≡ before.faults))
+fitting-sent before after text whole status sent ne = fits before.fits sent.sure where
+  fits : (o : Option ℕ) → IfSome o (λ room. after.faults ≡ before.faults)
       → IfSome o (λ room. length whole ≤ room → (after.faults ≡ before.faults) × (status ≢ WriteFault))
   fits None h = tt
-  fits (Some room) h = λ fit. ((h (omega arith)).1, ne)
+  fits (Some room) h = λ fit. (h, ne)
 
 fitting-never : (fits : Option ℕ) (length : ℕ) (P : Type 0) → IfSome fits (λ room. length ≤ room → ⊥) → IfSome fits (λ room. length ≤ room → P)
 fitting-never None length P h = tt
 fitting-never (Some room) length P h = λ fit. absurd (h fit)
-
-IsFront-length : (front bytes : List ℕ) → IsFront front bytes → length front ≤ length bytes
-IsFront-length front bytes f = omega (arith, ap length f.1, length-append front f.0)
 
 module _ (words : List (List ℕ)) (left_before left : Option (List ℕ)) (before after : Taken) (read : List ℕ) (was_read : left_before ≡ prepend_known read left) where
   answer : Output
@@ -42,33 +39,36 @@ module _ (words : List (List ℕ)) (left_before left : Option (List ℕ)) (befor
 
   -- the sink took a text, and the status says what it is
   pub explain-sent : (status : Status) (text : List ℕ) → Sent before after text → Explains words status read (rest_of left) text
-      → length text ≤ length (out words (read ++ rest_of left)).bytes → status ≢ WriteFault → Explained words left_before left before after status
-  explain-sent status text sent explains shorter ne = record {
+      → status ≢ WriteFault → Explained words left_before left before after status
+  explain-sent status text sent explains ne = record {
     read = read;
     text = text;
     was_read = was_read;
     was_sent = sent.bytes;
+    fell = sent.fell;
     explains = explains;
-    fitting = fitting-sent before after text (out words (read ++ rest_of left)).bytes status sent shorter ne;
+    later = sent.later;
+    fitting = fitting-sent before after text (out words (read ++ rest_of left)).bytes status sent ne;
   }
 
   -- the answer was interrupted
   pub explain-interrupted : (status : Status) → Interrupts before after (out words (read ++ rest_of left)).bytes status → Explained words left_before left before after status
   explain-interrupted status interrupted = elim interrupted.cause [
     | inl broke ↦
-        let P = λ (s : Status). Explains words s read (rest_of left) broke.1.front.0 in
+        let P = λ (s : Status). Explains words s read (rest_of left) broke.1.front.front in
         record {
           read = read;
-          text = broke.1.front.0;
+          text = broke.1.front.front;
           was_read = was_read;
-          was_sent = broke.1.front.2;
-          explains = subst P (sym broke.0) broke.1.front.1;
+          was_sent = broke.1.front.appended;
+          fell = broke.1.front.fell;
+          explains = subst P (sym broke.0) broke.1.front.is_front;
+          later = broke.1.later;
           fitting = fitting-never before.fits (length (out words (read ++ rest_of left)).bytes) ((after.faults ≡ before.faults) × (status ≢ WriteFault)) broke.1.fitting;
         }
     | inr ran_out ↦
         let P = λ (s : Status). Explains words s read (rest_of left) ran_out.1.front in
         explain-sent status ran_out.1.front ran_out.1.sent (subst P (sym ran_out.0) ran_out.1.is_front)
-        (IsFront-length ran_out.1.front (out words (read ++ rest_of left)).bytes ran_out.1.is_front)
         (λ e. let is = ran_out.0 in cc)
   ]
 
@@ -78,7 +78,7 @@ module _ (words : List (List ℕ)) (left_before left : Option (List ℕ)) (befor
   explain-concludes output status is concludes explains ne = elim concludes [
     | inl sent ↦
         let P = λ (s : Status). Explains words s read (rest_of left) output.bytes in
-        explain-sent status output.bytes sent.1 (subst P (sym sent.0) explains) (omega (arith, ap (λ (o : Output). length o.bytes) is)) (λ e. ne (sym sent.0 ∙ e))
+        explain-sent status output.bytes sent.1 (subst P (sym sent.0) explains) (λ e. ne (sym sent.0 ∙ e))
     | inr interrupted ↦
         let P = λ (l : List ℕ). Interrupts before after l status in
         explain-interrupted status (subst P (sym (ap (λ (o : Output). o.bytes) is)) interrupted)

@@ -3,7 +3,7 @@
 use Rattle.std.proofs.Common.{◌≡◌, ℕ, ◌+◌, ◌<◌, IsTrue, Bool, true, false, List, [], ◌∷◌, ◌++◌, length, refl, sym, ap, subst, ◌∙◌, append_assoc, append-nil, inl, inr, None, Ok, Err}
 use Rattle.std.specs.Prelude.{◌⊎◌}
 use Rattle.std.proofs.lemmas.Bool.{cases_Bool}
-use Rattle.ic_outside.specs.Limits.{excess_of}
+use Rattle.ic_outside.specs.Limits.{script_limits, excess_of}
 use Rattle.ic_outside.specs.Pieces.{HasNoLf, pieces, line_of}
 use Rattle.ic_outside.proofs.PieceLaws.{pieces-line, pieces-rest, line_of-line, line_of-rest}
 use Rattle.ic_script.specs.declared.LineCause.{LineCause}
@@ -11,7 +11,7 @@ use Rattle.ic_host.specs.declared.options.Options.{Options}
 use Rattle.ic_host.specs.AfterLine.{after_line}
 use Rattle.ic_host.specs.Body.{whole_lines}
 use Rattle.ic_host.specs.State.{State}
-use Rattle.ic_host.specs.Walk.{Place, script_limits, start, behind_line, behind, walk}
+use Rattle.ic_host.specs.Walk.{Place, start, behind_line, behind, walk}
 use Rattle.ic_host.proofs.BodyLaws.{whole_lines-line}
 use Rattle.ic_host.proofs.WalkLaws.{stopped, walk-good, walk-bad, behind-behind}
 

@@ -3,7 +3,7 @@ use Rattle.std.proofs.Common.{◌≡◌, ℕ, ◌+◌, ◌<◌, ◌≤◌, IsTru
 use Rattle.std.specs.Prelude.{◌⊎◌}
 use Rattle.std.specs.Io.KnownBytes.{prepend_known, IsAtEnd}
 use Rattle.std.proofs.lemmas.Bool.{false≢true}
-use Rattle.ic_outside.specs.Limits.{Limits, Excess, LongLine, LongScript, excess, excess_of}
+use Rattle.ic_outside.specs.Limits.{Limits, script_limits, Excess, LongLine, LongScript, excess, excess_of}
 use Rattle.ic_outside.specs.Pieces.{HasNoLf, pieces, line_of}
 use Rattle.ic_outside.specs.Reader.{Reader}
 use Rattle.ic_outside.specs.Reads.{HandsOut, Exceeds, Answers}
@@ -27,7 +27,7 @@ use Rattle.ic_host.specs.Out.{out}
 use Rattle.ic_host.specs.Script.{walk_of}
 use Rattle.ic_host.specs.Sending.{Taken, Sent, Interrupts}
 use Rattle.ic_host.specs.State.{State}
-use Rattle.ic_host.specs.Walk.{Place, Bad, Walk, script_limits, start, behind_line, behind, walk, judge}
+use Rattle.ic_host.specs.Walk.{Place, Bad, Walk, start, behind_line, behind, walk, judge}
 use Rattle.ic_host.proofs.Exits.{explain-sent, explain-interrupted, explain-concludes, out-stopped, out-front, body-accepted, explains-bad}
 use Rattle.ic_host.proofs.Follows.{Follows, Follows-start, Follows-good, Follows-bad}
 use Rattle.ic_host.proofs.BodyLaws.{whole_lines-none}
@@ -169,9 +169,6 @@ module _ (options : Options) (left_before left left_after : Option (List ℕ)) (
           let found = out-front words options accepted ((runs.handed ++ (old.kept ++ read)) ++ rest_of left_after) runs.printed _ (way_on read over (rest_of left_after) last) in
           (_, found.1 ∙ append_assoc runs.printed _ found.0)
 
-      shorter : length runs.printed ≤ length (out words ((runs.handed ++ (old.kept ++ read)) ++ rest_of left_after)).bytes
-      shorter = omega (arith, ap length front.1, length-append runs.printed front.0)
-
       same_sent : after ≡ now → Sent before after runs.printed
       same_sent same = let P = λ (t : Taken). Sent before t runs.printed in subst P (sym same) runs.sent
 
@@ -179,7 +176,7 @@ module _ (options : Options) (left_before left left_after : Option (List ℕ)) (
       pub explain-out_of_memory : after ≡ now → Explained words left_before left_after before after NoMemory
       explain-out_of_memory same =
           explain-sent words left_before left_after before after (runs.handed ++ (old.kept ++ read)) (read_so_far read taken)
-          NoMemory runs.printed (same_sent same) front shorter (λ e. cc)
+          NoMemory runs.printed (same_sent same) front (λ e. cc)
 
       -- the source failed in the midst of a line
       pub explain-read_fault : after ≡ now → HasNoLf (old.kept ++ read) → old.ended ≡ false → Explained words left_before left_after before after ReadFault
@@ -190,7 +187,7 @@ module _ (options : Options) (left_before left left_after : Option (List ℕ)) (
           let printed : runs.printed ≡ body words (runs.handed ++ (old.kept ++ read)) =
           sym (body-accepted words options accepted (runs.handed ++ (old.kept ++ read)) ∙ ap (λ (w : Walk). w.text) (way ∙ ap (behind runs.printed) ends) ∙ append-nil runs.printed) in
           explain-sent words left_before left_after before after (runs.handed ++ (old.kept ++ read)) (read_so_far read taken)
-          ReadFault runs.printed (same_sent same) (printed, front, λ e. let is = accepted in cc) shorter (λ e. cc)
+          ReadFault runs.printed (same_sent same) (printed, front, λ e. let is = accepted in cc) (λ e. cc)
 
       -- the script was read to its end
       pub explain-end : (status : Status) → old.kept ++ read ≡ [] → rest_of left_after ≡ [] → Concludes now after (end_output options state) status

@@ -1,57 +1,59 @@
 -- Sending one text after another.
-use Rattle.std.proofs.Common.{◌≡◌, ℕ, ◌+◌, ◌-◌, ◌≤◌, List, [], ◌++◌, length, Option, Some, None, IfSome, refl, sym, ap, subst, ◌∙◌, append_assoc, append-nil, length-append, arith, inl, inr}
+use Rattle.std.proofs.Common.{◌≡◌, ℕ, ◌+◌, ◌≤◌, List, [], ◌++◌, length, Option, Some, None, IfSome, refl, sym, ap, subst, ◌∙◌, append_assoc, length-append, arith, inl, inr}
+use Rattle.std.specs.Prelude.{unwrap_or}
 use Rattle.std.specs.Io.KnownBytes.{append_known}
 use Rattle.ic_outside.specs.Given.{IsFront}
-use Rattle.ic_outside.proofs.KnownLaws.{append_known-append}
+use Rattle.ic_outside.specs.Writing.{room_before}
+use Rattle.ic_outside.proofs.KnownLaws.{append_known-append, append_known-nil, room_before-none, room_before-more}
 use Rattle.ic_host.specs.declared.status.Status.{Status}
 use Rattle.ic_host.specs.declared.status.Status.TheVariants.{NoMemory}
 use Rattle.ic_host.specs.Out.{Output}
 use Rattle.ic_host.specs.Sending.{Taken, Sent, Broke, RanOut, Interrupts}
 use Rattle.ic_host.specs.Acts.{Concludes}
 
-append_known-nil : (known : Option (List ℕ)) → append_known known [] ≡ known
-append_known-nil None = refl
-append_known-nil (Some bytes) = ap Some (append-nil bytes)
-
-fits-nil : (fits : Option ℕ) (faults : ℕ) → IfSome fits (λ room. 0 ≤ room → (fits ≡ Some (room - 0)) × (faults ≡ faults))
-fits-nil None faults = tt
-fits-nil (Some room) faults = λ _. (ap Some (omega arith), refl)
+same_count : (fits : Option ℕ) (faults : ℕ) → IfSome fits (λ room. faults ≡ faults)
+same_count None faults = tt
+same_count (Some room) faults = refl
 
 -- nothing is sent by doing nothing
 pub Sent-nil : (at : Taken) → Sent at at []
-Sent-nil at = record { bytes = sym (append_known-nil at.bytes); later = omega arith; fitting = fits-nil at.fits at.faults }
+Sent-nil at = record {
+  bytes = sym (append_known-nil at.bytes);
+  fell = room_before-none at.fits;
+  later = omega arith;
+  sure = same_count at.fits at.faults;
+}
 
-fits-append : (fits at after : Option ℕ) (before now then first second : ℕ)
-    → IfSome fits (λ room. first ≤ room → (at ≡ Some (room - first)) × (now ≡ before))
-    → IfSome at (λ room. second ≤ room → (after ≡ Some (room - second)) × (then ≡ now))
-    → IfSome fits (λ room. first + second ≤ room → (after ≡ Some (room - (first + second))) × (then ≡ before))
-fits-append None at after before now then first second one two = tt
-fits-append (Some room) at after before now then first second one two = λ fit.
-    let old = one (omega arith) in
-    let P = λ (o : Option ℕ). IfSome o (λ left. second ≤ left → (after ≡ Some (left - second)) × (then ≡ now)) in
-    let new : (after ≡ Some (room - first - second)) × (then ≡ now) = subst P old.0 two (omega arith) in
-    (new.0 ∙ ap Some (omega arith), new.1 ∙ old.1)
+-- a room fell by two texts, one after the other
+fell-append : (fits at after : Option ℕ) (first second : List ℕ) → fits ≡ room_before (length first) at → at ≡ room_before (length second) after
+    → fits ≡ room_before (length (first ++ second)) after
+fell-append fits at after first second one two =
+    one ∙ ap (room_before (length first)) two ∙ room_before-more (length first) (length second) after
+    ∙ ap (λ n. room_before n after) (sym (length-append first second))
+
+-- where a room is told before a text, it is told behind it
+sure-append : (fits at : Option ℕ) (before now then n : ℕ) → fits ≡ room_before n at
+    → IfSome fits (λ room. now ≡ before) → IfSome at (λ room. then ≡ now) → IfSome fits (λ room. then ≡ before)
+sure-append None at before now then n fell one two = tt
+sure-append (Some room) None before now then n fell one two = cc
+sure-append (Some room) (Some left) before now then n fell one two = two ∙ one
 
 -- a text after another
 pub Sent-append : (old at new : Taken) (first second : List ℕ) → Sent old at first → Sent at new second → Sent old new (first ++ second)
-Sent-append old at new first second one two =
-    let P = λ (n : ℕ). IfSome old.fits (λ room. n ≤ room → (new.fits ≡ Some (room - n)) × (new.faults ≡ old.faults)) in
-    record {
-      bytes = two.bytes ∙ ap (λ known. append_known known second) one.bytes ∙ sym (append_known-append old.bytes first second);
-      later = omega (arith, one.later, two.later);
-      fitting = subst P (sym (length-append first second))
-          (fits-append old.fits at.fits new.fits old.faults at.faults new.faults (length first) (length second) one.fitting two.fitting);
-    }
+Sent-append old at new first second one two = record {
+  bytes = two.bytes ∙ ap (λ known. append_known known second) one.bytes ∙ sym (append_known-append old.bytes first second);
+  fell = fell-append old.fits at.fits new.fits first second one.fell two.fell;
+  later = omega (arith, one.later, two.later);
+  sure = sure-append old.fits at.fits old.faults at.faults new.faults (length first) one.fell one.sure two.sure;
+}
 
-fits-broke : (fits at : Option ℕ) (before now first second : ℕ)
-    → IfSome fits (λ room. first ≤ room → (at ≡ Some (room - first)) × (now ≡ before))
-    → IfSome at (λ room. second ≤ room → ⊥)
-    → IfSome fits (λ room. first + second ≤ room → ⊥)
-fits-broke None at before now first second one two = tt
-fits-broke (Some room) at before now first second one two = λ fit.
-    let old = one (omega arith) in
-    let P = λ (o : Option ℕ). IfSome o (λ left. second ≤ left → ⊥) in
-    subst P old.0 two (omega arith)
+fits-broke : (fits at : Option ℕ) (first second : ℕ) → fits ≡ room_before first at
+    → IfSome at (λ room. second ≤ room → ⊥) → IfSome fits (λ room. first + second ≤ room → ⊥)
+fits-broke None at first second fell two = tt
+fits-broke (Some room) None first second fell two = cc
+fits-broke (Some room) (Some left) first second fell two = λ fit.
+    let is : room ≡ left + first = ap (λ o. unwrap_or o 0) fell in
+    two (omega (arith, is))
 
 IsFront-after : (first front second : List ℕ) → IsFront front second → IsFront (first ++ front) (first ++ second)
 IsFront-after first front second f = (f.0, ap (λ l. first ++ l) f.1 ∙ sym (append_assoc first front f.0))
@@ -60,14 +62,15 @@ Broke-after : (old at new : Taken) (first second : List ℕ) → Sent old at fir
 Broke-after old at new first second one two =
     let P = λ (n : ℕ). IfSome old.fits (λ room. n ≤ room → ⊥) in
     record {
-      front = (
-        first ++ two.front.0,
-        IsFront-after first two.front.0 second two.front.1,
-        two.front.2 ∙ ap (λ known. append_known known two.front.0) one.bytes ∙ sym (append_known-append old.bytes first two.front.0),
-      );
+      front = record {
+        front = first ++ two.front.front;
+        is_front = IsFront-after first two.front.front second two.front.is_front;
+        appended = two.front.appended ∙ ap (λ known. append_known known two.front.front) one.bytes ∙ sym (append_known-append old.bytes first two.front.front);
+        fell = fell-append old.fits at.fits new.fits first two.front.front one.fell two.front.fell;
+      };
+      later = omega (arith, one.later, two.later);
       rose = omega (arith, one.later, two.rose);
-      fitting = subst P (sym (length-append first second))
-          (fits-broke old.fits at.fits old.faults at.faults (length first) (length second) one.fitting two.fitting);
+      fitting = subst P (sym (length-append first second)) (fits-broke old.fits at.fits (length first) (length second) one.fell two.fitting);
     }
 
 RanOut-after : (old at new : Taken) (first second : List ℕ) → Sent old at first → RanOut at new second → RanOut old new (first ++ second)
@@ -101,7 +104,13 @@ Interrupts-more old new text more status one = record {
     | inl broke ↦ inl (
       broke.0,
       record {
-        front = (broke.1.front.0, IsFront-more broke.1.front.0 text more broke.1.front.1, broke.1.front.2);
+        front = record {
+          front = broke.1.front.front;
+          is_front = IsFront-more broke.1.front.front text more broke.1.front.is_front;
+          appended = broke.1.front.appended;
+          fell = broke.1.front.fell;
+        };
+        later = broke.1.later;
         rose = broke.1.rose;
         fitting = fits-longer old.fits (length text) (length (text ++ more)) (omega (arith, length-append text more)) broke.1.fitting;
       },

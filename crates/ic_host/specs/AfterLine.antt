@@ -7,6 +7,7 @@ use Rattle.ic_host.specs.declared.options.Options.{Options}
 use Rattle.ic_host.specs.AfterCommand.{after_command}
 use Rattle.ic_host.specs.State.{State}
 
+-- what the command that a line spells does, or the cause for which it spells none
 abbrev pub after_spelled : Options → State → Result Command LineCause → Result (State × List ℕ) LineCause
 after_spelled options state (Ok command) = after_command options state command
 after_spelled options state (Err cause) = Err cause

@@ -2,6 +2,7 @@
 use Rattle.std.specs.Prelude.{◌≡◌, ◌≢◌, ℕ, ◌+◌, ◌≤◌, ◌⊎◌, List, [], ◌++◌, length, unwrap_or, Option, Some, None, IfSome, Result, Ok, Err}
 use Rattle.std.specs.Io.KnownBytes.{prepend_known, append_known}
 use Rattle.ic_outside.specs.Given.{IsFront}
+use Rattle.ic_outside.specs.Writing.{room_before}
 use Rattle.ic_host.specs.declared.options.Options.{Options}
 use Rattle.ic_host.specs.declared.status.Status.{Status}
 use Rattle.ic_host.specs.declared.status.Status.TheVariants.{Done, BadWords, BadLine, ReadFault, WriteFault, NoMemory}
@@ -13,15 +14,17 @@ use Rattle.ic_host.specs.Sending.{Taken}
 use Rattle.ic_host.specs.State.{State}
 use Rattle.ic_host.specs.Walk.{Bad}
 
--- how many bytes of a script show its bad line
+-- how many bytes show the bad line at which a way stops
 abbrev pub stop_of : Result State Bad → ℕ
 stop_of (Ok state) = 0
 stop_of (Err bad) = bad.stop
 
+-- the same of a script that runs with the options, where the words are accepted
 abbrev pub bad_stop_of : Option Options → List ℕ → ℕ
 bad_stop_of None bytes = 0
 bad_stop_of (Some options) bytes = stop_of (walk_of options bytes).last
 
+-- how many bytes of a script show that it has a bad line, and 0 where it has none
 unfoldable pub bad_stop : List (List ℕ) → List ℕ → ℕ
 bad_stop words bytes = bad_stop_of (options_of words) bytes
 
@@ -46,14 +49,16 @@ Explains words NoMemory read rest text = IsFront text (out words (read ++ rest))
 abbrev pub rest_of : Option (List ℕ) → List ℕ
 rest_of left = unwrap_or left []
 
--- A call read bytes from the source and sent a text to the sink, as its status says; where the whole
--- answer fits into the sink, the sink did not fail.
+-- A call read bytes from the source and sent a text to the sink, as its status says. A room that the
+-- sink tells fell by the text's length, and where the whole answer fits in it, the sink did not fail.
 pub record Explained (words : List (List ℕ)) (left_before left : Option (List ℕ)) (before after : Taken) (status : Status) : Type 0 where
   pub read : List ℕ
   pub text : List ℕ
   pub was_read : left_before ≡ prepend_known read left
   pub was_sent : after.bytes ≡ append_known before.bytes text
+  pub fell : before.fits ≡ room_before (length text) after.fits
   pub explains : Explains words status read (rest_of left) text
+  pub later : before.faults ≤ after.faults
   pub fitting : IfSome before.fits (λ room. length (out words (read ++ rest_of left)).bytes ≤ room
       → (after.faults ≡ before.faults) × (status ≢ WriteFault))
 

@@ -20,9 +20,11 @@ abbrev pub ended : Options → List ℕ → Result State Bad → Output
 ended options text (Ok state) = record { bytes = text ++ end_part options state; status = Done }
 ended options text (Err bad) = record { bytes = text ++ bad_text bad.line bad.cause; status = BadLine bad.line bad.cause }
 
+-- the answer that a way through a script makes
 abbrev pub output_of : Options → Walk → Output
 output_of options way = ended options way.text way.last
 
+-- the answer to a script with the options, or the usage line where the words are refused
 abbrev pub out_of : Option Options → List ℕ → Output
 out_of None script = record { bytes = usage_text; status = BadWords }
 out_of (Some options) script = output_of options (walk_of options script)

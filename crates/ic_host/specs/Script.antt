@@ -1,11 +1,12 @@
 -- The lines of a script.
 use Rattle.std.specs.Prelude.{ℕ, List, [], map, take, length, Option, Some, None, Result, Ok, Err}
 use Rattle.std.specs.List.{enumerate_from}
+use Rattle.ic_outside.specs.Limits.{script_limits}
 use Rattle.ic_outside.specs.Pieces.{pieces, line_of}
 use Rattle.ic_host.specs.declared.options.Options.{Options}
 use Rattle.ic_host.specs.Options.{options_of}
 use Rattle.ic_host.specs.State.{State}
-use Rattle.ic_host.specs.Walk.{Bad, Walk, script_limits, start, walk}
+use Rattle.ic_host.specs.Walk.{Bad, Walk, start, walk}
 
 -- how many of so many lines there are up to the first bad one
 abbrev pub lines_until : ℕ → Result State Bad → ℕ
@@ -16,6 +17,7 @@ lines_until all (Err bad) = bad.line
 unfoldable pub walk_of : Options → List ℕ → Walk
 walk_of options script = walk script_limits (start options) (pieces script)
 
+-- the numbered lines up to the first bad one, where the words are accepted; else none is read
 abbrev pub script_of : Option Options → List ℕ → List (ℕ × List ℕ)
 script_of None bytes = []
 script_of (Some options) bytes =

@@ -8,10 +8,6 @@ use Rattle.ic_host.specs.declared.options.Options.{Options}
 use Rattle.ic_host.specs.AfterLine.{after_line}
 use Rattle.ic_host.specs.State.{State}
 
--- the most bytes of a line before its line feed, and of a script
-abbrev pub script_limits : Limits
-script_limits = record { line = 8388608; script = 268435456 }
-
 -- where a way stands: before the line of this number, with so many bytes of the script behind it
 pub record Place : Type 0 where
   pub options : Options

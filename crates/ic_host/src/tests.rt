@@ -1,7 +1,9 @@
 use crate::{Status, replica};
-use ic_outside::{MemorySink, MemorySource, OpenGate};
+use ic_outside::{MemorySink, MemorySource, OpenGate, StdSource};
 use ic_script::LineCause;
 use std::alloc::Global;
+use std::io;
+use std::io::Read;
 use std::process::Abort;
 use std::test::Fail;
 use std::thread::Threads;
@@ -220,6 +222,58 @@ fn many_calls(rt: HostRuntime) -> Result<(), Fail> {
     )?;
     assert_eq!(rt; got.0.as_slice(), printed.as_bytes());
     assert_eq!(rt; got.1, Status::Done);
+    Ok(())
+}
+
+// A call and a comment that goes on past the first read, which gives 65,536 bytes. The second read
+// fails.
+#[test]
+fn failing_second_read(rt: HostRuntime) -> Result<(), Fail> {
+    let mut script = Vec::from_slice(rt.alloc(), CALL.as_bytes())?;
+    script.extend_from_slice(&comment(rt.alloc(), 70_000)?)?;
+    let got = run(
+        &rt,
+        rt.alloc(),
+        &["replica"],
+        &script,
+        (1_000_000, 100),
+        (&[2], &[]),
+        100,
+    )?;
+    assert_eq!(rt; got.0.as_slice(), b"accepted 0\n".as_slice());
+    assert_eq!(rt; got.1, Status::ReadFault);
+    Ok(())
+}
+
+// A reader of comments without an end, each as long as a read.
+#[derive(Drop)]
+struct Comments;
+
+impl Read for Comments {
+    fn read(&mut self, buffer: &mut [u8]) -> io::Result<usize> {
+        buffer.fill(b'#');
+        if let Some(last) = buffer.last_mut() {
+            *last = b'\n';
+        }
+        Ok(buffer.len())
+    }
+}
+
+// The reader of lines asks for 65,536 bytes at a time, so the largest script has 4,096 of them.
+#[test]
+fn script_too_long(rt: HostRuntime) -> Result<(), Fail> {
+    let words = vec![in rt.alloc(); String::from_str(rt.alloc(), "replica")?]?;
+    let mut source = StdSource::new(Comments);
+    let mut sink = MemorySink::new(rt.alloc(), 100, 100, Vec::new(rt.alloc()))?;
+    let status = replica(rt.alloc(), &rt, &words, &mut source, &mut sink, &OpenGate);
+    assert_eq!(rt; sink.taken(), b"line 4097: ScriptTooLong\n".as_slice());
+    assert_eq!(rt;
+        status,
+        Status::BadLine {
+            line: 4097,
+            cause: LineCause::ScriptTooLong,
+        }
+    );
     Ok(())
 }
 

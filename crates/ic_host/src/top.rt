@@ -46,6 +46,10 @@ pub fn replica<R: Threads + Sync, S: Source, K: Sink, G: Gate + Sync>(
     ensures untouched { result ≡ Status.BadWords → source.new ≡ source.old }
     ensures to_the_end { result ≡ Status.Done → IsTrue (S.ended source.new) }
 
+    // No count of faults falls.
+    ensures later_source { S.faults source.old ≤ S.faults source.new }
+    ensures later_sink { K.faults sink.old ≤ K.faults sink.new }
+
     // A source that cannot fail does not fail.
     ensures sure { S.cannot_fail source.old
         → S.cannot_fail source.new × (S.faults source.new ≡ S.faults source.old) × (result ≢ Status.ReadFault) }
@@ -69,6 +73,7 @@ fn run<S: Source, K: Sink>(alloc: Global, words: &[String], source: &mut S, sink
     ensures to_the_end { result ≡ Status.Done → IsTrue (S.ended source.new) }
     ensures sure { S.cannot_fail source.old
         → S.cannot_fail source.new × (S.faults source.new ≡ S.faults source.old) × (result ≢ Status.ReadFault) }
+    ensures later { S.faults source.old ≤ S.faults source.new }
 {
     match Options::read(words) {
         Some(options) => run_script(alloc, &options, source, sink),
@@ -102,6 +107,7 @@ fn run_script<S: Source, K: Sink>(
     ensures to_the_end { result ≡ Status.Done → IsTrue (S.ended source.new) }
     ensures sure { S.cannot_fail source.old
         → S.cannot_fail source.new × (S.faults source.new ≡ S.faults source.old) × (result ≢ Status.ReadFault) }
+    ensures later { S.faults source.old ≤ S.faults source.new }
 {
     let mut lines = Lines::new(alloc, LARGEST_LINE, LARGEST_SCRIPT);
     let mut requests = Requests::new(alloc);

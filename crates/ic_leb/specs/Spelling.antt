@@ -1,4 +1,5 @@
--- The shortest spelling of a number.
+-- The shortest spelling of a number (WebAssembly Core 1.0, section 5.2.2; Candid, "Binary Format").
+-- That nothing shorter spells it is proved in `src/laws.rt`: `shortest_unsigned`, `shortest_signed`.
 use Rattle.std.specs.Prelude.{ℕ, zero, suc, ◌+◌, ◌/◌, List, [], ◌∷◌, Bool, true, false, nat_lt, ℤ, pos, negsuc}
 use Rattle.ic_leb.specs.Magnitude.{low_bits}
 

@@ -1,4 +1,4 @@
-ghost use Rattle.std.specs.Prelude.{◌≡◌, ◌↔◌, ℕ, ℤ, ◌+◌, ◌%◌, ◌^◌, ◌<◌, ◌≤◌, length, drop, take, nat_lt, slice_range, IfOk, IfSome, MatchResult, FitsSigned};
+ghost use Rattle.std.specs.Prelude.{◌≡◌, ◌↔◌, ℕ, ℤ, ◌+◌, ◌%◌, ◌^◌, ◌<◌, ◌≤◌, length, drop, take, nat_lt, slice_range, IfOk, IfErr, IfSome, MatchResult, FitsSigned};
 ghost use Rattle.std.specs.Int.{complement_if};
 ghost use Rattle.std.specs.List.{position_from};
 ghost use Rattle.ic_leb.specs.Width.{bits, int_width, most_bytes};
@@ -51,6 +51,8 @@ pub fn read_s(bytes: &[u8], at: usize, width: Width) -> Result<(i128, usize), Le
 /// Takes the unsigned number off the front: the value, and the bytes after it.
 pub fn take_u(bytes: &[u8], width: Width) -> Result<(u128, &[u8]), LebFault>
     ensures exact { MatchResult result (λ x. unsigned_reader width bytes.now ≡ Some (x.0, x.1.now)) (λ _. unsigned_reader width bytes.now ≡ None) }
+    // The fault that `read_u` answers.
+    ensures fault { IfErr result (λ fault. unsigned_at width bytes.now ≡ Err fault) }
     ensures fits { IfOk result (λ x. x.0 < 2 ^ bits width) }
 {
     let (n, place) = unsigned(bytes, 0, width)?;
@@ -60,6 +62,8 @@ pub fn take_u(bytes: &[u8], width: Width) -> Result<(u128, &[u8]), LebFault>
 /// Takes the signed number off the front: the value, and the bytes after it.
 pub fn take_s(bytes: &[u8], width: Width) -> Result<(i128, &[u8]), LebFault>
     ensures exact { MatchResult result (λ x. signed_reader width bytes.now ≡ Some (x.0, x.1.now)) (λ _. signed_reader width bytes.now ≡ None) }
+    // The fault that `read_s` answers.
+    ensures fault { IfErr result (λ fault. signed_at width bytes.now ≡ Err fault) }
     ensures fits { IfOk result (λ x. FitsSigned (int_width width) x.0) }
 {
     let (z, place) = signed(bytes, 0, width)?;

@@ -16,7 +16,7 @@ impl Width {
     ghost use Rattle.ic_leb.specs.Width.{bits, most_bytes};
 
     /// The most bytes of one number, padding included.
-    pub fn most_bytes(self) -> usize
+    pub(crate) fn most_bytes(self) -> usize
         ensures { result ≡ most_bytes self }
     {
         match self {

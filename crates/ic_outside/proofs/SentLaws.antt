@@ -1,36 +1,38 @@
 -- The loop that sends: what was sent so far, and one write more.
-use Rattle.std.proofs.Common.{◌≡◌, ℕ, ◌+◌, ◌-◌, ◌<◌, ◌≤◌, List, [], ◌++◌, length, take, drop, Option, Some, None, IfSome, refl, sym, ap, subst, ◌∙◌, append_assoc, append-nil, take-append-drop, length-append, length-take, arith}
+use Rattle.std.proofs.Common.{◌≡◌, ℕ, ◌+◌, ◌<◌, ◌≤◌, List, [], ◌++◌, length, take, drop, Option, Some, None, IfSome, refl, sym, ap, ◌∙◌, append_assoc, take-append-drop, length-append, length-take, arith}
+use Rattle.std.specs.Prelude.{unwrap_or}
 use Rattle.std.specs.Io.KnownBytes.{append_known}
-use Rattle.ic_outside.proofs.KnownLaws.{append_known-append}
+use Rattle.ic_outside.specs.Writing.{room_before}
+use Rattle.ic_outside.proofs.KnownLaws.{append_known-append, append_known-nil, room_before-none, room_before-more}
 
 -- the sink has taken a front of the bytes, and the rest is to be sent
 pub record Sent {K : Type 0} (taken : K → Option (List ℕ)) (faults : K → ℕ) (fits : K → Option ℕ) (start : K) (bytes : List ℕ) (sink : K) (rest : List ℕ) : Type 0 where
   pub sent : List ℕ
   pub whole : bytes ≡ sent ++ rest
   pub appended : taken sink ≡ append_known (taken start) sent
+  pub fell : fits start ≡ room_before (length sent) (fits sink)
   pub later : faults start ≤ faults sink
-  pub fitting : IfSome (fits start) (λ room. length bytes ≤ room → (faults sink ≡ faults start) × (fits sink ≡ Some (room - length sent)))
+  pub sure : IfSome (fits start) (λ room. faults sink ≡ faults start)
   pub nothing : bytes ≡ [] → sink ≡ start
 
-append_known-nil : (known : Option (List ℕ)) → append_known known [] ≡ known
-append_known-nil None = refl
-append_known-nil (Some bytes) = ap Some (append-nil bytes)
+-- a write that took bytes had room for them
+sure-more : (start at after : Option ℕ) (before now then : ℕ) (sent len n : ℕ) → start ≡ room_before sent at → at ≡ room_before n after → 0 < n
+    → IfSome start (λ room. now ≡ before) → IfSome at (λ room. (0 < len → 0 < room) → then ≡ now) → IfSome start (λ room. then ≡ before)
+sure-more None at after before now then sent len n told is some first second = tt
+sure-more (Some room) None after before now then sent len n told is some first second = cc
+sure-more (Some room) (Some left) None before now then sent len n told is some first second = cc
+sure-more (Some room) (Some left) (Some rest) before now then sent len n told is some first second =
+    let enough : left ≡ rest + n = ap (λ o. unwrap_or o 0) is in
+    second (λ _. omega (arith, enough)) ∙ first
 
-some_room : (fits : Option ℕ) (faults : ℕ) (total : ℕ) → IfSome fits (λ room. total ≤ room → (faults ≡ faults) × (fits ≡ Some (room - 0)))
-some_room None faults total = tt
-some_room (Some room) faults total = λ fit. (refl, ap Some (omega arith))
-
--- a write that fits takes its bytes off the room
-fitting-more : (start at after : Option ℕ) (before now then : ℕ) (total sent rest n : ℕ) → total ≡ sent + rest → n ≤ rest
-    → IfSome start (λ room. total ≤ room → (now ≡ before) × (at ≡ Some (room - sent)))
-    → IfSome at (λ room. rest ≤ room → (then ≡ now) × (after ≡ Some (room - n)))
-    → IfSome start (λ room. total ≤ room → (then ≡ before) × (after ≡ Some (room - (sent + n))))
-fitting-more None at after before now then total sent rest n whole within first second = tt
-fitting-more (Some room) at after before now then total sent rest n whole within first second = λ fit.
-    let old = first fit in
-    let P : Option ℕ → Type 0 = λ o. IfSome o (λ left. rest ≤ left → (then ≡ now) × (after ≡ Some (left - n))) in
-    let freely : (then ≡ now) × (after ≡ Some (room - sent - n)) = subst P old.1 second (omega arith) in
-    (freely.0 ∙ old.0, freely.1 ∙ ap Some (omega arith))
+-- where all the bytes fit, a write of the rest does not fail
+pub broke : (start at : Option ℕ) (total sent rest : ℕ) → total ≡ sent + rest → 0 < rest → start ≡ room_before sent at
+    → IfSome at (λ room. (0 < rest → 0 < room) → ⊥) → IfSome start (λ room. total ≤ room → ⊥)
+broke None at total sent rest whole some told h = tt
+broke (Some room) None total sent rest whole some told h = cc
+broke (Some room) (Some left) total sent rest whole some told h = λ fit.
+    let is : room ≡ left + sent = ap (λ o. unwrap_or o 0) told in
+    h (λ _. omega (arith, is))
 
 module _ {K : Type 0} (taken : K → Option (List ℕ)) (faults : K → ℕ) (fits : K → Option ℕ) (start : K) (bytes : List ℕ) where
   pub Sent-none : Sent taken faults fits start bytes start bytes
@@ -38,27 +40,30 @@ module _ {K : Type 0} (taken : K → Option (List ℕ)) (faults : K → ℕ) (fi
     sent = [];
     whole = refl;
     appended = sym (append_known-nil (taken start));
+    fell = room_before-none (fits start);
     later = omega arith;
-    fitting = some_room (fits start) (faults start) (length bytes);
+    sure = same (fits start);
     nothing = λ e. refl;
-  }
+  } where
+    same : (room : Option ℕ) → IfSome room (λ _. faults start ≡ faults start)
+    same None = tt
+    same (Some room) = refl
 
-  pub Sent-more : (sink : K) (rest : List ℕ) (next : K) (left : List ℕ) (n : ℕ) → Sent taken faults fits start bytes sink rest → n ≤ length rest → 0 < length rest
-      → left ≡ drop n rest → taken next ≡ append_known (taken sink) (take n rest) → faults sink ≤ faults next
-      → IfSome (fits sink) (λ room. length rest ≤ room → (faults next ≡ faults sink) × (fits next ≡ Some (room - n)))
+  pub Sent-more : (sink : K) (rest : List ℕ) (next : K) (left : List ℕ) (n : ℕ) → Sent taken faults fits start bytes sink rest → n ≤ length rest → 0 < length rest → 0 < n
+      → left ≡ drop n rest → taken next ≡ append_known (taken sink) (take n rest) → faults sink ≤ faults next → fits sink ≡ room_before n (fits next)
+      → IfSome (fits sink) (λ room. (0 < length rest → 0 < room) → faults next ≡ faults sink)
       → Sent taken faults fits start bytes next left
-  Sent-more sink rest next left n so_far within some is_left appended later fitting =
+  Sent-more sink rest next left n so_far within some took is_left appended later fell sure =
       let front = take n rest in
       let whole : bytes ≡ (so_far.sent ++ front) ++ left =
       so_far.whole ∙ ap (λ l. so_far.sent ++ l) (sym (take-append-drop n rest) ∙ ap (λ l. front ++ l) (sym is_left)) ∙ sym (append_assoc so_far.sent front left) in
       let grown : length (so_far.sent ++ front) ≡ length so_far.sent + n = omega (arith, length-append so_far.sent front, length-take n rest) in
-      let all : length bytes ≡ length so_far.sent + length rest = ap length so_far.whole ∙ length-append so_far.sent rest in
-      let P : ℕ → Type 0 = λ k. IfSome (fits start) (λ room. length bytes ≤ room → (faults next ≡ faults start) × (fits next ≡ Some (room - k))) in
       record {
         sent = so_far.sent ++ front;
         whole = whole;
         appended = appended ∙ ap (λ k. append_known k front) so_far.appended ∙ sym (append_known-append (taken start) so_far.sent front);
+        fell = so_far.fell ∙ ap (room_before (length so_far.sent)) fell ∙ room_before-more (length so_far.sent) n (fits next) ∙ ap (λ k. room_before k (fits next)) (sym grown);
         later = omega (arith, so_far.later);
-        fitting = subst P (sym grown) (fitting-more (fits start) (fits sink) (fits next) (faults start) (faults sink) (faults next) (length bytes) (length so_far.sent) (length rest) n all within so_far.fitting fitting);
-        nothing = λ none. absurd (omega (arith, ap length none));
+        sure = sure-more (fits start) (fits sink) (fits next) (faults start) (faults sink) (faults next) (length so_far.sent) (length rest) n so_far.fell fell took so_far.sure sure;
+        nothing = λ none. absurd (omega (arith, ap length none, ap length so_far.whole, length-append so_far.sent rest));
       }

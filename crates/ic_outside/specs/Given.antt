@@ -1,6 +1,7 @@
 -- The bytes that a read gave or a write took.
 use Rattle.std.specs.Prelude.{◌≡◌, ℕ, Bool, false, ◌&&◌, ◌==◌, nat_lt, List, [], ◌++◌, length, take, Option, Result, Ok, Err}
 use Rattle.std.specs.Io.KnownBytes.{append_known}
+use Rattle.ic_outside.specs.Writing.{room_before}
 
 -- the bytes that a call moved: the first n of the buffer at `Ok(n)`, none at `Err`
 abbrev pub given : {E : Type 0} → Result ℕ E → List ℕ → List ℕ
@@ -16,6 +17,9 @@ gives_end (Err fault) buffer = false
 abbrev pub IsFront : List ℕ → List ℕ → Type 0
 IsFront front bytes = (rest : List ℕ) × (bytes ≡ front ++ rest)
 
--- some front of the bytes was appended
-abbrev pub TookFront : Option (List ℕ) → Option (List ℕ) → List ℕ → Type 0
-TookFront old new bytes = (front : List ℕ) × IsFront front bytes × (new ≡ append_known old front)
+-- some front of the bytes was appended, and the room, where it is told, fell by its length
+pub record TookFront (old new : Option (List ℕ)) (room room_left : Option ℕ) (bytes : List ℕ) : Type 0 where
+  pub front : List ℕ
+  pub is_front : IsFront front bytes
+  pub appended : new ≡ append_known old front
+  pub fell : room ≡ room_before (length front) room_left

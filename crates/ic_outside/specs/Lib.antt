@@ -1,4 +1,5 @@
 pub mod Faults
+pub mod FaultText
 pub mod Given
 pub mod Reading
 pub mod Writing

@@ -7,6 +7,10 @@ pub record Limits : Type 0 where
   pub line : ℕ
   pub script : ℕ
 
+-- the limits of a script of the program: lines of at most 8 MiB, and 256 MiB in all
+abbrev pub script_limits : Limits
+script_limits = record { line = 8388608; script = 268435456 }
+
 -- a limit that is passed
 pub data Excess : Type 0 where
   LongLine : Excess

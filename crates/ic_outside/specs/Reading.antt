@@ -1,4 +1,4 @@
--- What a read that cannot fail does.
+-- What a read or a write that cannot fail does.
 use Rattle.std.specs.Prelude.{◌≡◌, ℕ, Result, IsOk}
 
 -- the call succeeds, and its count of faults stays

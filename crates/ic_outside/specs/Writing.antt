@@ -1,7 +1,12 @@
--- What a write that fits does.
-use Rattle.std.specs.Prelude.{◌≡◌, ℕ, ◌-◌, Option, Some, Result, Ok, Err}
+-- What a write does to the room of a sink, where the sink tells it.
+use Rattle.std.specs.Prelude.{ℕ, ◌+◌, Option, Some, None, Result, Ok, Err}
 
--- a write that fits succeeds, its count of faults stays, and the room falls by what it took
-abbrev pub TookFreely : {E : Type 0} → ℕ → ℕ → ℕ → Option ℕ → Result ℕ E → Type 0
-TookFreely room before now left (Ok n) = (now ≡ before) × (left ≡ Some (room - n))
-TookFreely room before now left (Err fault) = ⊥
+-- how many bytes a call moved
+abbrev pub moved : {E : Type 0} → Result ℕ E → ℕ
+moved (Ok n) = n
+moved (Err fault) = 0
+
+-- the room before so many bytes were taken, by the room after; telling it never changes
+abbrev pub room_before : ℕ → Option ℕ → Option ℕ
+room_before n None = None
+room_before n (Some room) = Some (room + n)

@@ -2,7 +2,8 @@ ghost use Rattle.std.specs.Prelude.{◌≡◌, ◌<◌, ◌≤◌, ◌^◌, ℕ,
 ghost use Rattle.std.specs.Io.KnownBytes.{append_known};
 ghost use Rattle.ic_outside.specs.Faults.{HasCause, capped};
 ghost use Rattle.ic_outside.specs.Given.{given};
-ghost use Rattle.ic_outside.specs.Writing.{TookFreely};
+ghost use Rattle.ic_outside.specs.Reading.{IsSure};
+ghost use Rattle.ic_outside.specs.Writing.{moved, room_before};
 ghost use Rattle.ic_outside.specs.MemoryWriter.{write_fails, write_size, after_write, room_without_faults};
 
 use crate::{Failed, Sink};
@@ -95,8 +96,9 @@ impl Sink for MemorySink {
         ensures some { IfOk result (λ n. 0 < length piece.now → 0 < n) }
         ensures appended { Some self.new.taken ≡ append_known (Some self.old.taken) (given result piece.now) }
         ensures cause { HasCause (capped self.old.faults) (capped self.new.faults) result }
-        ensures fitting { IfSome (room_without_faults self.old) (λ room. length piece.now ≤ room
-            → TookFreely room (capped self.old.faults) (capped self.new.faults) (room_without_faults self.new) result) }
+        ensures room { room_without_faults self.old ≡ room_before (moved result) (room_without_faults self.new) }
+        ensures fitting { IfSome (room_without_faults self.old) (λ room. (0 < length piece.now → 0 < room)
+            → IsSure (capped self.old.faults) (capped self.new.faults) result) }
         // It fails exactly at the writes whose numbers stand in the list, and where no room is left.
         ensures exact { result ≡ (if write_fails self.old piece.now then Err (record {})
             else Ok (write_size self.old piece.now)) }

@@ -1,8 +1,9 @@
-ghost use Rattle.std.specs.Prelude.{◌≡◌, ◌-◌, ◌≤◌, [], Some, length, IfSome, OnOk, OnErr};
+ghost use Rattle.std.specs.Prelude.{◌≡◌, ◌≤◌, [], length, IfSome, OnOk, OnErr};
 ghost use Rattle.std.specs.Io.KnownBytes.{append_known};
 ghost use Rattle.ic_outside.specs.Faults.{HasCause};
 ghost use Rattle.ic_outside.specs.Given.{TookFront};
 ghost use Rattle.ic_outside.specs.Reading.{IsSure};
+ghost use Rattle.ic_outside.specs.Writing.{room_before};
 
 use crate::{Sink, WriteFault};
 
@@ -10,11 +11,12 @@ use crate::{Sink, WriteFault};
 /// write fails the sink has taken a front of the bytes.
 pub fn send<K: Sink>(sink: &mut K, bytes: &[u8]) -> Result<(), WriteFault>
     ensures all { OnOk result (K.taken sink.new ≡ append_known (K.taken sink.old) bytes.now) }
-    ensures front { OnErr result (TookFront (K.taken sink.old) (K.taken sink.new) bytes.now) }
+    ensures room { OnOk result (K.fits sink.old ≡ room_before (length bytes.now) (K.fits sink.new)) }
+    ensures front { OnErr result
+        (TookFront (K.taken sink.old) (K.taken sink.new) (K.fits sink.old) (K.fits sink.new) bytes.now) }
     ensures cause { HasCause (K.faults sink.old) (K.faults sink.new) result }
     ensures fitting { IfSome (K.fits sink.old) (λ room. length bytes.now ≤ room
-        → IsSure (K.faults sink.old) (K.faults sink.new) result
-        × (K.fits sink.new ≡ Some (room - length bytes.now))) }
+        → IsSure (K.faults sink.old) (K.faults sink.new) result) }
     ensures nothing { bytes.now ≡ [] → sink.new ≡ sink.old }
 {
     let mut rest = bytes;

@@ -2,7 +2,8 @@ ghost use Rattle.std.specs.Prelude.{◌≡◌, ◌<◌, ◌≤◌, ◌^◌, ℕ,
 ghost use Rattle.std.specs.Io.KnownBytes.{append_known};
 ghost use Rattle.ic_outside.specs.Faults.{HasCause};
 ghost use Rattle.ic_outside.specs.Given.{given};
-ghost use Rattle.ic_outside.specs.Writing.{TookFreely};
+ghost use Rattle.ic_outside.specs.Reading.{IsSure};
+ghost use Rattle.ic_outside.specs.Writing.{moved, room_before};
 
 use crate::Failed;
 
@@ -14,7 +15,8 @@ pub trait Sink {
     // A count of faults that never falls, and rises where a write fails, up to 2^64-1.
     ghost faults: { Self → ℕ };
 
-    // How many bytes the sink still takes without a fault, where it tells this.
+    // How many bytes the sink still takes without a fault, where it tells this. Whether it tells it
+    // never changes.
     ghost fits: { Self → Option ℕ };
 
     /// Takes a front of the piece, one byte at least where there is one; how many. A write that
@@ -24,8 +26,10 @@ pub trait Sink {
         ensures some { IfOk result (λ n. 0 < length piece.now → 0 < n) }
         ensures appended { taken self.new ≡ append_known (taken self.old) (given result piece.now) }
         ensures cause { HasCause (faults self.old) (faults self.new) result }
-        ensures fitting { IfSome (fits self.old) (λ room. length piece.now ≤ room
-            → TookFreely room (faults self.old) (faults self.new) (fits self.new) result) };
+        ensures room { fits self.old ≡ room_before (moved result) (fits self.new) }
+        // Where room is left, or there is nothing to write, it does not fail.
+        ensures fitting { IfSome (fits self.old) (λ room. (0 < length piece.now → 0 < room)
+            → IsSure (faults self.old) (faults self.new) result) };
 
     // A law: the count fits 64 bits.
     ghost faults_fit: { (sink : Self) → faults sink < 2 ^ 64 };

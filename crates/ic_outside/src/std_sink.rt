@@ -2,7 +2,8 @@ ghost use Rattle.std.specs.Prelude.{◌≡◌, ◌<◌, ◌≤◌, ◌^◌, ℕ,
 ghost use Rattle.std.specs.Io.KnownBytes.{append_known};
 ghost use Rattle.ic_outside.specs.Faults.{HasCause, capped, count_after};
 ghost use Rattle.ic_outside.specs.Given.{given};
-ghost use Rattle.ic_outside.specs.Writing.{TookFreely};
+ghost use Rattle.ic_outside.specs.Reading.{IsSure};
+ghost use Rattle.ic_outside.specs.Writing.{moved, room_before};
 ghost use Rattle.ic_outside.specs.Inner.{PassedOn};
 ghost use Rattle.ic_outside.specs.StdEnds.{std_writer, sink_faults};
 
@@ -59,8 +60,9 @@ impl<W: Write> Sink for StdSink<W> {
         ensures some { IfOk result (λ n. 0 < length piece.now → 0 < n) }
         ensures appended { None ≡ append_known None (given result piece.now) }
         ensures cause { HasCause (capped (sink_faults self.old)) (capped (sink_faults self.new)) result }
-        ensures fitting { IfSome None (λ room. length piece.now ≤ room
-            → TookFreely room (capped (sink_faults self.old)) (capped (sink_faults self.new)) None result) }
+        ensures room { None ≡ room_before (moved result) None }
+        ensures fitting { IfSome None (λ room. (0 < length piece.now → 0 < room)
+            → IsSure (capped (sink_faults self.old)) (capped (sink_faults self.new)) result) }
         // The count rises exactly where the call fails.
         ensures count { sink_faults self.new ≡ count_after (sink_faults self.old) result }
         // What is said to be taken the inner writer has taken.

@@ -3,10 +3,14 @@ use ic_principal::{Bytes, Principal, Text};
 /// A request to a canister, as a line spells it.
 #[derive(Debug, Drop)]
 pub struct Ask {
+    /// Who asks.
     pub sender: Principal,
+    /// The canister that is asked.
     pub callee: Principal,
-    /// At most 20,000 bytes, each of them printable and no space.
+    /// The name of the method. In a line of a script it has 1 to 20,000 bytes, each of them
+    /// printable and no space.
     pub method: Text,
+    /// The argument's bytes, which nothing here reads.
     pub arg: Bytes,
 }
 

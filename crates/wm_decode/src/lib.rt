@@ -22,3 +22,6 @@ mod words;
 pub use answer::decode;
 pub use fault::ModuleFault;
 pub use laws::one_module;
+
+#[cfg(test)]
+mod tests;

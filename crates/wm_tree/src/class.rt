@@ -18,6 +18,7 @@ pub enum Shape {
 pub struct Signature {
     pub first: Option<ValType>,
     pub second: Option<ValType>,
+    /// Nothing of Core 1.0 has it: `memory.copy` and `memory.fill` of later versions do.
     pub third: Option<ValType>,
     pub gives: Option<ValType>,
 }

@@ -15,7 +15,9 @@ pub returns-in-Err-Refused-clause-only : goal.returns-in-Err-Refused-clause-only
 returns-in-Err-Refused-clause-only c = λ table types front rest e header. absurd (no_header false c.args.bytes.now (rw c.in-Err-Refused.field-0-is at c.in-Err-Refused.ensures) table types front rest e header)
 
 pub returns-in-Err-Refused-clause-float : goal.returns-in-Err-Refused-clause-float
-returns-in-Err-Refused-clause-float c = λ is. float_found c.args.bytes.now c.fault_of.result (same_fault c.fault_of.result _ is) c.fault_of.ensures
+returns-in-Err-Refused-clause-float c =
+    let none = no_header false c.args.bytes.now (rw c.in-Err-Refused.field-0-is at c.in-Err-Refused.ensures) in
+    λ is. (float_found c.args.bytes.now c.fault_of.result (same_fault c.fault_of.result _ is) c.fault_of.ensures, λ begins. none begins.0 begins.1 begins.2 begins.3 begins.4 begins.5)
 
 pub returns-in-Err-Refused-clause-not_header : goal.returns-in-Err-Refused-clause-not_header
 returns-in-Err-Refused-clause-not_header c = λ is. none_found c.args.bytes.now c.fault_of.result (same_fault c.fault_of.result _ is) c.fault_of.ensures

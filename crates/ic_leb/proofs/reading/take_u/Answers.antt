@@ -11,6 +11,11 @@ returns-in_err-n-clause-exact c =
     let p = err_from_is_err_and c.from_residual.result c.from_residual.ensures.1 in
     rw p.1 (ap (λ r. and_rest r c.args.bytes.now) (sym (c.in_err-n.ensures.exact ∙ moved_none _)))
 
+pub returns-in_err-n-clause-fault : goal.returns-in_err-n-clause-fault
+returns-in_err-n-clause-fault c =
+    let p = err_from_is_err_and c.from_residual.result c.from_residual.ensures.1 in
+    rw (p.1, p.2) (sym (c.in_err-n.ensures.exact ∙ moved_none _))
+
 pub returns-clause-exact : goal.returns-clause-exact
 unfolding unsigned_reader
 returns-clause-exact c =

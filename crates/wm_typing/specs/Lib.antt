@@ -1,0 +1,12 @@
+pub mod Context
+pub mod Points
+pub mod Typed
+pub mod Nesting
+pub mod FlatCode
+pub mod Ops
+pub mod Runs
+pub mod Stops
+pub mod Flat
+pub mod Checks
+pub mod Writes
+pub mod Answer
