@@ -1,4 +1,4 @@
--- Why entries are no type table: the rules of IsTable, one after the other.
+-- Candid specification, "Type Table": why entries are no table, by the rules of IsTable in turn
 use Rattle.std.specs.Prelude.{ℕ, suc, List, [], ◌∷◌, length, Option, Some, None, nat_lt, if◌then◌else◌}
 use Rattle.std.specs.Option.{option_or}
 use Rattle.cd_types.specs.declared.entry.Entry.{Entry}

@@ -1,4 +1,4 @@
--- References to types (Candid specification, "Binary Format", I).
+-- Candid specification, "Binary Format" (I): references to types
 use Rattle.std.specs.Prelude.{ℕ, Bool, true, nat_lt}
 use Rattle.cd_types.specs.declared.entry.TyRef.{TyRef}
 use Rattle.cd_types.specs.declared.entry.TyRef.TheVariants.{Prim, Index}

@@ -1,4 +1,4 @@
--- The order of fields, cases and methods (Candid specification, "Binary Format", T).
+-- Candid specification, "Binary Format" (T): the order of fields, cases and methods
 use Rattle.std.specs.Prelude.{ℕ, suc, ◌^◌, Bool, true, ◌&&◌, List, [], ◌∷◌, map, nat_lt, nat_le}
 use Rattle.std.specs.List.{list_all}
 use Rattle.std.specs.Str.{is_utf8}

@@ -1,4 +1,4 @@
--- The types that an entry is made of (Candid specification, "Binary Format", T).
+-- Candid specification, "Binary Format" (T): the types that an entry is made of
 use Rattle.std.specs.Prelude.{List, [], ◌∷◌, ◌++◌, map}
 use Rattle.cd_types.specs.declared.entry.TyRef.{TyRef}
 use Rattle.cd_types.specs.declared.entry.Entry.{Entry}

@@ -1,4 +1,4 @@
--- What a reference of a type table stands for (Candid specification, "Binary Format", I).
+-- Candid specification, "Binary Format" (I): what a reference of a type table stands for
 use Rattle.std.specs.Prelude.{List, Option, Some, None, slice_get}
 use Rattle.cd_types.specs.declared.primitive.Primitive.{Primitive}
 use Rattle.cd_types.specs.declared.entry.TyRef.{TyRef}
