@@ -231,6 +231,27 @@ fn each_kind_of_value(rt: HostRuntime) {
     }
 }
 
+// How many arguments and values a message has that is read, written and read again.
+fn read_again(alloc: Global, message: &[u8]) -> Option<(usize, usize)> {
+    let header = read_header(alloc, message).ok()?;
+    if header.length > message.len() {
+        return None;
+    }
+    let values = read_values(alloc, &header, message, header.length).ok()?;
+    let types = &header.types.items;
+    let (header, values) = laws::read_back(alloc, &header.table, types, &values.items).ok()?;
+    Some((header.types.items.len(), values.items.len()))
+}
+
+#[test]
+fn read_back(rt: HostRuntime) {
+    assert_eq!(rt; read_again(rt.alloc(), EVERY_KIND), Some((1, 1)));
+    assert_eq!(rt;
+        read_again(rt.alloc(), b"DIDL\x00\x02\x7d\x71\xff\x00\x02hi"),
+        Some((2, 2))
+    );
+}
+
 #[test]
 fn messages_written(rt: HostRuntime) -> Result<(), Fail> {
     let rows: [(&[u8], &[u8]); 6] = [
