@@ -52,7 +52,13 @@ impl Model for Checker {
 
 /// A block that begins where the operands have that height.
 fn control_frame(shape: Shape, target: u32, gives: Option<ValType>, height: u32) -> ControlFrame
-    ensures { result ≡ record { shape = shape; target = target; result = gives; height = height; is_unreachable = false } }
+    ensures { result ≡ record {
+      shape = shape;
+      target = target;
+      result = gives;
+      height = height;
+      is_unreachable = false;
+    } }
 {
     ControlFrame {
         shape,
@@ -167,7 +173,8 @@ impl Checker {
 
     /// Gives operands of these types, the last on top.
     pub(crate) fn give_all(&mut self, types: &[ValType]) -> Result<(), NoMemory>
-        ensures { OnOk result (self.new ≡ levels (points.give_all types.now self.old.point) self.old.around) }
+        ensures { OnOk result
+            (self.new ≡ levels (points.give_all types.now self.old.point) self.old.around) }
     {
         for t in types {
             self.give(Operand::Known(*t))?;
@@ -247,7 +254,8 @@ impl Checker {
     /// The innermost block begins again as one that is no `if`.
     fn begin_again(&mut self)
         requires { self.old.point.operands ≡ [] }
-        ensures { self.new ≡ levels points.start (around shape.Block self.old.around.target self.old.around.result self.old.around.outer) }
+        ensures { let a = self.old.around in
+            self.new ≡ levels points.start (around shape.Block a.target a.result a.outer) }
     {
         self.frame.shape = Shape::Block;
         self.frame.is_unreachable = false;
@@ -309,7 +317,8 @@ fn has_all_parts(shape: Shape, gives: Option<ValType>) -> bool
 
 /// How a branch to the block leads.
 fn branch_to(frame: &ControlFrame) -> Branch
-    ensures { result ≡ branch frame.now.target frame.now.height (label_type frame.now.shape frame.now.result) }
+    ensures { result
+        ≡ branch frame.now.target frame.now.height (label_type frame.now.shape frame.now.result) }
 {
     let taken = match frame.shape {
         Shape::Block | Shape::If => frame.result,

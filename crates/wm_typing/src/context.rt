@@ -34,7 +34,17 @@ impl<'a> Model for Context<'a> {
 
     ghost Value = { Context };
 
-    ghost view = { λ c. record { types = c.types.now; functions = c.functions.now; hosts = c.hosts.now; globals = c.globals.now; has_table = c.has_table; has_memory = c.has_memory; locals = c.locals.now; params = c.params; result = c.result } };
+    ghost view = { λ c. record {
+      types = c.types.now;
+      functions = c.functions.now;
+      hosts = c.hosts.now;
+      globals = c.globals.now;
+      has_table = c.has_table;
+      has_memory = c.has_memory;
+      locals = c.locals.now;
+      params = c.params;
+      result = c.result;
+    } };
 }
 
 impl<'a> Context<'a> {

@@ -65,7 +65,8 @@ fn all_take(checker: &Checker, t: Option<ValType>, ls: &[u32]) -> bool
 }
 
 fn br_table(checker: &mut Checker, ls: &[u32], other: u32) -> Result<(), BodyFault>
-    ensures { Moves checker.old checker.new result (typed.branch_table (labels checker.old.around) ls.now other checker.old.point) }
+    ensures { Moves checker.old checker.new result
+        (typed.branch_table (labels checker.old.around) ls.now other checker.old.point) }
 {
     checker.take(ValType::I32)?;
     let t = checker.label_type(other)?;
@@ -88,7 +89,8 @@ fn leave(checker: &mut Checker, t: Option<ValType>) -> Result<(), BodyFault>
 }
 
 fn br_if(checker: &mut Checker, label: u32) -> Result<(), BodyFault>
-    ensures { Moves checker.old checker.new result (typed.branch_if (labels checker.old.around) label checker.old.point) }
+    ensures { Moves checker.old checker.new result
+        (typed.branch_if (labels checker.old.around) label checker.old.point) }
 {
     checker.take(ValType::I32)?;
     let t = checker.label_type(label)?;
@@ -106,7 +108,8 @@ fn call_indirect(checker: &mut Checker, t: &FuncType) -> Result<(), BodyFault>
 
 /// A `global.set`.
 fn set_global(checker: &mut Checker, g: GlobalType) -> Result<(), BodyFault>
-    ensures { Moves checker.old checker.new result (cond g.mutable (points.take g.kind checker.old.point) None) }
+    ensures { Moves checker.old checker.new result
+        (cond g.mutable (points.take g.kind checker.old.point) None) }
 {
     if g.mutable {
         checker.take(g.kind)
@@ -150,7 +153,8 @@ fn variable(checker: &mut Checker, context: &Context, instr: &Instr) -> Result<(
 
 /// An instruction with a rule of its own.
 fn special(checker: &mut Checker, context: &Context, instr: &Instr) -> Result<(), BodyFault>
-    ensures { Moves checker.old checker.new result (typed.special context.now (labels checker.old.around) instr.now checker.old.point) }
+    ensures { Moves checker.old checker.new result
+        (typed.special context.now (labels checker.old.around) instr.now checker.old.point) }
 {
     match instr {
         Instr::Unreachable => {
@@ -209,7 +213,9 @@ fn with_memory(
     is_aligned: bool,
     signature: Signature,
 ) -> Result<(), BodyFault>
-    ensures { Moves checker.old checker.new result (cond (context.now.has_memory && is_aligned) (typed.by_signature signature checker.old.point) None) }
+    ensures { Moves checker.old checker.new result
+        (cond (context.now.has_memory && is_aligned)
+        (typed.by_signature signature checker.old.point) None) }
 {
     if context.has_memory && is_aligned {
         by_signature(checker, signature)

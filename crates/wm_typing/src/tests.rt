@@ -374,3 +374,49 @@ fn deepest(rt: HostRuntime) -> Result<(), Fail> {
     assert!(rt; matches!(deeper, Err(BodyFault::Nesting)));
     Ok(())
 }
+
+#[test]
+fn small_alignment(rt: HostRuntime) -> Result<(), Fail> {
+    let alloc = rt.alloc();
+    let load = |align| MemArg { align, offset: 0 };
+    assert!(rt;
+        is_typed(
+            alloc,
+            &[Instr::I32Const(1), Instr::I32Load8U(load(0)), Instr::Drop]
+        )?
+    );
+    assert!(rt;
+        !is_typed(
+            alloc,
+            &[Instr::I32Const(1), Instr::I32Load8U(load(1)), Instr::Drop]
+        )?
+    );
+    Ok(())
+}
+
+#[test]
+fn calls_and_room(rt: HostRuntime) -> Result<(), Fail> {
+    let code = validated(
+        rt.alloc(),
+        Some(ValType::I64),
+        &[
+            Instr::I32Const(1),
+            Instr::Call(0),
+            Instr::Drop,
+            Instr::I32Const(1),
+            Instr::Call(1),
+            Instr::Return,
+        ],
+    )?;
+    assert_eq!(rt; code.ops.get(1), Some(&Op::CallHost(7)));
+    assert_eq!(rt; code.ops.get(4), Some(&Op::Call(0)));
+    let out = Branch {
+        target: 6,
+        height: 0,
+        result: Some(ValType::I64),
+    };
+    assert_eq!(rt; code.entries.get(5), Some(&out));
+    let never_ends = validated(rt.alloc(), Some(ValType::I64), &[Instr::Unreachable])?;
+    assert_eq!(rt; never_ends.frame.room, 1);
+    Ok(())
+}
