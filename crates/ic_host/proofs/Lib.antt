@@ -7,3 +7,6 @@ mod Exits
 mod Runs
 mod PieceBounds
 mod Streams
+mod ExpectedTypes
+mod Refused
+mod DecodePrints

@@ -1,12 +1,13 @@
 pub mod State
 pub mod Status
 pub mod Options
+pub mod Texts
+pub mod Decoding
 pub mod AfterCommand
 pub mod AfterLine
 pub mod Walk
 pub mod Script
 pub mod Body
-pub mod Texts
 pub mod EndPart
 pub mod Out
 pub mod Sending

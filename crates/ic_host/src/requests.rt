@@ -3,6 +3,7 @@ ghost use Rattle.ic_host.specs.Acts.{Acts};
 ghost use Rattle.ic_host.specs.AfterLine.{after_line};
 ghost use Rattle.ic_host.specs.AfterCommand.{after_command};
 
+use crate::decoding::decode_text;
 use crate::options::Options;
 use crate::texts::accepted_text;
 use ic_base::NoMemory as WantOfMemory;
@@ -114,6 +115,10 @@ impl Requests {
                     Ok(()) => Ok((self, text)),
                     Err(_) => Err(NotDone::NoMemory),
                 }
+            }
+            Command::Decode { expected, bytes } => {
+                let text = decode_text(alloc, &expected.items, &bytes.items)?;
+                Ok((self, text))
             }
         }
     }

@@ -118,7 +118,7 @@ const FAILING: [(usize, usize, &[u64], &[u64], usize, &str, Status); 6] = [
 ];
 
 // What a run printed, and its status.
-fn run<R: Abort + Threads + Sync>(
+pub fn run<R: Abort + Threads + Sync>(
     rt: &R,
     alloc: Global,
     words: &[&str],

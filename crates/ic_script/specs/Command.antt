@@ -5,7 +5,7 @@ use Rattle.ic_principal.specs.Text.{principal_of}
 use Rattle.hex.specs.Hex.{decode_of}
 use Rattle.ic_script.specs.declared.command.Ask.{Ask}
 use Rattle.ic_script.specs.declared.command.Command.{Command}
-use Rattle.ic_script.specs.declared.command.Command.TheVariants.{Call}
+use Rattle.ic_script.specs.declared.command.Command.TheVariants.{Call, Decode}
 use Rattle.ic_script.specs.declared.line_cause.LineCause.{LineCause}
 use Rattle.ic_script.specs.declared.line_cause.LineCause.TheVariants.{Form, Principal, Hex}
 
@@ -31,9 +31,16 @@ ask_of (sender ∷ callee ∷ method ∷ arg ∷ []) =
     Ok (record { sender = from; callee = to; method = method; arg = bytes }))
 ask_of _ = Err Form
 
+-- a message read at expected types, in two words: what gives the types, the message
+unfoldable pub decode_command : List (List ℕ) → Result Command LineCause
+decode_command (expected ∷ message ∷ []) =
+    bytes_word expected >>= λ types. bytes_word message >>= λ bytes. Ok (Decode types bytes)
+decode_command _ = Err Form
+
 -- a command by its first word
 unfoldable pub command_of_words : List (List ℕ) → Result Command LineCause
 command_of_words [] = Err Form
 command_of_words (verb ∷ words) =
     if bytes_eq verb (codes "call") then (ask_of words >>= λ ask. Ok (Call ask))
+    else if bytes_eq verb (codes "decode") then decode_command words
     else Err Form

@@ -21,4 +21,7 @@ pub enum Command {
     Nothing,
     /// A call that is submitted, and answered later.
     Call(Ask),
+    /// A Candid message that is read at once, and what is to be the header of its expected types.
+    /// Neither is looked at yet.
+    Decode { expected: Bytes, bytes: Bytes },
 }

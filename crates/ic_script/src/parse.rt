@@ -1,11 +1,11 @@
 ghost use Rattle.std.specs.Prelude.{◌≡◌, ◌≢◌, Err, option_copied};
 ghost use Rattle.ic_script.specs.Line.{Agrees, command_of, says_nothing};
 ghost use Rattle.ic_script.specs.Words.{words_left};
-ghost use Rattle.ic_script.specs.Command.{ask_of, principal_word, bytes_word};
+ghost use Rattle.ic_script.specs.Command.{ask_of, decode_command, principal_word, bytes_word};
 
 use crate::command::{Ask, Command};
 use crate::line_cause::LineError;
-use crate::words::{first_word, four_words, well_formed};
+use crate::words::{first_word, four_words, two_words, well_formed};
 use hex::FromHexError;
 use ic_principal::{Bytes, Principal, Text};
 use std::alloc::Global;
@@ -13,7 +13,7 @@ use std::alloc::Global;
 const LONGEST_METHOD: usize = 20_000;
 
 /// The command that a line spells, or why it spells none. `bytes` is the line without its line
-/// feed. Memory is taken for the method and the argument alone.
+/// feed. Memory is taken for a method and for bytes alone.
 #[tactic(auto, unfolding(crate::specs::Line::command_of, crate::specs::Command::command_of_words))]
 pub fn parse_line(alloc: Global, bytes: &[u8]) -> Result<Command, LineError>
     ensures line { Agrees result (command_of bytes.now) }
@@ -27,6 +27,7 @@ pub fn parse_line(alloc: Global, bytes: &[u8]) -> Result<Command, LineError>
     let (verb, operands) = first_word(line);
     match verb {
         "call" => Ok(Command::Call(parse_ask(alloc, operands)?)),
+        "decode" => parse_decode(alloc, operands),
         _ => Err(LineError::Form),
     }
 }
@@ -64,6 +65,19 @@ fn parse_ask(alloc: Global, operands: Option<&str>) -> Result<Ask, LineError>
         method,
         arg,
     })
+}
+
+/// A message and its expected types in two words.
+#[tactic(auto, unfolding(crate::specs::Command::decode_command))]
+fn parse_decode(alloc: Global, operands: Option<&str>) -> Result<Command, LineError>
+    ensures { Agrees result (decode_command (words_left (option_copied operands.entry))) }
+{
+    let Some((expected, bytes)) = two_words(operands) else {
+        return Err(LineError::Form);
+    };
+    let expected = hex_bytes(alloc, expected)?;
+    let bytes = hex_bytes(alloc, bytes)?;
+    Ok(Command::Decode { expected, bytes })
 }
 
 /// The principal that a word names.

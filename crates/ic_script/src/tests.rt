@@ -7,7 +7,7 @@ use std::test::Fail;
 const NOTHING: [&[u8]; 4] = [b"", b"#", b"# call", b"#\xff\t"];
 
 // Lines that are no command, and why.
-const FAULTY: [(&[u8], LineError); 29] = [
+const FAULTY: [(&[u8], LineError); 37] = [
     (b"hello", LineError::Form),
     (b" ", LineError::Form),
     (b" #", LineError::Form),
@@ -40,6 +40,14 @@ const FAULTY: [(&[u8], LineError); 29] = [
     (b"call 2vxsx-fae aaaaa-aa hello --", LineError::Hex),
     (b"call 2vxsx-fae aaaaa-aa hello -00", LineError::Hex),
     (b"call 2vxsx-fae aaaaa-aa hello 0x00", LineError::Hex),
+    (b"decode", LineError::Form),
+    (b"decode 4449444c0000", LineError::Form),
+    (b"decode 4449444c0000 4449444c0000 -", LineError::Form),
+    (b"decode  4449444c0000", LineError::Form),
+    (b"decoded 4449444c0000 -", LineError::Form),
+    (b"decode 4449444c000 -", LineError::Hex),
+    (b"decode 4449444c0000 0", LineError::Hex),
+    (b"decode xx 0", LineError::Hex),
 ];
 
 #[test]
@@ -84,6 +92,29 @@ fn calls(rt: HostRuntime) -> Result<(), Fail> {
         }
     }
     Ok(())
+}
+
+#[test]
+fn decodings(rt: HostRuntime) {
+    let lines: [(&[u8], &[u8], &[u8]); 3] = [
+        (b"decode - -", b"", b""),
+        (b"decode 4449444C0000 -", b"DIDL\0\0", b""),
+        (b"decode 00fF 07", &[0x00, 0xFF], &[0x07]),
+    ];
+    for (line, expected, message) in lines {
+        match parse_line(rt.alloc(), line) {
+            Ok(
+                Command::Decode {
+                    expected: types,
+                    bytes,
+                },
+            ) => {
+                assert_eq!(rt; types.items.as_slice(), expected);
+                assert_eq!(rt; bytes.items.as_slice(), message);
+            }
+            other => panic!(rt; "{other:?}"),
+        }
+    }
 }
 
 // A call of a method of so many bytes.

@@ -56,3 +56,16 @@ pub fn four_words(text: Option<&str>) -> Option<(&str, &str, &str, &str)>
         Some(_) => None,
     }
 }
+
+/// The words of a text, where they are two.
+pub fn two_words(text: Option<&str>) -> Option<(&str, &str)>
+    ensures some { IfSome result (λ w. words_left (option_copied text.entry) ≡ w.0.now ∷ w.1.now ∷ []) }
+    ensures none { IfNone result (length (words_left (option_copied text.entry)) ≢ 2) }
+{
+    let (first, rest) = first_word(text?);
+    let (second, rest) = first_word(rest?);
+    match rest {
+        None => Some((first, second)),
+        Some(_) => None,
+    }
+}

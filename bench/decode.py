@@ -1,0 +1,96 @@
+#!/usr/bin/env python3
+"""Writes a script of one `decode` line to standard output, of the kind that its first word names:
+
+rings A B [late]   vec types in rings of A and of B entries, asked for at one argument; with `late`
+                   variants in rings, of which one late pair does not fit
+fields A B N       the same late pair, asked for by N opt fields
+values N           N values, each read at opt
+records N M        N empty records, read at M opt fields
+"""
+import sys
+
+
+def unsigned(n):
+    out = bytearray()
+    while n >= 0x80:
+        out.append(n & 0x7F | 0x80)
+        n >>= 7
+    out.append(n)
+    return bytes(out)
+
+
+def reference(index):
+    """An index into the type table, a signed number."""
+    out = bytearray()
+    while index >= 0x40:
+        out.append(index & 0x7F | 0x80)
+        index >>= 7
+    out.append(index)
+    return bytes(out)
+
+
+NAT, TEXT, RESERVED, EMPTY_RECORD = b"\x7d", b"\x71", b"\x70", b"\x6c\x00"
+
+
+def header(entries, argument):
+    return b"DIDL" + unsigned(len(entries)) + b"".join(entries) + b"\x01" + argument
+
+
+def vec(item):
+    return b"\x6d" + item
+
+
+def opt(item):
+    return b"\x6e" + item
+
+
+def record(types):
+    fields = b"".join(unsigned(number) + type for number, type in enumerate(types))
+    return b"\x6c" + unsigned(len(types)) + fields
+
+
+def variant(first, second):
+    return b"\x6b\x02\x00" + first + b"\x01" + second
+
+
+def vec_ring(length):
+    return [vec(reference((place + 1) % length)) for place in range(length)]
+
+
+def variant_ring(length, most, last):
+    return [variant(reference((place + 1) % length), last if place == length - 1 else most)
+            for place in range(length)]
+
+
+def rings(words):
+    lower, upper = int(words[0]), int(words[1])
+    if "late" in words:
+        return (header(variant_ring(upper, RESERVED, NAT), reference(0)),
+                header(variant_ring(lower, NAT, TEXT), reference(0)) + b"\x01\x00")
+    return (header(vec_ring(upper), reference(0)), header(vec_ring(lower), reference(0)) + b"\x00")
+
+
+def fields(words):
+    lower, upper, count = (int(word) for word in words)
+    expected = variant_ring(upper, RESERVED, NAT) + [opt(reference(0)), record([reference(upper)] * count)]
+    sent = variant_ring(lower, NAT, TEXT) + [record([reference(0)] * count)]
+    return (header(expected, reference(upper + 1)),
+            header(sent, reference(lower)) + b"\x01\x00" * count)
+
+
+def values(words):
+    count = int(words[0])
+    return (header([vec(reference(1)), opt(NAT)], reference(0)),
+            header([vec(NAT)], reference(0)) + unsigned(count) + b"\x2a" * count)
+
+
+def records(words):
+    count, width = int(words[0]), int(words[1])
+    expected = [vec(reference(1)), record([reference(2)] * width), opt(NAT)]
+    return (header(expected, reference(0)),
+            header([vec(reference(1)), EMPTY_RECORD], reference(0)) + unsigned(count))
+
+
+kinds = {"rings": rings, "fields": fields, "values": values, "records": records}
+expected, message = kinds[sys.argv[1]](sys.argv[2:])
+print("decode", expected.hex(), message.hex())

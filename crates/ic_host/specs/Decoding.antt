@@ -1,0 +1,61 @@
+-- What a line that reads a Candid message prints.
+use Rattle.std.specs.Prelude.{ℕ, false, ◌++◌, List, [], ◌∷◌, codes, decimal, Option, Some, None, Result, Ok, Err}
+use Rattle.hex.specs.Hex.{encode_lower}
+use Rattle.cd_types.specs.declared.entry.TyRef.{TyRef}
+use Rattle.cd_types.specs.declared.entry.Entry.{Entry}
+use Rattle.cd_codec.specs.Content.{Content}
+use Rattle.cd_codec.specs.Message.{message_spelling}
+use Rattle.cd_codec.specs.ReadHeader.{header_at}
+use Rattle.cd_coerce.specs.declared.fault.DidlFault.{DidlFault}
+use Rattle.cd_coerce.specs.declared.fault.DidlFault.TheVariants.{NotHeader, Float, NotSubtype, BadValue, NoMemory}
+use Rattle.cd_coerce.specs.Decoded.{decoded}
+use Rattle.ic_host.specs.Texts.{newline}
+
+-- a table and the types of arguments
+abbrev pub Types : Type 0
+Types = List Entry × List TyRef
+
+-- what was read, where nothing is left
+abbrev pub if_all : Option (Types × List ℕ) → Option Types
+if_all None = None
+if_all (Some (types, [])) = Some types
+if_all (Some (types, byte ∷ bytes)) = None
+
+-- the expected types that the bytes give: a header with nothing after it
+unfoldable pub types_of : List ℕ → Option Types
+types_of bytes = if_all (header_at false bytes)
+
+-- for bytes that are no header of expected types
+unfoldable pub bad_expected_text : List ℕ
+bad_expected_text = codes "bad expected" ++ newline
+
+-- the name of a fault; want of memory is never printed
+abbrev pub fault_text : DidlFault → List ℕ
+fault_text NotHeader = codes "NotHeader"
+fault_text Float = codes "Float"
+fault_text (NotSubtype argument) = codes "NotSubtype " ++ decimal argument
+fault_text BadValue = codes "BadValue"
+fault_text NoMemory = []
+
+-- for a message that is not read
+unfoldable pub refused_text : DidlFault → List ℕ
+refused_text fault = codes "refused " ++ (fault_text fault ++ newline)
+
+-- for values that were read: the message that they are at the expected types, in hexadecimal
+unfoldable pub decoded_text : Types → List Content → List ℕ
+decoded_text expected values =
+    codes "decoded " ++ (encode_lower (message_spelling expected.0 expected.1 values) ++ newline)
+
+-- for what a message is read as
+abbrev pub answer_text : Types → Result (List Content) DidlFault → List ℕ
+answer_text expected (Ok values) = decoded_text expected values
+answer_text expected (Err fault) = refused_text fault
+
+-- for a message and the types that it is to be read at, where there are such types
+abbrev pub reading_text : Option Types → List ℕ → List ℕ
+reading_text None message = bad_expected_text
+reading_text (Some expected) message = answer_text expected (decoded expected message)
+
+-- what is printed for a message and the bytes that are to give the expected types
+unfoldable pub decode_text : List ℕ → List ℕ → List ℕ
+decode_text expected message = reading_text (types_of expected) message

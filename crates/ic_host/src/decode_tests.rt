@@ -1,0 +1,177 @@
+use crate::Status;
+use crate::tests::run;
+use std::alloc::Global;
+use std::process::Abort;
+use std::test::Fail;
+use std::thread::Threads;
+
+// Lines that read messages, and what each prints.
+const READ: [(&str, &str); 24] = [
+    // nat
+    (
+        "decode 4449444c00017d 4449444c00017d2a",
+        "decoded 4449444c00017d2a",
+    ),
+    // nat at int
+    (
+        "decode 4449444c00017c 4449444c00017d2a",
+        "decoded 4449444c00017c2a",
+    ),
+    // nat at text
+    (
+        "decode 4449444c000171 4449444c00017d2a",
+        "refused NotSubtype 0",
+    ),
+    // padded
+    (
+        "decode 4449444c00017d 4449444c00017dff00",
+        "decoded 4449444c00017d7f",
+    ),
+    // a byte too many
+    (
+        "decode 4449444c00017d 4449444c00017d2a00",
+        "refused BadValue",
+    ),
+    // largest
+    (
+        "decode 4449444c00017d 4449444c00017dffffffffffffffffffffffffffffffffffff03",
+        "decoded 4449444c00017dffffffffffffffffffffffffffffffffffff03",
+    ),
+    // past 128 bits
+    (
+        "decode 4449444c00017d 4449444c00017d80808080808080808080808080808080808004",
+        "refused BadValue",
+    ),
+    // ids out of order
+    (
+        "decode 4449444c00017d 4449444c016c02017d007d01000102",
+        "refused NotHeader",
+    ),
+    // float
+    (
+        "decode 4449444c00017d 4449444c0001720000000000000000",
+        "refused Float",
+    ),
+    // extra field
+    (
+        "decode 4449444c016c01007d0100 4449444c016c02007d0171010007026869",
+        "decoded 4449444c016c01007d010007",
+    ),
+    // vec null
+    (
+        "decode 4449444c000170 4449444c016d7f0100808080808080808010",
+        "refused BadValue",
+    ),
+    // record in itself
+    (
+        "decode 4449444c000170 4449444c016c0100000100",
+        "refused BadValue",
+    ),
+    // opt some
+    (
+        "decode 4449444c016e7d0100 4449444c00017d2a",
+        "decoded 4449444c016e7d0100012a",
+    ),
+    // opt none
+    (
+        "decode 4449444c016e7d0100 4449444c0001710161",
+        "decoded 4449444c016e7d010000",
+    ),
+    // not a header
+    (
+        "decode 4449444c00017d 4449444c026e016c02007d01026e006c0000",
+        "refused NotHeader",
+    ),
+    // list once twice
+    (
+        "decode 4449444c046e016c02007d01026e036c02007d01000100 4449444c026e016c02007d01000100010500",
+        "decoded 4449444c046e016c02007d01026e036c02007d01000100010500",
+    ),
+    // list twice once
+    (
+        "decode 4449444c026e016c02007d01000100 4449444c046e016c02007d01026e036c02007d01000100010500",
+        "decoded 4449444c026e016c02007d01000100010500",
+    ),
+    // float expected
+    ("decode 4449444c000172 4449444c0000", "bad expected"),
+    // bad expected
+    ("decode 4449444c 4449444c0000", "bad expected"),
+    // expected with a value
+    ("decode 4449444c00017d2a 4449444c00017d2a", "bad expected"),
+    // no message
+    ("decode 4449444c00017d -", "refused NotHeader"),
+    // composite code as reference
+    (
+        "decode 4449444c000170 4449444c016e6e010000",
+        "refused NotHeader",
+    ),
+    // padded entry code
+    (
+        "decode 4449444c016e7d0100 4449444c01ee7f7d0100012a",
+        "decoded 4449444c016e7d0100012a",
+    ),
+    // missing opt argument
+    (
+        "decode 4449444c016e7d020000 4449444c0000",
+        "decoded 4449444c016e7d0200000000",
+    ),
+];
+
+// Each front of a message, at a record with a nat under 0.
+const MESSAGE: &str = "4449444c016c02007d0171010007026869";
+
+// What a line prints, whatever the pieces.
+fn prints<R: Abort + Threads + Sync>(
+    rt: &R,
+    alloc: Global,
+    line: &str,
+    printed: &str,
+) -> Result<(), Fail> {
+    let script = format!(in alloc; "{line}\n")?;
+    let wanted = format!(in alloc; "{printed}\n")?;
+    let got = run(
+        rt,
+        alloc,
+        &["replica"],
+        script.as_bytes(),
+        (65_536, 65_536),
+        (&[], &[]),
+        1000,
+    )?;
+    assert_eq!(rt; got.0.as_slice(), wanted.as_bytes(), "{line}");
+    assert_eq!(rt; got.1, Status::Done, "{line}");
+    Ok(())
+}
+
+#[test]
+fn read(rt: HostRuntime) -> Result<(), Fail> {
+    for (line, printed) in READ {
+        prints(&rt, rt.alloc(), line, printed)?;
+    }
+    Ok(())
+}
+
+fn front<R: Abort + Threads + Sync>(rt: &R, alloc: Global, length: usize) -> Result<(), Fail> {
+    let digits = if length == 0 {
+        "-"
+    } else {
+        &MESSAGE[..2 * length]
+    };
+    let line = format!(in alloc; "decode 4449444c016c01007d0100 {digits}")?;
+    let printed = if length < 13 {
+        "refused NotHeader"
+    } else if length < 17 {
+        "refused BadValue"
+    } else {
+        "decoded 4449444c016c01007d010007"
+    };
+    prints(rt, alloc, &line, printed)
+}
+
+#[test]
+fn fronts(rt: HostRuntime) -> Result<(), Fail> {
+    for length in 0..=17 {
+        front(&rt, rt.alloc(), length)?;
+    }
+    Ok(())
+}
