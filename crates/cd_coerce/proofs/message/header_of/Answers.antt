@@ -10,5 +10,4 @@ returns-in-Err-NotHeader c = λ expected. decoded_not_header expected c.args.byt
 
 pub returns-in-Err-Float : goal.returns-in-Err-Float
 returns-in-Err-Float c =
-    λ expected.
-    decoded_float expected c.args.bytes.now (c.in-Err-Float.ensures.float (search rules)) (λ b. rw c.in-Err-Float.field-0-is at (c.in-Err-Float.ensures.only b.0 b.1 b.2 b.3 b.4 b.5))
+    λ expected. let float = c.in-Err-Float.ensures.float (search rules) in decoded_float expected c.args.bytes.now float.0 float.1
