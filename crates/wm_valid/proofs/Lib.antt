@@ -1,0 +1,4 @@
+pub mod Steps
+pub mod NameLemmas
+pub mod BodyLemmas
+pub mod VisitLemmas

@@ -1,0 +1,12 @@
+pub mod SystemApi
+pub mod Types
+pub mod Space
+pub mod Imports
+pub mod Indices
+pub mod Sizes
+pub mod Entries
+pub mod Methods
+pub mod Bodies
+pub mod Checked
+pub mod IsValid
+pub mod Visited

@@ -1,0 +1,146 @@
+ghost use Rattle.std.specs.Prelude.{◌≡◌, ◌≤◌, ◌+◌, ◌++◌, Some, None, true, slice_get, IfOk, IfErr, OnOk, replicate};
+ghost use Rattle.std.specs.Option.{option_copied, option_or};
+ghost use Rattle.std.specs.List.{AllZip};
+ghost use Rattle.wm_tree.specs.IsModule.{IsModule};
+ghost use Rattle.wm_tree.specs.Seq.{IsFlat};
+ghost use Rattle.wm_valid.specs.Bodies as specs;
+ghost use Rattle.wm_valid.specs.IsValid.{Suits};
+ghost use Rattle.wm_valid.specs.Checked.{Fails};
+ghost use Rattle.wm_valid.specs.Sizes.{frame_size, frames_fit};
+ghost use Rattle.wm_valid.specs.Visited.{Visited};
+
+use crate::invalid::Invalid;
+use crate::scope::Scope;
+use ic_base::NoMemory;
+use std::alloc::Global;
+use wm_tree::{FuncCode, FuncType, Run, ValType};
+use wm_typing::{BodyFault, Context, FlatCode, validate_body};
+
+fn params_of(t: Option<&FuncType>) -> &[ValType]
+    ensures { result.now ≡ specs.params_of (option_copied t.entry) }
+{
+    match t {
+        None => &[],
+        Some(t) => &t.params.items,
+    }
+}
+
+fn result_of(t: Option<&FuncType>) -> Option<ValType>
+    ensures { result ≡ specs.result_of (option_copied t.entry) }
+{
+    match t {
+        None => None,
+        Some(t) => t.results.items.first().copied(),
+    }
+}
+
+fn push_run(locals: &mut Vec<ValType>, run: &Run) -> Result<(), NoMemory>
+    ensures { OnOk result (locals.new.items ≡ locals.old.items ++ replicate run.now.count run.now.kind) }
+{
+    let len = locals.len();
+    locals.resize(len + run.count as usize, run.kind)
+}
+
+/// The types of parameters and locals.
+fn locals_of(alloc: Global, params: &[ValType], runs: &[Run]) -> Result<Vec<ValType>, NoMemory>
+    ensures { IfOk result (λ locals. locals.items ≡ params.now ++ specs.locals_of runs.now) }
+{
+    let mut locals = Vec::from_slice(alloc, params)?;
+    for run in runs {
+        push_run(&mut locals, run)?;
+    }
+    Ok(locals)
+}
+
+/// Validates the body of a function whose type has that index.
+pub(crate) fn validate_function(
+    alloc: Global,
+    scope: &Scope,
+    index: u32,
+    code: &FuncCode,
+) -> Result<FlatCode, BodyFault>
+    requires flat { IsFlat code.now.body }
+    requires small { frame_size scope.now.«module».now.types (index, code.now) ≤ 10000 }
+    ensures shallow { IfOk result (λ _. specs.nesting_fits (index, code.now) ≡ true) }
+    ensures typed { IfOk result (λ _. specs.has_typing scope.now.«module».now (index, code.now) ≡ true) }
+    ensures suits { IfOk result (λ flat. Suits scope.now.«module».now (index, code.now) flat) }
+    ensures faults { IfErr result (λ e. specs.BodyFails scope.now.«module».now (index, code.now) e) }
+{
+    let module = scope.module;
+    let t = module.types.items.get(index as usize);
+    let params = params_of(t);
+    let locals = locals_of(alloc, params, &code.locals.items)?;
+    let context = Context {
+        types: &module.types.items,
+        functions: scope.functions,
+        hosts: scope.hosts,
+        globals: scope.globals,
+        has_table: !module.tables.items.is_empty(),
+        has_memory: !module.memories.items.is_empty(),
+        locals: &locals,
+        params: params.len() as u32,
+        result: result_of(t),
+    };
+    validate_body(alloc, &context, &code.body.items)
+}
+
+/// Visits the function of that number, given what was known before it.
+fn visit(
+    alloc: Global,
+    scope: &Scope,
+    number: u32,
+    index: u32,
+    code: &FuncCode,
+    untyped: Option<u32>,
+    codes: &mut Vec<FlatCode>,
+) -> Result<Option<u32>, Invalid>
+    requires flat { IsFlat code.now.body }
+    requires small { frame_size scope.now.«module».now.types (index, code.now) ≤ 10000 }
+    requires here { slice_get (specs.definitions scope.now.«module».now) number ≡ Some (index, code.now) }
+    requires before { Visited scope.now.«module».now number untyped codes.old.items }
+    ensures visited { IfOk result (λ untyped. Visited scope.now.«module».now (number + 1) untyped codes.new.items) }
+    ensures faults { IfErr result (λ e. Fails e (option_or (specs.nesting_fault scope.now.«module».now) (specs.typing_fault scope.now.«module».now))) }
+{
+    match validate_function(alloc, scope, index, code) {
+        Ok(flat) => {
+            codes.push(flat)?;
+            Ok(untyped)
+        }
+        Err(BodyFault::Nesting) => Err(Invalid::Nesting { function: number }),
+        Err(BodyFault::Untyped) => Ok(untyped.or(Some(number))),
+        Err(BodyFault::NoMemory) => Err(Invalid::NoMemory),
+    }
+}
+
+/// Validates the bodies of all functions. That one nests too deeply counts before that another has
+/// no typing.
+pub(crate) fn validate_functions(alloc: Global, scope: &Scope) -> Result<Vec<FlatCode>, Invalid>
+    requires grammar { IsModule scope.now.«module».now }
+    requires sizes { frames_fit scope.now.«module».now ≡ true }
+    ensures shallow { OnOk result (specs.nesting_fault scope.now.«module».now ≡ None) }
+    ensures typed { OnOk result (specs.typing_fault scope.now.«module».now ≡ None) }
+    ensures suits { IfOk result (λ codes. AllZip (Suits scope.now.«module».now) (specs.definitions scope.now.«module».now) codes.items) }
+    ensures faults { IfErr result (λ e. Fails e (option_or (specs.nesting_fault scope.now.«module».now) (specs.typing_fault scope.now.«module».now))) }
+{
+    let module = scope.module;
+    let functions = module.functions.items.as_slice();
+    let bodies = module.codes.items.as_slice();
+    let mut codes = Vec::new(alloc);
+    let mut untyped = None;
+    for (number, code) in bodies.iter().enumerate() {
+        let index = functions[number];
+        untyped = visit(
+            alloc,
+            scope,
+            number as u32,
+            index,
+            code,
+            untyped,
+            &mut codes,
+        )?;
+    }
+    match untyped {
+        None => Ok(codes),
+        Some(function) => Err(Invalid::Untyped { function }),
+    }
+}

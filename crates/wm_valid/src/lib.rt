@@ -1,0 +1,27 @@
+//! Validation of WebAssembly modules (Core 1.0, chapter 3) that canisters install.
+//!
+//! `validate` tries the checks in the order of `Invalid` and answers the first that fails
+//! (`specs/Checked`): imports are calls of the System API, indices and limits are in range, sizes
+//! are within this profile, exports with a name of the System API are its entry points, and bodies
+//! have a typing. A `Valid` keeps its module with what the checks found.
+#![tactic(auto)]
+
+mod answer;
+mod bodies;
+mod entries;
+mod entry;
+mod imports;
+mod indices;
+mod invalid;
+mod methods;
+mod names;
+mod scope;
+mod sizes;
+mod space;
+pub mod system_api;
+mod valid;
+
+pub use answer::validate;
+pub use entry::EntryName;
+pub use invalid::Invalid;
+pub use valid::Valid;
