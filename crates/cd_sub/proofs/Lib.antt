@@ -1,6 +1,8 @@
 mod LabelLemmas
 mod PartLemmas
 mod OrderLemmas
+mod ReflexiveLemmas
+mod GreatestLemmas
 mod PartFreeLemmas
 mod RuleLemmas
 mod KeepLemmas

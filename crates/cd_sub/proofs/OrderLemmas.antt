@@ -70,12 +70,16 @@ all_at test [] i x all is = cc
 all_at test (y ∷ xs) zero x all is = let same : y ≡ x = cc in ap test (sym same) ∙ (both (test y) _ all).0
 all_at test (y ∷ xs) (suc i) x all is = all_at test xs i x (both (test y) _ all).1 is
 
--- each entry of a table is ordered
-pub entry_ordered : (table : List Entry) (i : ℕ) (entry : Entry) → IsTrue (is_table table) → slice_get table i ≡ Some entry → IsTrue (is_ordered entry)
-entry_ordered table i entry formed is =
+-- each entry of a table names types of the table and is ordered
+pub entry_formed : (table : List Entry) (i : ℕ) (entry : Entry) → IsTrue (is_table table) → slice_get table i ≡ Some entry
+    → (names_inside (length table) entry ≡ true) × IsTrue (is_ordered entry)
+entry_formed table i entry formed is =
     let all = (both (nat_le (length table) 10000) _ formed).1 in
     let well = all_at (is_well_formed table) table i entry all is in
-    (both (names_inside (length table) entry) _ (both (names_inside (length table) entry && is_ordered entry) _ well).0).1
+    both (names_inside (length table) entry) _ (both (names_inside (length table) entry && is_ordered entry) _ well).0
+
+pub entry_ordered : (table : List Entry) (i : ℕ) (entry : Entry) → IsTrue (is_table table) → slice_get table i ≡ Some entry → IsTrue (is_ordered entry)
+entry_ordered table i entry formed is = (entry_formed table i entry formed is).1
 
 -- a table has at most 10,000 entries
 pub table_small : (table : List Entry) → IsTrue (is_table table) → length table ≤ 10000

@@ -1,3 +1,4 @@
+-- Candid specification, "Subtyping": the greatest relation with the rules, as a test
 use Rattle.std.specs.Prelude.{ℕ, zero, suc, ◌*◌, Bool, true, false, List, [], length, Option, Some, None}
 use Rattle.std.specs.List.{list_all}
 use Rattle.cd_types.specs.declared.entry.TyRef.{TyRef}
@@ -15,7 +16,9 @@ abbrev pub holds_at : ℕ → List Entry → List Entry → ℕ → Bool
 holds_at zero first second place = true
 holds_at (suc n) first second place = all_pass (holds_at n first second) (parts_at first second place)
 
--- subtyping as a test: the depth is one more than the number of pairs of entries, either way round
+-- Whether a of the first table is a subtype of b of the second. With each depth fewer pairs of
+-- entries hold, or the same, and once they are the same they stay so. An entry of each table makes
+-- two pairs, one each way round, so one depth more than there are pairs shows all.
 unfoldable pub below : List Entry → TyRef → List Entry → TyRef → Bool
 below first a second b =
     all_pass (holds_at (suc (2 * (length first * length second))) first second) (part_at first second false a b [])

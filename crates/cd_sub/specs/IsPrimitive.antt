@@ -1,3 +1,4 @@
+-- Candid specification, "Primitive Types"
 use Rattle.cd_types.specs.declared.entry.TyRef.{TyRef}
 use Rattle.cd_types.specs.declared.entry.TyRef.TheVariants.{Prim, Index}
 

@@ -1,4 +1,4 @@
--- what the marks of pairs of entries say
+-- What the marks of pairs of entries say. No standard has these.
 use Rattle.std.specs.Prelude.{◌≡◌, ◌⊎◌, ℕ, ◌+◌, ◌*◌, Bool, true, false, List, ◌++◌, length, slice_index_or, Some}
 use Rattle.std.specs.List.{AllByRecursion, Contains, count_by}
 use Rattle.cd_types.specs.declared.entry.Entry.{Entry}

@@ -1,3 +1,4 @@
+-- Candid specification, "Subtyping" (records and functions): what may be missing
 use Rattle.std.specs.Prelude.{Bool, true, false}
 use Rattle.cd_types.specs.declared.primitive.Primitive.TheVariants.{Null, Reserved}
 use Rattle.cd_types.specs.declared.entry.Entry.TheVariants.{Opt}

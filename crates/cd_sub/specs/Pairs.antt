@@ -1,4 +1,4 @@
--- pairs of entries by their places among the marks
+-- Pairs of entries by their places among the marks. No standard has these.
 use Rattle.std.specs.Prelude.{ℕ, ◌-◌, ◌*◌, ◌/◌, ◌%◌, Bool, true, false, nat_lt, List, length, Option, slice_get}
 use Rattle.cd_types.specs.declared.entry.TyRef.TheVariants.{Index}
 use Rattle.cd_types.specs.declared.entry.Entry.{Entry}

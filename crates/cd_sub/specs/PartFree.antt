@@ -1,4 +1,4 @@
--- the rules that have no parts, as a test
+-- Candid specification, "Subtyping": the rules that have no parts, as a test
 use Rattle.std.specs.Prelude.{ℕ, Bool, true, false, ◌==◌, ◌||◌, ◌&&◌}
 use Rattle.cd_types.specs.declared.primitive.Primitive.{Primitive}
 use Rattle.cd_types.specs.declared.primitive.Primitive.TheVariants.{Null, Bool as BoolType, Nat, Int, Nat8, Nat16, Nat32, Nat64, Int8, Int16, Int32, Int64, Text, Reserved, Empty, Principal}
@@ -26,11 +26,13 @@ code_of Principal = 24
 
 -- the types are the same, nat and int, or with reserved above or empty below
 abbrev pub primitive_below : Primitive → Primitive → Bool
-primitive_below p q = (code_of q == 16) || ((code_of p == 17) || (((code_of p == 3) && (code_of q == 4)) || (code_of p == code_of q)))
+primitive_below p q =
+    (code_of q == code_of Reserved) || ((code_of p == code_of Empty)
+    || (((code_of p == code_of Nat) && (code_of q == code_of Int)) || (code_of p == code_of q)))
 
 -- whether every type is below: reserved or an opt
 abbrev pub is_top : Shape → Bool
-is_top (primitive p) = code_of p == 16
+is_top (primitive p) = code_of p == code_of Reserved
 is_top (compound (Opt type)) = true
 is_top (compound (Seq type)) = false
 is_top (compound (Rec fields)) = false
@@ -41,7 +43,7 @@ is_top dangling = false
 
 -- whether the type is empty
 abbrev pub is_empty : Shape → Bool
-is_empty (primitive p) = code_of p == 17
+is_empty (primitive p) = code_of p == code_of Empty
 is_empty (compound entry) = false
 is_empty dangling = false
 

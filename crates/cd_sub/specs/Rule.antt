@@ -1,5 +1,6 @@
--- Candid specification, "Subtyping": the rules. `Below` relates a part of the lower type to its
--- part of the upper one, `Above` a part of the upper type to its part of the lower one
+-- Candid specification, "Subtyping": the rules. `Below` says that a part of the lower type is below
+-- its part of the upper one, and `Turned` that a part of the upper type is below its part of the
+-- lower one, as a function's arguments are.
 use Rattle.std.specs.Prelude.{◌≡◌, ◌⊎◌, ℕ, List, [], ◌∷◌, Some, None, IsTrue}
 use Rattle.std.specs.List.{AllByRecursion}
 use Rattle.std.specs.Ordering.{nat_cmp}
@@ -35,20 +36,21 @@ Sequence Below upper types [] = Unit {0}
 Sequence Below upper [] (expected ∷ more) = IsTrue (may_miss (shape upper expected)) × Sequence Below upper [] more
 Sequence Below upper (type ∷ types) (expected ∷ more) = Below type expected × Sequence Below upper types more
 
--- s is a subtype of t by one rule
-pub data Rule (Below Above : TyRef → TyRef → Type 0) (lower upper : List Entry) (s t : Shape) : Type 0 where
-  same : (p : Primitive) → s ≡ primitive p → t ≡ primitive p → Rule Below Above lower upper s t
-  nat_int : s ≡ primitive Nat → t ≡ primitive Int → Rule Below Above lower upper s t
-  reserved : t ≡ primitive Reserved → Rule Below Above lower upper s t
-  empty : s ≡ primitive Empty → Rule Below Above lower upper s t
-  opt : (type : TyRef) → t ≡ compound (Opt type) → Rule Below Above lower upper s t
-  vec : (a b : TyRef) → s ≡ compound (Seq a) → t ≡ compound (Seq b) → Below a b → Rule Below Above lower upper s t
+-- s is a subtype of t by one rule. That every type is a subtype of itself is said here of primitive
+-- types alone: for the entries of a table it follows (`reflexive` in src/laws.rt).
+pub data Rule (Below Turned : TyRef → TyRef → Type 0) (lower upper : List Entry) (s t : Shape) : Type 0 where
+  same : (p : Primitive) → s ≡ primitive p → t ≡ primitive p → Rule Below Turned lower upper s t
+  nat_int : s ≡ primitive Nat → t ≡ primitive Int → Rule Below Turned lower upper s t
+  reserved : t ≡ primitive Reserved → Rule Below Turned lower upper s t
+  empty : s ≡ primitive Empty → Rule Below Turned lower upper s t
+  opt : (type : TyRef) → t ≡ compound (Opt type) → Rule Below Turned lower upper s t
+  vec : (a b : TyRef) → s ≡ compound (Seq a) → t ≡ compound (Seq b) → Below a b → Rule Below Turned lower upper s t
   record_of : (fs gs : List (ℕ × TyRef)) → s ≡ compound (Rec fs) → t ≡ compound (Rec gs)
-      → AllByRecursion (HasField Below upper fs) gs → Rule Below Above lower upper s t
+      → AllByRecursion (HasField Below upper fs) gs → Rule Below Turned lower upper s t
   variant_of : (fs gs : List (ℕ × TyRef)) → s ≡ compound (Var fs) → t ≡ compound (Var gs)
-      → AllByRecursion (HasCase Below gs) fs → Rule Below Above lower upper s t
+      → AllByRecursion (HasCase Below gs) fs → Rule Below Turned lower upper s t
   func : (args args' results results' : List TyRef) (notes : List ℕ)
       → s ≡ compound (Func args results notes) → t ≡ compound (Func args' results' notes)
-      → Sequence Above lower args' args → Sequence Below upper results results' → Rule Below Above lower upper s t
+      → Sequence Turned lower args' args → Sequence Below upper results results' → Rule Below Turned lower upper s t
   service : (ms ns : List (List ℕ × TyRef)) → s ≡ compound (Service ms) → t ≡ compound (Service ns)
-      → AllByRecursion (HasMethod Below ms) ns → Rule Below Above lower upper s t
+      → AllByRecursion (HasMethod Below ms) ns → Rule Below Turned lower upper s t

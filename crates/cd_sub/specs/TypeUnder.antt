@@ -1,3 +1,4 @@
+-- Candid specification, "Subtyping": fields, cases and methods are compared under the same label
 use Rattle.std.specs.Prelude.{List, [], ◌∷◌, Option, Some, None, if◌then◌else◌}
 use Rattle.std.specs.declared.cmp.Ordering.{Ordering}
 use Rattle.std.specs.Ordering.{is_eq}
