@@ -45,9 +45,9 @@ pub types_of-no_header : (bytes : List ℕ) → ((table : List Entry) (types : L
 unfolding types_of
 types_of-no_header bytes no_header = not_found bytes no_header (header_at false bytes) refl
   where
-  not_found : (bytes : List ℕ) → ((table : List Entry) (types : List TyRef) → IsHeader false table types bytes → ⊥) → (read : Option (Types × List ℕ)) → header_at false bytes ≡ read → if_all read ≡ None
-  not_found bytes no_header None e = refl
-  not_found bytes no_header (Some (types, byte ∷ rest)) e = refl
-  not_found bytes no_header (Some (types, [])) e =
-      let found = (header_is_read false types.0 types.1 bytes []).0 e in
-      absurd (no_header types.0 types.1 (subst (IsHeader false types.0 types.1) (sym (found.1 ∙ append-nil found.0)) found.2))
+    not_found : (bytes : List ℕ) → ((table : List Entry) (types : List TyRef) → IsHeader false table types bytes → ⊥) → (read : Option (Types × List ℕ)) → header_at false bytes ≡ read → if_all read ≡ None
+    not_found bytes no_header None e = refl
+    not_found bytes no_header (Some (types, byte ∷ rest)) e = refl
+    not_found bytes no_header (Some (types, [])) e =
+        let found = (header_is_read false types.0 types.1 bytes []).0 e in
+        absurd (no_header types.0 types.1 (subst (IsHeader false types.0 types.1) (sym (found.1 ∙ append-nil found.0)) found.2))
