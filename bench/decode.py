@@ -9,25 +9,7 @@ records N M        N empty records, read at M opt fields
 """
 import sys
 
-
-def unsigned(n):
-    out = bytearray()
-    while n >= 0x80:
-        out.append(n & 0x7F | 0x80)
-        n >>= 7
-    out.append(n)
-    return bytes(out)
-
-
-def reference(index):
-    """An index into the type table, a signed number."""
-    out = bytearray()
-    while index >= 0x40:
-        out.append(index & 0x7F | 0x80)
-        index >>= 7
-    out.append(index)
-    return bytes(out)
-
+from leb128 import index as reference, unsigned
 
 NAT, TEXT, RESERVED, EMPTY_RECORD = b"\x7d", b"\x71", b"\x70", b"\x6c\x00"
 

@@ -3,27 +3,19 @@
 functions of () -> () with constants, additions, locals and blocks."""
 import sys
 
-
-def leb(n):
-    out = bytearray()
-    while True:
-        byte, n = n & 0x7F, n >> 7
-        if n == 0:
-            out.append(byte)
-            return bytes(out)
-        out.append(byte | 0x80)
+from leb128 import unsigned
 
 
 def section(number, content):
-    return bytes([number]) + leb(len(content)) + content
+    return bytes([number]) + unsigned(len(content)) + content
 
 
 piece = bytes([0x02, 0x40, 0x41, 0x2A, 0x20, 0x00, 0x6A, 0x21, 0x00, 0x0B])
 body = b"\x01\x01\x7f" + piece * 20 + b"\x0b"
-code = leb(len(body)) + body
+code = unsigned(len(body)) + body
 count = max(1, (int(sys.argv[1]) - 64) // (len(code) + 1))
 module = b"\x00asm\x01\x00\x00\x00"
 module += section(1, b"\x01\x60\x00\x00")
-module += section(3, leb(count) + b"\x00" * count)
-module += section(10, leb(count) + code * count)
+module += section(3, unsigned(count) + b"\x00" * count)
+module += section(10, unsigned(count) + code * count)
 sys.stdout.buffer.write(module)
