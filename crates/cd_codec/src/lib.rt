@@ -26,6 +26,3 @@ pub use header_reader::read_header;
 pub use reading::read_values;
 pub use value::{FieldValues, Value, Values};
 pub use writer::encode;
-
-#[cfg(test)]
-mod tests;

@@ -21,6 +21,3 @@ mod shapes;
 pub use expected::Expected;
 pub use fault::DidlFault;
 pub use message::decode;
-
-#[cfg(test)]
-mod tests;

@@ -12,6 +12,3 @@ mod search;
 mod subtyping;
 
 pub use subtyping::{Subtyping, subtype};
-
-#[cfg(test)]
-mod tests;

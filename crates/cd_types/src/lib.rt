@@ -13,6 +13,3 @@ pub use entry::{Entry, Fields, Methods, TyRef, TyRefs};
 pub use label::field_id;
 pub use primitive::{Prim, Primitive};
 pub use table::{TableFault, TypeTable};
-
-#[cfg(test)]
-mod tests;

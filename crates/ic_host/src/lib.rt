@@ -7,16 +7,12 @@
 //! with code 3, destination invalid ("Reject codes").
 #![tactic(auto)]
 
-#[cfg(test)]
-mod decode_tests;
 mod decoding;
 pub mod laws;
 mod options;
 mod printing;
 mod requests;
 mod status;
-#[cfg(test)]
-mod tests;
 mod texts;
 mod top;
 

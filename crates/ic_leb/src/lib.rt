@@ -10,8 +10,6 @@ mod bits;
 mod fault;
 mod laws;
 mod reading;
-#[cfg(test)]
-mod tests;
 mod width;
 mod writing;
 

@@ -19,8 +19,6 @@ mod sink;
 mod source;
 mod std_sink;
 mod std_source;
-#[cfg(test)]
-mod tests;
 
 pub use error::{Failed, LineFault, WriteFault};
 pub use gate::{Gate, OpenGate};

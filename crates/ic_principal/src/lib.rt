@@ -11,8 +11,6 @@ mod bytes;
 mod checksum;
 mod impls;
 mod principal;
-#[cfg(test)]
-mod tests;
 mod text;
 
 pub use bytes::Bytes;

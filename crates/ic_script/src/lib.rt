@@ -9,8 +9,6 @@
 mod command;
 mod line_cause;
 mod parse;
-#[cfg(test)]
-mod tests;
 mod words;
 
 pub use command::{Ask, Command};

@@ -1,5 +1,5 @@
-use crate::{Command, LineError, parse_line};
 use ic_principal::Principal;
+use ic_script::{Command, LineError, parse_line};
 use std::alloc::Global;
 use std::test::Fail;
 

@@ -1,4 +1,4 @@
-use crate::{Bytes, NotText, Principal, Text, TooLong};
+use ic_principal::{Bytes, NotText, Principal, Text, TooLong};
 use std::cmp::Ordering;
 use std::test::Fail;
 

@@ -1,7 +1,4 @@
-use crate::fault::LebFault;
-use crate::reading::{read_s, read_u, take_s, take_u};
-use crate::width::Width;
-use crate::writing::{size_s, size_u, write_s, write_u};
+use ic_leb::{LebFault, Width, read_s, read_u, size_s, size_u, take_s, take_u, write_s, write_u};
 use std::test::Fail;
 
 type Unsigned<'a> = (&'a [u8], Width, Result<(u128, usize), LebFault>);

@@ -1,6 +1,6 @@
 ghost use Rattle.std.specs.Prelude.{◌<◌, ◌-◌, ◌^◌};
 
-use crate::{
+use ic_outside::{
     Failed, Lines, MemorySink, MemorySource, Sink, Source, StdSink, StdSource, WriteFault, send,
 };
 use std::alloc::{AllocError, Global};

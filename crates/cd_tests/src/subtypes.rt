@@ -1,7 +1,7 @@
 ghost use Rattle.std.specs.Prelude.{◌≡◌, length};
 ghost use Rattle.cd_types.specs.IsInside.{is_inside};
 
-use crate::{Subtyping, subtype};
+use cd_sub::{Subtyping, subtype};
 use cd_types::{Entry, Fields, Methods, Prim, TyRef, TyRefs, TypeTable};
 use ic_base::NoMemory;
 use ic_principal::{Bytes, Text};

@@ -1,4 +1,4 @@
-use super::*;
+use cd_types::*;
 use ic_base::NoMemory;
 use ic_principal::{Bytes, Text};
 use std::alloc::Global;

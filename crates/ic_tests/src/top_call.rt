@@ -1,4 +1,4 @@
-use crate::{Status, replica};
+use ic_host::{Status, replica};
 use ic_outside::{MemorySink, MemorySource, OpenGate, StdSource};
 use ic_script::LineCause;
 use std::alloc::Global;

@@ -1,5 +1,5 @@
-use crate::Status;
-use crate::tests::run;
+use crate::top_call::run;
+use ic_host::Status;
 use std::alloc::Global;
 use std::process::Abort;
 use std::test::Fail;

@@ -1,5 +1,5 @@
-use super::*;
 use cd_codec::{Value, Values, read_header};
+use cd_coerce::*;
 use ic_base::NoMemory;
 use std::alloc::Global;
 use std::test::*;

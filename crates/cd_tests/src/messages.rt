@@ -1,4 +1,4 @@
-use super::*;
+use cd_codec::*;
 use ic_base::NoMemory;
 use ic_principal::Bytes;
 use std::alloc::Global;
