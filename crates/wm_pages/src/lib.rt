@@ -1,0 +1,2 @@
+//! Bytes in pages that can be undone.
+#![tactic(auto)]

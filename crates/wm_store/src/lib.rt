@@ -1,0 +1,2 @@
+//! The store of a running module.
+#![tactic(auto)]
