@@ -1,4 +1,5 @@
 pub mod Values
 pub mod Lists
 pub mod Held
+pub mod Inside
 pub mod Fits

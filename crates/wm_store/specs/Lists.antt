@@ -1,5 +1,5 @@
 -- What a store has (WebAssembly Core 1.0, 4.2.3): memory, globals and table, and stable memory.
-use Rattle.std.specs.Prelude.{ℕ, ◌+◌, ◌*◌, ◌/◌, ◌<◌, ◌^◌, List, ◌++◌, length, take, drop, replicate, All, Option, Some, None, IfSome, nat_le, if◌then◌else◌}
+use Rattle.std.specs.Prelude.{ℕ, ◌+◌, ◌*◌, ◌/◌, ◌<◌, ◌^◌, List, ◌++◌, length, take, drop, replicate, All, Option, Some, None, IfSome, min, nat_le, if◌then◌else◌}
 use Rattle.wm_pages.specs.Over.{over}
 
 -- memory and stable memory are bytes; a table's entry is a function, or none
@@ -26,6 +26,11 @@ pages_of xs = length xs / 65536
 -- the bytes with so many more pages of zeros, unless they pass the limit of pages
 abbrev pub grown : ℕ → ℕ → List ℕ → Option (List ℕ)
 grown limit more xs = if nat_le (pages_of xs + more) limit then Some (xs ++ replicate (65536 * more) 0) else None
+
+-- the most pages that a memory with this declared maximum may have
+abbrev pub page_limit : Option ℕ → ℕ
+page_limit None = 256
+page_limit (Some most) = min most 256
 
 -- the list that was made, or the one that was there
 abbrev pub or_stays : Option (List ℕ) → List ℕ → List ℕ

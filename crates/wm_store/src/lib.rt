@@ -1,2 +1,6 @@
-//! The store of a running module.
+//! The store of a running module: memory, globals, table and stable memory.
 #![tactic(auto)]
+
+mod store;
+
+pub use store::Store;
