@@ -3,3 +3,4 @@ pub mod Lists
 pub mod Held
 pub mod Inside
 pub mod Fits
+pub mod Meaning
