@@ -1,7 +1,7 @@
 -- The two parts that a rotation joins have no bit in common: std joins them by `|`, the definition by `+`.
 use Rattle.std.proofs.Common.{◌≡◌, ℕ, zero, suc, ◌+◌, ◌-◌, ◌*◌, ◌/◌, ◌%◌, ◌^◌, ◌<◌, ◌∙◌, sym, ap, subst, bit_or, arith}
-use Rattle.std.proofs.Math.Nat.{mod-eq_of_lt, mod_self, mod-lt, div-eq_of_lt, div-one}
-use Rattle.std.proofs.lemmas.Nat.{pow_pos, mod-pow-add, shl-shr, mod_low, shr_below, or_shifted, or_comm}
+use Rattle.std.proofs.Math.Nat.{mod-eq_of_lt, mod_self, mod-lt, div-eq_of_lt, div-one, lt_of_le_of_lt}
+use Rattle.std.proofs.lemmas.Nat.{pow_pos, mod-pow-add, shl-shr, mod_low, shr_below, or_shifted, or_comm, or_lt, shr_le}
 use Rattle.std.specs.Int.{Width, rotate_left, rotate_right}
 use Rattle.std.specs.Int.Bits.{or_self}
 use mir.Val.{bits}
@@ -29,6 +29,11 @@ apart n up down i e h =
     let turned : n ≡ up + down = omega arith in
     subst (λ x. bit_or ((i * 2 ^ up) % 2 ^ x) (i / 2 ^ down) ≡ (i * 2 ^ up) % 2 ^ x + i / 2 ^ down) e
     (joined up down i (subst (λ x. i < 2 ^ x) turned h))
+
+pub joined_below : (n up down i : ℕ) → down + up ≡ n → i < 2 ^ n → (i * 2 ^ up) % 2 ^ n + i / 2 ^ down < 2 ^ n
+joined_below n up down i e h =
+    subst (λ x. x < 2 ^ n) (apart n up down i e h)
+        (or_lt n ((i * 2 ^ up) % 2 ^ n) (i / 2 ^ down) (mod-lt (i * 2 ^ up) (pow_pos n)) (lt_of_le_of_lt (shr_le i down) h))
 
 -- a rotation by 0 keeps all bits
 same : (n i : ℕ) → i < 2 ^ n → (i * 2 ^ 0) % 2 ^ n ≡ i
