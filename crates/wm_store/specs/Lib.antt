@@ -4,3 +4,4 @@ pub mod Held
 pub mod Inside
 pub mod Fits
 pub mod Meaning
+pub mod MeaningLaws
