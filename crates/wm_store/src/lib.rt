@@ -1,6 +1,7 @@
 //! The store of a running module: memory, globals, table and stable memory.
 #![tactic(auto)]
 
+mod access;
 mod laws;
 mod store;
 
