@@ -37,12 +37,12 @@ back_at start (k ∷ ks) xs ys i d are room same h =
     let first = length-back start ks xs are.2 room in
     let second = length-back start ks ys are.2 (omega arith) in
     let rest : (k.range ≡ i / 4096 → ⊥) → get_or (back ks xs) i d ≡ get_or (back ks ys) i d =
-      λ other. back_at start ks xs ys i d are.2 room same (elim h [ inl c ↦ inl (covers_other k ks (i / 4096) other c) | inr e ↦ inr e ]) in
+    λ other. back_at start ks xs ys i d are.2 room same (elim h [ inl c ↦ inl (covers_other k ks (i / 4096) other c) | inr e ↦ inr e ]) in
     elim (cases_lt i at) [
-      inl below ↦ over_below at k.bytes.items (back ks xs) i d (omega arith) below ∙ rest (omega arith) ∙ sym (over_below at k.bytes.items (back ks ys) i d (omega arith) below)
-    | inr from ↦ elim (cases_lt i (at + length k.bytes.items)) [
-        inl within ↦ over_within at k.bytes.items (back ks xs) i d (omega arith) from within ∙ sym (over_within at k.bytes.items (back ks ys) i d (omega arith) from within)
-      | inr above ↦ over_above at k.bytes.items (back ks xs) i d (omega arith) above ∙ rest (omega arith) ∙ sym (over_above at k.bytes.items (back ks ys) i d (omega arith) above)
+      | inl below ↦ over_below at k.bytes.items (back ks xs) i d (omega arith) below ∙ rest (omega arith) ∙ sym (over_below at k.bytes.items (back ks ys) i d (omega arith) below)
+      | inr from ↦ elim (cases_lt i (at + length k.bytes.items)) [
+        | inl within ↦ over_within at k.bytes.items (back ks xs) i d (omega arith) from within ∙ sym (over_within at k.bytes.items (back ks ys) i d (omega arith) from within)
+        | inr above ↦ over_above at k.bytes.items (back ks xs) i d (omega arith) above ∙ rest (omega arith) ∙ sym (over_above at k.bytes.items (back ks ys) i d (omega arith) above)
       ]
     ]
 

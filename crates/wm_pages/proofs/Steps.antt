@@ -58,9 +58,9 @@ marked_less marks r inside =
 known_more : (ks : List Kept) (k : Kept) (marks : List Bool) → ((r : ℕ) → get_or marks r false ≡ true → covers ks r ≡ true)
     → (r : ℕ) → get_or (set marks k.range true) r false ≡ true → covers (ks ++ k ∷ []) r ≡ true
 known_more ks k marks known r h = elim (cases_eq k.range r) [
-    inl e ↦ rw (← e) (covers_push ks k)
+  | inl e ↦ rw (← e) (covers_push ks k)
   | inr other ↦ covers_more ks k r (known r (sym (get_or-set_other marks k.range r true false (λ e. other (sym e))) ∙ h))
-  ]
+]
 
 pub saves : (s t : Ranges) (k : Kept) (xs : List ℕ) → IsUndoable xs s → t.start ≡ s.start → t.kept.items ≡ s.kept.items ++ k ∷ [] → t.marks.items ≡ set s.marks.items k.range true
     → k.range < 16 * s.start → get_or s.marks.items k.range false ≡ false → length k.bytes.items ≡ 4096 → IsUndoable xs t
@@ -101,12 +101,12 @@ same_fronts n xs ys inside size same =
 kept_or_same : (at : ℕ) (source xs : List ℕ) (i d n : ℕ) (ks : List Kept) → at + length source ≤ length xs → i < n
     → ((i : ℕ) → at ≤ i → i < at + length source → i < n → covers ks (i / 4096) ≡ true) → (covers ks (i / 4096) ≡ true) ⊎ (get_or (over at source xs) i d ≡ get_or xs i d)
 kept_or_same at source xs i d n ks fits inside covered = elim (cases_lt i at) [
-    inl below ↦ inr (over_below at source xs i d (omega arith) below)
+  | inl below ↦ inr (over_below at source xs i d (omega arith) below)
   | inr from ↦ elim (cases_lt i (at + length source)) [
-      inl within ↦ inl (covered i from within inside)
+    | inl within ↦ inl (covered i from within inside)
     | inr above ↦ inr (over_above at source xs i d fits above)
-    ]
   ]
+]
 
 pub before_written : (s : Ranges) (at : ℕ) (source xs : List ℕ) → IsUndoable xs s → at + length source ≤ length xs
     → ((i : ℕ) → at ≤ i → i < at + length source → i < 65536 * s.start → covers s.kept.items (i / 4096) ≡ true) → bytes_before s (over at source xs) ≡ bytes_before s xs
@@ -119,7 +119,7 @@ before_written s at source xs sound fits covered =
     let first : length (back ks ys) ≡ length ys = length-back s.start ks ys sound.saved.ranges room in
     let second : length (back ks xs) ≡ length xs = length-back s.start ks xs sound.saved.ranges sound.older in
     same_fronts (65536 * s.start) (back ks ys) (back ks xs) (omega arith) (omega arith)
-      (λ i d h. back_at s.start ks ys xs i d sound.saved.ranges room same (kept_or_same at source xs i d (65536 * s.start) ks fits h covered))
+    (λ i d h. back_at s.start ks ys xs i d sound.saved.ranges room same (kept_or_same at source xs i d (65536 * s.start) ks fits h covered))
 
 -- ---- growth
 
@@ -141,9 +141,9 @@ last_saved s ks k saved kept =
 known_less : (ks : List Kept) (k : Kept) (marks : List Bool) → k.range < length marks → ((r : ℕ) → get_or marks r false ≡ true → covers (ks ++ k ∷ []) r ≡ true)
     → (r : ℕ) → get_or (set marks k.range false) r false ≡ true → covers ks r ≡ true
 known_less ks k marks inside known r h = elim (cases_eq k.range r) [
-    inl e ↦ absurd (false≢true (sym (get_or-set_at marks k.range r false false (sym e) inside) ∙ h))
+  | inl e ↦ absurd (false≢true (sym (get_or-set_at marks k.range r false false (sym e) inside) ∙ h))
   | inr other ↦ covers_less ks k r other (known r (sym (get_or-set_other marks k.range r false false (λ e. other (sym e))) ∙ h))
-  ]
+]
 
 pub pops : (s t : Ranges) (k : Kept) → AreSaved s → t.start ≡ s.start → s.kept.items ≡ t.kept.items ++ k ∷ [] → t.marks.items ≡ set s.marks.items k.range false → AreSaved t
 pops s t k saved start kept marks =

@@ -9,3 +9,6 @@ mod pages;
 mod ranges;
 
 pub use pages::{PAGE, Pages};
+
+#[cfg(test)]
+mod tests;

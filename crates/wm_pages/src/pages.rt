@@ -99,7 +99,8 @@ impl Pages {
         Ok(())
     }
 
-    /// Begins a message: from here on the bytes can be undone. It takes no memory.
+    /// Begins a message: from here on the bytes can be undone. It takes no memory. Where a message has
+    /// begun and saved nothing, it begins anew.
     pub fn begin(&mut self)
         requires { self.old.saved ≡ 0 }
         ensures bytes { self.new.bytes ≡ self.old.bytes }
@@ -119,7 +120,8 @@ impl Pages {
         self.ranges.start = 0;
     }
 
-    /// Puts the bytes of the beginning back. It takes no memory.
+    /// Puts the bytes of the beginning back. It takes no memory. Where no message has begun there are
+    /// none, so no byte is left.
     pub fn undo(&mut self)
         ensures bytes { self.new.bytes ≡ self.old.before }
         ensures before { self.new.before ≡ [] }

@@ -21,9 +21,9 @@ sum_through-agree f g same (suc n) = rw (sum_through-agree f g same n, same (suc
 
 zero_at : (m i : ℕ) → ◌≡◌ {A = ℕ} (get_or (replicate m 0) i 0) 0
 zero_at m i = elim (cases_lt i m) [
-    inl within ↦ get_or-replicate m i 0 0 within
+  | inl within ↦ get_or-replicate m i 0 0 within
   | inr past ↦ get_or_past (replicate m 0) i 0 (rw (length-replicate {A = ℕ} m 0) past)
-  ]
+]
 
 -- lists that agree at each place spell the same number
 pub from_le_bytes-agree : (xs ys : List ℕ) → ((i : ℕ) → get_or xs i 0 ≡ get_or ys i 0) → from_le_bytes w64 xs ≡ from_le_bytes w64 ys
@@ -32,6 +32,6 @@ from_le_bytes-agree xs ys same = sum_through-agree (λ i. byte_worth i (get_or x
 -- zeros behind the bytes do not matter
 pub get_or-padded : (bytes : List ℕ) (n m i : ℕ) → get_or (bytes ++ drop n (replicate m 0)) i 0 ≡ get_or bytes i 0
 get_or-padded bytes n m i = elim (cases_lt i (length bytes)) [
-    inl within ↦ get_or_append_left bytes (drop n (replicate m 0)) 0 i within
+  | inl within ↦ get_or_append_left bytes (drop n (replicate m 0)) 0 i within
   | inr past ↦ get_or-append_right bytes (drop n (replicate m 0)) (length bytes) i 0 refl past ∙ rw (drop-replicate {X = ℕ} n m 0) (zero_at (m - n) (i - length bytes)) ∙ sym (get_or_past bytes i 0 past)
-  ]
+]

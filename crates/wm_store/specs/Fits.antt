@@ -1,4 +1,4 @@
--- When a store is one of a module (WebAssembly Core 1.0, 4.5.3 and appendix A.3).
+-- When a store is one of a module (WebAssembly Core 1.0, 7.5, store validity).
 use Rattle.std.specs.Prelude.{◌≡◌, ℕ, Bool, true, false, ◌+◌, ◌%◌, ◌<◌, ◌≤◌, List, [], ◌∷◌, length, map, count_by, All, Option, None, IfSome}
 use Rattle.wm_tree.specs.declared.types.ValType.{ValType}
 use Rattle.wm_tree.specs.declared.types.Limits.{Limits}
@@ -28,15 +28,16 @@ abbrev pub maximum_of : List Limits → Option ℕ
 maximum_of [] = None
 maximum_of (l ∷ rest) = l.max
 
-abbrev pub global_types : Module → List ValType
-global_types m = map (λ g. g.kind.kind) m.globals
+-- the value types of the globals, in order
+abbrev pub global_value_types : Module → List ValType
+global_value_types m = map (λ g. g.kind.kind) m.globals
 
 -- the store's lists are of the sizes and types that the module declares
 pub record Fits (m : Module) (s : Lists) : Type 0 where
   -- the declared minimum of entries, each none or a function of the module
   pub table : length s.table ≡ minimum_of m.tables
   pub entries : All (λ e. IfSome e (λ f. f < function_count m)) s.table
-  pub globals : AreValues (global_types m) s.globals
+  pub globals : AreValues (global_value_types m) s.globals
   pub maximum : s.maximum ≡ maximum_of m.memories
   -- whole pages, between the declared minimum and both limits
   pub whole : length s.memory % 65536 ≡ 0

@@ -1,5 +1,5 @@
 -- What a store's fields are seen as.
-use Rattle.std.specs.Prelude.{◌≡◌, ℕ, ◌+◌, Bool, true, false, List, [], length, Option, Some, None, if◌then◌else◌}
+use Rattle.std.specs.Prelude.{◌≡◌, ℕ, ◌+◌, ◌<◌, ◌^◌, false, [], length, All, Some, None, IfSome, if◌then◌else◌}
 use Rattle.wm_store.specs.declared.store.Store.TheInside.{Inside}
 use Rattle.wm_store.specs.Lists.{Lists}
 use Rattle.wm_store.specs.Held.{Held}
@@ -17,10 +17,11 @@ held s = record {
   saved = s.memory.saved + s.stable.saved;
 }
 
--- between messages nothing is saved
+-- between messages nothing is saved; no call changes the table
 pub record IsSound (s : Inside) : Type 0 where
   pub room : length s.first.items ≡ length s.globals.items
   pub memory_before : s.begun ≡ false → s.memory.before ≡ []
   pub memory_saved : s.begun ≡ false → s.memory.saved ≡ 0
   pub stable_before : s.begun ≡ false → s.stable.before ≡ []
   pub stable_saved : s.begun ≡ false → s.stable.saved ≡ 0
+  pub entries : All (λ e. IfSome e (λ f. f < 2 ^ 32)) s.table.items

@@ -1,4 +1,4 @@
-ghost use Rattle.std.specs.Prelude.{◌≡◌, ℕ, ◌+◌, ◌*◌, ◌^◌, ◌<◌, ◌≤◌, true, List, [], length, replicate, slice_set, MatchOption, IfOk, IfErr, All, IfSome, is_some};
+ghost use Rattle.std.specs.Prelude.{◌≡◌, ℕ, ◌+◌, ◌*◌, ◌^◌, ◌<◌, ◌≤◌, true, List, [], length, replicate, slice_set, MatchOption, false, IfOk, IfErr, All, IfSome, is_some};
 ghost use Rattle.std.specs.Option.{option_map};
 ghost use Rattle.std.specs.Int.{w64, from_le_bytes, bytes_low_first};
 ghost use Rattle.wm_pages.specs.Ranges.{touched};
@@ -44,7 +44,11 @@ fn place(len: usize, at: u64, size: usize) -> Option<usize>
     ensures { MatchOption result (len < at + size) (λ i. (i ≡ at) × (at + size ≤ len)) }
 {
     let end = at.checked_add(size as u64)?;
-    if end <= len as u64 { Some(at as usize) } else { None }
+    if end <= len as u64 {
+        Some(at as usize)
+    } else {
+        None
+    }
 }
 
 /// The number whose bytes these are, the lowest first.
@@ -74,6 +78,7 @@ fn write(pages: &mut Pages, at: u64, bytes: &[u8]) -> Result<Option<()>, NoMemor
     ensures refused { IfErr result (λ _. pages.new.bytes ≡ pages.old.bytes) }
     ensures before { pages.new.before ≡ pages.old.before }
     ensures saved { pages.new.saved ≤ pages.old.saved + touched at (length bytes.now) }
+    ensures past { IfOk result (λ done. is_some done ≡ false → pages.new.saved ≡ pages.old.saved) }
     ensures idle { pages.old.before ≡ [] → pages.new.saved ≡ pages.old.saved }
 {
     match place(pages.as_slice().len(), at, bytes.len()) {
@@ -135,6 +140,7 @@ impl Store {
         ensures begun { IfOk result (λ s. s.begun ≡ None) }
         ensures saved { IfOk result (λ s. s.saved ≡ 0) }
     {
+        are_indices(table.as_slice());
         let first = Vec::from_slice(alloc, globals.as_slice())?;
         let mut memory = Pages::new(alloc);
         memory.grow(pages as usize)?;
@@ -149,16 +155,20 @@ impl Store {
         })
     }
 
-    /// The number of pages of memory.
+    /// The number of pages of memory, of 65,536 bytes each.
     pub fn pages(&self) -> u32
-        ensures { result ≡ pages_of self.now.lists.memory }
+        ensures pages { result ≡ pages_of self.now.lists.memory }
+        ensures whole { 65536 * result ≡ length self.now.lists.memory }
+        ensures few { result ≤ 256 }
     {
         self.memory.pages() as u32
     }
 
     /// The number of pages of stable memory.
     pub fn stable_pages(&self) -> u32
-        ensures { result ≡ pages_of self.now.lists.stable }
+        ensures pages { result ≡ pages_of self.now.lists.stable }
+        ensures whole { 65536 * result ≡ length self.now.lists.stable }
+        ensures few { result ≤ 256 }
     {
         self.stable.pages() as u32
     }
@@ -187,7 +197,8 @@ impl Store {
         self.globals[index as usize] = value;
     }
 
-    /// The number whose bytes stand in memory there, the lowest first. None where they pass its end.
+    /// The number that `size` bytes of memory from `at` on spell, the lowest first. None where they pass
+    /// its end.
     pub fn load(&self, at: u64, size: u32) -> Option<u64>
         requires { size ≤ 8 }
         ensures { result ≡ option_map (from_le_bytes w64) (part at size self.now.lists.memory) }
@@ -197,8 +208,8 @@ impl Store {
         Some(number(&bytes[at..at + size as usize]))
     }
 
-    /// Writes so many of the number's bytes to memory, the lowest first. None where they pass its
-    /// end; then nothing is written.
+    /// Writes the `size` lowest bytes of the number to memory from `at` on, the lowest first. None where
+    /// they pass its end; then nothing is written.
     pub fn save(&mut self, at: u64, size: u32, value: u64) -> Result<Option<()>, NoMemory>
         requires { size ≤ 8 }
         ensures fits { IfOk result (λ done. is_some done ≡ is_some (written at (bytes_low_first 0 size value) self.old.lists.memory)) }
@@ -206,6 +217,7 @@ impl Store {
         ensures refused { IfErr result (λ _. self.new.lists ≡ self.old.lists) }
         ensures begun { self.new.begun ≡ self.old.begun }
         ensures saved { self.new.saved ≤ self.old.saved + touched at size }
+        ensures past { IfOk result (λ done. is_some done ≡ false → self.new.saved ≡ self.old.saved) }
     {
         self.copy_into(at, &value.to_le_bytes()[..size as usize])
     }
@@ -225,6 +237,7 @@ impl Store {
         ensures refused { IfErr result (λ _. self.new.lists ≡ self.old.lists) }
         ensures begun { self.new.begun ≡ self.old.begun }
         ensures saved { self.new.saved ≤ self.old.saved + touched at (length bytes.now) }
+        ensures past { IfOk result (λ done. is_some done ≡ false → self.new.saved ≡ self.old.saved) }
     {
         write(&mut self.memory, at, bytes)
     }
@@ -244,6 +257,7 @@ impl Store {
         ensures refused { IfErr result (λ _. self.new.lists ≡ self.old.lists) }
         ensures begun { self.new.begun ≡ self.old.begun }
         ensures saved { self.new.saved ≤ self.old.saved + touched at (length bytes.now) }
+        ensures past { IfOk result (λ done. is_some done ≡ false → self.new.saved ≡ self.old.saved) }
     {
         write(&mut self.stable, at, bytes)
     }
@@ -330,7 +344,6 @@ impl Store {
         are_bytes(self.memory.as_slice());
         are_bytes(self.stable.as_slice());
         are_words(self.globals.as_slice());
-        are_indices(self.table.as_slice());
     }
 }
 
@@ -338,15 +351,21 @@ impl Store {
 
 fn are_bytes(_bytes: &[u8])
     ensures { All (λ b. b < 256) _bytes.now }
-{
-}
+{}
 
 fn are_words(_words: &[u64])
     ensures { All (λ v. v < 2 ^ 64) _words.now }
-{
-}
+{}
 
-fn are_indices(_entries: &[Option<u32>])
-    ensures { All (λ e. IfSome e (λ f. f < 2 ^ 32)) _entries.now }
+fn are_indices(entries: &[Option<u32>])
+    ensures { All (λ e. IfSome e (λ f. f < 2 ^ 32)) entries.now }
 {
+    for entry in entries {
+        match entry {
+            Some(function) => {
+                let _function = *function;
+            }
+            None => {}
+        }
+    }
 }

@@ -17,4 +17,4 @@ pub returns-clause-before : goal.returns-clause-before
 returns-clause-before c =
     let grown : c.resize.new.self.items ≡ c.self.inside.bytes.items ++ replicate (65536 * c.args.more) 0 = grind (arith, common_steps) in
     before_same c.self.inside.ranges _ _ c.make_room.ensures.start c.make_room.ensures.kept ∙ ap (bytes_before c.self.inside.ranges) grown
-      ∙ before_grown c.self.inside.ranges c.self.inside.bytes.items _ c.self.invariant ∙ ap (λ (p : Paged). p.before) c.self.view_is
+    ∙ before_grown c.self.inside.ranges c.self.inside.bytes.items _ c.self.invariant ∙ ap (λ (p : Paged). p.before) c.self.view_is

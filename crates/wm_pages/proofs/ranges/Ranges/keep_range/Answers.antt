@@ -13,7 +13,7 @@ pub returns-clause-before : goal.returns-clause-before
 returns-clause-before c =
     let size : 4096 * c.args.range + 4096 - 4096 * c.args.range ≡ 4096 = omega arith in
     before_saved c.args.self.now _ (record { range = c.args.range; bytes = c.in_ok-copy.copy }) _ refl (search rules) (omega arith)
-      (c.in_ok-copy.ensures.items ∙ ap (λ (n : ℕ). take n (drop (4096 * c.args.range) c.args.bytes.now)) size)
+    (c.in_ok-copy.ensures.items ∙ ap (λ (n : ℕ). take n (drop (4096 * c.args.range) c.args.bytes.now)) size)
 
 pub returns-clause-covered : goal.returns-clause-covered
 returns-clause-covered c = rw c.in_ok-push.ensures.items (covers_push c.args.self.now.kept.items (record { range = c.args.range; bytes = c.in_ok-copy.copy }))
