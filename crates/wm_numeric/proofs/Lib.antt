@@ -1,0 +1,3 @@
+pub mod Ranges
+pub mod Rotations
+pub mod Vectors

@@ -1,0 +1,7 @@
+use Rattle.std.proofs.Common.{◌∙◌, arith}
+use Rattle.std.specs.Int.{w64}
+use Rattle.wm_numeric.proofs.Rotations.{rotate_left_is}
+use Rattle.wm_numeric.proofs.int64.rotl.Goals as goal
+
+pub returns : goal.returns
+returns c = c.rotate_left.ensures ∙ rotate_left_is w64 c.args.x c.args.y (omega arith) (omega arith)

@@ -1,0 +1,5 @@
+use Rattle.wm_pages.proofs.Steps.{before_none}
+use Rattle.wm_pages.proofs.pages.Pages.new.Goals as goal
+
+pub returns-clause-before : goal.returns-clause-before
+returns-clause-before c = before_none _ _ c.new-2.ensures.start

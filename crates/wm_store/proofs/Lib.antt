@@ -1,0 +1,4 @@
+pub mod MeaningBytes
+pub mod MeaningRows
+pub mod MeaningTable
+pub mod Words
