@@ -1,9 +1,11 @@
 -- Where the run of a target begins (WebAssembly Core 1.0, 4.5.5), and what it ends in.
-use Rattle.std.specs.Prelude.{◌≡◌, ℕ, List, [], ◌∷◌, Option, Some, None}
+use Rattle.std.specs.Prelude.{◌≡◌, ℕ, ◌<◌, ◌^◌, true, List, [], ◌∷◌, Option, Some, None}
 use Rattle.wm_tree.specs.declared.types.ValType.TheVariants.{I32}
 use Rattle.wm_tree.specs.declared.instr.Instr.TheVariants as op
 use Rattle.wm_tree.specs.declared.parts.Module.{Module}
 use Rattle.wm_tree.specs.Seq.{Empty, Plain}
+use Rattle.wm_valid.specs.Space.{type_of}
+use Rattle.wm_valid.specs.Indices.{is_procedure}
 use Rattle.wm_store.specs.Lists.{Lists}
 use Rattle.wm_semantics.specs.declared.target.Target.{Target}
 use Rattle.wm_semantics.specs.declared.target.Target.TheVariants as target
@@ -11,7 +13,7 @@ use Rattle.wm_semantics.specs.Hosts.{Answers}
 use Rattle.wm_semantics.specs.Values.{Value, value}
 use Rattle.wm_semantics.specs.Functions.{Function, of_host, of_module, function_at, Found, found, refused, missing, look_up, callback_type}
 use Rattle.wm_semantics.specs.Configs.{Config, Next, Goes, Traps, Stuck, activation}
-use Rattle.wm_semantics.specs.Steps.{Outcome, After, Further, Over, alone, Reaches}
+use Rattle.wm_semantics.specs.Steps.{State, Outcome, After, Further, Over, alone, Reaches, NeverStuck}
 
 -- a call on the arguments, with no activation around it: it costs what a call costs
 abbrev pub calling : ℕ → List Value → Config
@@ -45,3 +47,13 @@ pub record Invokes {H : Type 0} (answers : Answers H) (m : Module) (limit : ℕ)
   pub first : After H
   pub begins_so : alone h s used (begins m s target) ≡ Some first
   pub from : From answers m limit first o
+
+-- a function that is invoked by its index takes and gives nothing
+abbrev pub IsTarget : Module → Target → Type 0
+IsTarget m (target.Function f) = is_procedure (type_of m f) ≡ true
+IsTarget m (target.Element i env) = env < 2 ^ 32
+
+-- no state that the target leads to is stuck
+pub record InvokesOn {H : Type 0} (answers : Answers H) (m : Module) (limit : ℕ) (h : H) (s : Lists) (used : ℕ) (target : Target) : Type 0 where
+  pub begins_on : ¬ (begins m s target ≡ Stuck)
+  pub runs_on : (t : State H) → alone h s used (begins m s target) ≡ Some (Further t) → NeverStuck answers m limit t

@@ -9,3 +9,5 @@ pub mod Charges
 pub mod Steps
 pub mod Begin
 pub mod Fuel
+pub mod Sound
+pub mod Instance
