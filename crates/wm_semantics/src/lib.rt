@@ -8,10 +8,12 @@
 
 mod host;
 mod meter;
+mod outcome_laws;
 mod target;
 mod trap;
 
 pub use host::{Host, HostAnswer};
 pub use meter::Meter;
+pub use outcome_laws::{by_fuel, fuel_reaches, one_outcome, some_outcome};
 pub use target::{Ended, Target};
 pub use trap::Trap;
