@@ -1,0 +1,5 @@
+pub mod Unique
+mod Measure
+pub mod ByFuel
+pub mod Total
+mod Rows

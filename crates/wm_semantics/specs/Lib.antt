@@ -1,0 +1,13 @@
+pub mod Texts
+pub mod Metered
+pub mod Hosts
+pub mod Values
+pub mod Functions
+pub mod Configs
+pub mod Reduce
+pub mod Charges
+pub mod Steps
+pub mod Begin
+pub mod Fuel
+pub mod Sound
+pub mod Instance

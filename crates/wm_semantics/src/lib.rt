@@ -1,0 +1,19 @@
+//! The meaning of WebAssembly (Core 1.0, chapter 4), for canisters: the reductions, what they cost,
+//! and what they ask of a host.
+//!
+//! The definitions stand section by section beside the standard's (`specs/`): values, function
+//! instances, configurations, one reduction, its charge, hosts, and what a run ends in. The laws say
+//! that no valid module gets stuck, and that a run has one outcome.
+#![tactic(auto)]
+
+mod host;
+mod meter;
+mod outcome_laws;
+mod target;
+mod trap;
+
+pub use host::{Host, HostAnswer};
+pub use meter::Meter;
+pub use outcome_laws::{by_fuel, fuel_reaches, one_outcome, some_outcome};
+pub use target::{Ended, Target};
+pub use trap::Trap;
