@@ -121,3 +121,69 @@ pages_after body = option_map (λ o. (length o.store.memory, o.used)) (invoked c
 grows : pages_after (i.I32Const (pos 2) ∷ i.MemoryGrow ∷ i.Drop ∷ i.I32Const (pos 1) ∷ i.MemoryGrow ∷ i.Drop ∷ []) ≡ Some (196608, 8)
 unfolding pages_after
 grows = refl
+
+-- ---- through the table, at the frames' limit, and out of two blocks
+
+indirect : ℕ → ℕ → Option (Outcome ℕ)
+indirect place limit = run (i.I32Const (pos place) ∷ i.CallIndirect 0 ∷ []) limit (Function 1)
+
+an_import_indirect : indirect 2 3 ≡ ends Returned 1 3
+unfolding indirect
+an_import_indirect = refl
+
+no_place : indirect 3 3 ≡ ends (Trapped trap.TableBounds) 0 2
+unfolding indirect
+no_place = refl
+
+no_function : indirect 1 3 ≡ ends (Trapped trap.Uninitialised) 0 2
+unfolding indirect
+no_function = refl
+
+-- with 512 frames the host can still be called
+import_at_the_limit : run (i.Call 0 ∷ i.Call 1 ∷ []) 2000 (Function 1) ≡ ends (Trapped trap.Depth) 512 1536
+import_at_the_limit = refl
+
+chooses : ℕ → Option (Outcome ℕ)
+chooses n = run (i.Block None ∷ i.Block None ∷ i.I32Const (pos n) ∷ i.BrTable (0 ∷ []) 1 ∷ i.End ∷ i.Nop ∷ i.End ∷ []) 100 (Function 1)
+
+default_arm : chooses 5 ≡ ends Returned 0 4
+unfolding chooses
+default_arm = refl
+
+first_arm : chooses 0 ≡ ends Returned 0 5
+unfolding chooses
+first_arm = refl
+
+own_label : run (i.Br 0 ∷ []) 100 (Function 1) ≡ ends Returned 0 1
+own_label = refl
+
+-- traps unless the number chosen of 1 and 2 is that
+selects : ℕ → ℕ → Option (Outcome ℕ)
+selects test wanted =
+    run (i.I32Const (pos 1) ∷ i.I32Const (pos 2) ∷ i.I32Const (pos test) ∷ i.Select ∷ i.I32Const (pos wanted) ∷ i.I32Ne ∷ i.If None ∷ i.Unreachable ∷ i.End ∷ []) 100 (Function 1)
+
+second_where_zero : selects 0 2 ≡ ends Returned 0 7
+unfolding selects
+second_where_zero = refl
+
+first_elsewhere : selects 3 1 ≡ ends Returned 0 7
+unfolding selects
+first_elsewhere = refl
+
+other_one : selects 3 2 ≡ ends (Trapped trap.Unreachable) 0 8
+unfolding selects
+other_one = refl
+
+-- a word that passes the end of a page by a byte
+reads_at : ℕ → Option (Ended × ℕ)
+reads_at address =
+    option_map (λ o. (o.ended, o.used))
+    (invoked counting (small (i.I32Const (pos address) ∷ i.I32Load (record { align = 2; offset = 0 }) ∷ i.Drop ∷ [])) 100 0 (store (replicate 65536 0)) 0 (Function 1))
+
+reads_past : reads_at 65533 ≡ Some (Trapped trap.MemoryBounds, 2)
+unfolding reads_at
+reads_past = refl
+
+reads_last : reads_at 65532 ≡ Some (Returned, 3)
+unfolding reads_at
+reads_last = refl

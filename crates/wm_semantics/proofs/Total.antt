@@ -10,7 +10,7 @@ use Rattle.wm_semantics.specs.Values.{Value, value}
 use Rattle.wm_semantics.specs.Functions.{Function, of_host, of_module, function_at, Found, found, refused, missing, look_up, callback_type}
 use Rattle.wm_semantics.specs.Configs.{Next, Goes, Asks, Ends, Traps, Stuck}
 use Rattle.wm_semantics.specs.Steps.{State, Outcome, After, Further, Over, alone, Made, by_itself, by_host, paid, charged, Step, Reaches, goes, over, here, more, GoesOn, NeverStuck}
-use Rattle.wm_semantics.specs.Begin.{begun, begun_at, begins, From, Invokes, InvokesOn}
+use Rattle.wm_semantics.specs.Begin.{entered, entered_at, begins, From, Invokes, InvokesOn}
 use Rattle.wm_semantics.specs.Fuel.{Reply, HostOf, answers_of, Rises, by_reply, run_for, measure, invoked}
 use Rattle.wm_semantics.proofs.Measure.{measure_falls}
 use Rattle.wm_semantics.proofs.ByFuel.{step_by, reached_by_fuel, invoked_by_fuel, agrees_itself}
@@ -58,13 +58,13 @@ module _ {H : Type 0} (reply : HostOf H) where
     from_there (Over o) on = (o, refl)
 
     -- a target begins with no question
-    begun_there : (h : H) (used : ℕ) (s : Lists) (f : ℕ) (args : List Value) (g : Option Function) → ¬ (begun s f args g ≡ Stuck)
-        → (a : After H) × (alone h s used (begun s f args g) ≡ Some a)
+    begun_there : (h : H) (used : ℕ) (s : Lists) (f : ℕ) (args : List Value) (g : Option Function) → ¬ (entered s f args g ≡ Stuck)
+        → (a : After H) × (alone h s used (entered s f args g) ≡ Some a)
     begun_there h used s f args None on = absurd (on refl)
     begun_there h used s f args (Some (of_module t code)) on = (_, refl)
     begun_there h used s f args (Some (of_host t number)) on = (_, refl)
 
-    begun_at_there : (h : H) (used : ℕ) (s : Lists) (env : ℕ) (f : Found) → ¬ (begun_at m s env f ≡ Stuck) → (a : After H) × (alone h s used (begun_at m s env f) ≡ Some a)
+    begun_at_there : (h : H) (used : ℕ) (s : Lists) (env : ℕ) (f : Found) → ¬ (entered_at m s env f ≡ Stuck) → (a : After H) × (alone h s used (entered_at m s env f) ≡ Some a)
     begun_at_there h used s env (found f) on = begun_there h used s f (value I32 env ∷ []) (function_at m f) on
     begun_at_there h used s env (refused t) on = (_, refl)
     begun_at_there h used s env missing on = absurd (on refl)

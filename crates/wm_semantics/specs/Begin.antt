@@ -15,7 +15,7 @@ use Rattle.wm_semantics.specs.Functions.{Function, of_host, of_module, function_
 use Rattle.wm_semantics.specs.Configs.{Config, Next, Goes, Traps, Stuck, activation}
 use Rattle.wm_semantics.specs.Steps.{State, Outcome, After, Further, Over, alone, Reaches, NeverStuck}
 
--- a call on the arguments, with no activation around it: it costs what a call costs
+-- a call on the arguments, in a frame of no function: it costs what a call costs
 abbrev pub calling : ℕ → List Value → Config
 calling f args = record {
   frame = record { result = None; locals = []; labels = []; values = args; rest = Plain (op.Call f) Empty };
@@ -23,26 +23,27 @@ calling f args = record {
 }
 
 -- a function of the module is entered without a charge, and one of the host is called
-abbrev pub begun : Lists → ℕ → List Value → Option Function → Next
-begun s f args None = Stuck
-begun s f args (Some (of_module t code)) = Goes s (record { frame = activation t code args; callers = [] })
-begun s f args (Some (of_host t number)) = Goes s (calling f args)
+abbrev pub entered : Lists → ℕ → List Value → Option Function → Next
+entered s f args None = Stuck
+entered s f args (Some (of_module t code)) = Goes s (record { frame = activation t code args; callers = [] })
+entered s f args (Some (of_host t number)) = Goes s (calling f args)
 
-abbrev pub begun_at : Module → Lists → ℕ → Found → Next
-begun_at m s env (found f) = begun s f (value I32 env ∷ []) (function_at m f)
-begun_at m s env (refused t) = Traps t
-begun_at m s env missing = Stuck
+abbrev pub entered_at : Module → Lists → ℕ → Found → Next
+entered_at m s env (found f) = entered s f (value I32 env ∷ []) (function_at m f)
+entered_at m s env (refused t) = Traps t
+entered_at m s env missing = Stuck
 
 -- the table is looked up without a charge too
 abbrev pub begins : Module → Lists → Target → Next
-begins m s (target.Function f) = begun s f [] (function_at m f)
-begins m s (target.Element i env) = begun_at m s env (look_up m s.table callback_type i)
+begins m s (target.Function f) = entered s f [] (function_at m f)
+begins m s (target.Element i env) = entered_at m s env (look_up m s.table callback_type i)
 
 abbrev pub From : {H : Type 0} → Answers H → Module → ℕ → After H → Outcome H → Type 0
 From answers m limit (Further s) o = Reaches answers m limit s o
 From answers m limit (Over p) o = o ≡ p
 
--- the outcome of a target, with that host and store, and so much used of the limit
+-- The outcome of a target, with that host and store, and so much used of the limit. A stuck state has
+-- none; that no state is stuck is a law beside it.
 pub record Invokes {H : Type 0} (answers : Answers H) (m : Module) (limit : ℕ) (h : H) (s : Lists) (used : ℕ) (target : Target) (o : Outcome H) : Type 0 where
   pub first : After H
   pub begins_so : alone h s used (begins m s target) ≡ Some first

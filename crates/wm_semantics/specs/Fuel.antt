@@ -59,7 +59,7 @@ run_on next None = None
 run_on next (Some (Further s)) = next s
 run_on next (Some (Over o)) = Some o
 
--- the outcome, where fewer than n steps lead to it
+-- the outcome, where at most n steps lead to it
 abbrev pub run_for : {H : Type 0} → HostOf H → Module → ℕ → ℕ → State H → Option (Outcome H)
 run_for reply m limit zero s = None
 run_for reply m limit (suc n) s = run_on (run_for reply m limit n) (step_of reply m limit s)

@@ -9,5 +9,6 @@ pub mod Charges
 pub mod Steps
 pub mod Begin
 pub mod Fuel
+pub mod Keeps
 pub mod Sound
 pub mod Instance

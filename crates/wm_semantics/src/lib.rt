@@ -7,13 +7,20 @@
 #![tactic(auto)]
 
 mod host;
+mod keeps;
+mod laws;
 mod meter;
 mod outcome_laws;
 mod target;
 mod trap;
 
 pub use host::{Host, HostAnswer};
+pub use keeps::Keeps;
+pub use laws::{never_stuck, run_keeps, store_fits};
 pub use meter::Meter;
 pub use outcome_laws::{by_fuel, fuel_reaches, one_outcome, some_outcome};
 pub use target::{Ended, Target};
 pub use trap::Trap;
+
+#[cfg(test)]
+mod tests;

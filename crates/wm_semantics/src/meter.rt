@@ -2,7 +2,7 @@ ghost use Rattle.std.specs.Prelude.{◌≡◌, ◌+◌, ◌≤◌, nat_le, if◌
 
 use std::marker::Model;
 
-/// What an entry may use of instructions, and what it has used.
+/// A limit of charges, and what is used of it. An instruction costs 1 at least.
 #[derive(Debug, Drop)]
 pub struct Meter {
     limit: u64,
@@ -25,10 +25,7 @@ impl Meter {
     pub fn new(limit: u64) -> Meter
         ensures { result ≡ record { limit = limit; used = 0 } }
     {
-        Meter {
-            limit,
-            used: 0,
-        }
+        Meter { limit, used: 0 }
     }
 
     /// What is used.

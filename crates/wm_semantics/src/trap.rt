@@ -2,7 +2,7 @@ ghost use Rattle.std.specs.Prelude.{◌≡◌};
 
 use ic_principal::Text;
 
-/// Why an entry ended without effect.
+/// Why a run ended before it returned. What it did until then stands.
 #[derive(Debug, Drop)]
 pub enum Trap {
     /// The instruction `unreachable`.
@@ -10,7 +10,7 @@ pub enum Trap {
     DivideByZero,
     /// The quotient of a signed division has no integer.
     Overflow,
-    /// A load, a store or a segment passes the end of the memory.
+    /// A load or a store passes the end of the memory.
     MemoryBounds,
     /// An index passes the end of the table.
     TableBounds,
