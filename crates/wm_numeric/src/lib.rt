@@ -9,3 +9,6 @@ pub mod int32;
 pub mod int64;
 
 pub use failure::Failure;
+
+#[cfg(test)]
+mod tests;
