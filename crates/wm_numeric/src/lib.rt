@@ -9,6 +9,3 @@ pub mod int32;
 pub mod int64;
 
 pub use failure::Failure;
-
-#[cfg(test)]
-mod tests;

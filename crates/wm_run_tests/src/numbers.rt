@@ -2,7 +2,7 @@ ghost use Rattle.std.specs.Prelude.{◌<◌, ◌^◌};
 
 mod vectors;
 
-use crate::{Failure, int32, int64};
+use wm_numeric::{Failure, int32, int64};
 
 // Operands, and what each operation gives for them.
 #[derive(Drop)]

@@ -1,7 +1,7 @@
 // What V8 computes for each operation and pair of operands (bench/integers.js).
 
 use super::Row;
-use crate::Failure::{DivideByZero, Overflow};
+use wm_numeric::Failure::{DivideByZero, Overflow};
 
 pub fn rows_32() -> [Row<u32>; 10] {
     [
