@@ -1,13 +1,13 @@
 -- Operations on integers of n bits give integers of n bits.
-use Rattle.std.proofs.Common.{◌≡◌, ℕ, zero, suc, ◌+◌, ◌-◌, ◌*◌, ◌/◌, ◌%◌, ◌^◌, ◌<◌, ◌≤◌, ◌==◌, ◌∙◌, Bool, true, false, ℤ, pos, negsuc, int_div, int_rem, sym, ap, subst, bit_and, bit_or, bit_xor, Result, Ok, Err, if◌then◌else◌, arith}
-use Rattle.std.proofs.Math.Nat.{div-le_self, mod-le, mod-lt, lt_of_le_of_lt, le_trans}
+use Rattle.std.proofs.Common.{ℕ, zero, suc, ◌+◌, ◌-◌, ◌*◌, ◌/◌, ◌%◌, ◌^◌, ◌<◌, ◌==◌, Bool, true, false, ℤ, pos, negsuc, int_div, int_rem, Result, Ok, Err, if◌then◌else◌, arith}
+use Rattle.std.proofs.Math.Nat.{div-le_self, mod-le, mod-lt, lt_of_le_of_lt}
 use Rattle.std.proofs.lemmas.Nat.{pow_pos, and_le_l, or_lt, xor_lt, shr_le, leading_le, trailing_le, ones-le}
 use Rattle.std.specs.Result.{IfOk}
 use Rattle.std.specs.Int.{from_bool, int_shr}
 use Rattle.wm_numeric.specs.declared.failure.Failure.{Failure}
 use Rattle.wm_numeric.specs.declared.failure.Failure.TheVariants.{DivideByZero, Overflow}
 use Rattle.wm_numeric.proofs.Rotations.{joined_below}
-use Rattle.wm_numeric.specs.Integers.{signed, unsigned, overflows, iadd, isub, imul, idiv_u, idiv_s, irem_u, irem_s, iand, ior, ixor, ishl, ishr_u, ishr_s, irotl, irotr, iclz, ictz, ipopcnt, wrap, extend_u, extend_s}
+use Rattle.wm_numeric.specs.Integers.{signed, unsigned, overflows, iadd, isub, imul, idiv_u, idiv_s, irem_u, irem_s, iand, ior, ixor, ishl, ishr_u, ishr_s, irotl, irotr, iclz, ictz, ipopcnt, wrap, extend_s}
 
 -- n is below 2 ^ n, so a count of bits is an integer of n bits
 pub count_below : (n : ℕ) → n < 2 ^ n
@@ -76,7 +76,7 @@ pub idiv_s_below : (n i j : ℕ) → i < 2 ^ n → j < 2 ^ n → IfOk (idiv_s n 
 idiv_s_below n i j p q =
     let quotient : ℤ = int_div (signed n i) (signed n j) in
     guarded (j == 0) DivideByZero (if overflows n quotient then Err Overflow else Ok (unsigned n quotient)) (2 ^ n)
-        (guarded (overflows n quotient) Overflow (Ok (unsigned n quotient)) (2 ^ n) (unsigned_below n quotient))
+    (guarded (overflows n quotient) Overflow (Ok (unsigned n quotient)) (2 ^ n) (unsigned_below n quotient))
 
 pub irem_u_below : (n i j : ℕ) → i < 2 ^ n → j < 2 ^ n → IfOk (irem_u n i j) (λ v. v < 2 ^ n)
 irem_u_below n i j p q = guarded (j == 0) DivideByZero (Ok (i % j)) (2 ^ n) (lt_of_le_of_lt (mod-le i j) p)

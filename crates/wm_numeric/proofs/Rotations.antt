@@ -33,7 +33,7 @@ apart n up down i e h =
 pub joined_below : (n up down i : ℕ) → down + up ≡ n → i < 2 ^ n → (i * 2 ^ up) % 2 ^ n + i / 2 ^ down < 2 ^ n
 joined_below n up down i e h =
     subst (λ x. x < 2 ^ n) (apart n up down i e h)
-        (or_lt n ((i * 2 ^ up) % 2 ^ n) (i / 2 ^ down) (mod-lt (i * 2 ^ up) (pow_pos n)) (lt_of_le_of_lt (shr_le i down) h))
+    (or_lt n ((i * 2 ^ up) % 2 ^ n) (i / 2 ^ down) (mod-lt (i * 2 ^ up) (pow_pos n)) (lt_of_le_of_lt (shr_le i down) h))
 
 -- a rotation by 0 keeps all bits
 same : (n i : ℕ) → i < 2 ^ n → (i * 2 ^ 0) % 2 ^ n ≡ i

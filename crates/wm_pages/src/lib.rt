@@ -9,6 +9,3 @@ mod pages;
 mod ranges;
 
 pub use pages::{PAGE, Pages};
-
-#[cfg(test)]
-mod tests;

@@ -21,6 +21,3 @@ pub use meter::Meter;
 pub use outcome_laws::{by_fuel, fuel_reaches, one_outcome, some_outcome};
 pub use target::{Ended, Target};
 pub use trap::Trap;
-
-#[cfg(test)]
-mod tests;

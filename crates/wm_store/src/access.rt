@@ -1,7 +1,6 @@
-ghost use Rattle.std.specs.Prelude.{◌≡◌, ◌+◌, ◌^◌, ◌<◌, ◌≤◌, List, IfOk, IfErr};
+ghost use Rattle.std.specs.Prelude.{◌≡◌, ◌+◌, ◌^◌, ◌<◌, ◌≤◌, false, is_ok, IfOk, IfErr};
 ghost use Rattle.wm_numeric.specs.Integers.{extend_s};
 ghost use Rattle.wm_pages.specs.Ranges.{touched};
-ghost use Rattle.wm_store.specs.Lists.{or_stays};
 ghost use Rattle.wm_store.specs.Meaning.{finished, memory_with, number_at, stored};
 
 use crate::store::Store;
@@ -85,6 +84,7 @@ impl Store {
         ensures refused { IfErr result (λ _. self.new.lists ≡ self.old.lists) }
         ensures begun { self.new.begun ≡ self.old.begun }
         ensures saved { self.new.saved ≤ self.old.saved + touched (address + offset) size }
+        ensures past { IfOk result (λ done. is_ok done ≡ false → self.new.saved ≡ self.old.saved) }
     {
         match self.save(address + u64::from(offset), size, value)? {
             Some(()) => Ok(Ok(())),

@@ -11,6 +11,3 @@ mod store;
 
 pub use laws::{meanings_are_typed, meanings_run_well};
 pub use store::Store;
-
-#[cfg(test)]
-mod tests;

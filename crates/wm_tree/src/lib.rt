@@ -25,6 +25,3 @@ pub use parts::{
     Import, ImportKind, Imports, Module, Run, Runs, Segment, Segments,
 };
 pub use types::{FuncType, FuncTypes, GlobalType, Limits, LimitsList, MemArg, ValType, ValTypes};
-
-#[cfg(test)]
-mod tests;

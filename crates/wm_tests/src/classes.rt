@@ -1,5 +1,5 @@
-use crate::*;
 use std::test::*;
+use wm_tree::*;
 
 fn signature(takes: [Option<ValType>; 2], gives: Option<ValType>) -> Signature {
     let [first, second] = takes;

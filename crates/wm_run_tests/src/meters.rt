@@ -1,6 +1,6 @@
-use crate::*;
 use ic_principal::Text;
 use std::test::*;
+use wm_semantics::*;
 
 #[test]
 fn meter(rt: HostRuntime) -> Result<(), Fail> {

@@ -1,11 +1,11 @@
 ghost use Rattle.std.specs.Prelude.{◌≡◌, ◌≤◌, IfOk, is_some, true};
 ghost use Rattle.wm_store.specs.Lists.{page_limit};
 
-use super::*;
 use ic_base::NoMemory;
 use std::alloc::Global;
 use std::process::Abort;
 use std::test::*;
+use wm_store::*;
 
 const PAGE: u64 = 65_536;
 

@@ -1,8 +1,8 @@
-use super::*;
 use ic_base::NoMemory;
 use std::alloc::Global;
 use std::process::Abort;
 use std::test::*;
+use wm_pages::*;
 
 fn two_pages(alloc: Global) -> Result<Pages, NoMemory> {
     let mut pages = Pages::new(alloc);
