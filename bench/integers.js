@@ -1,5 +1,5 @@
-// Prints the vectors of crates/wm_numeric/src/tests/vectors.rt, as V8 computes them:
-//   node bench/integers.js > crates/wm_numeric/src/tests/vectors.rt && (cd crates/wm_numeric && rt fmt)
+// Prints the vectors of crates/wm_run_tests/src/numbers/vectors.rt, as V8 computes them:
+//   node bench/integers.js > crates/wm_run_tests/src/numbers/vectors.rt && (cd crates/wm_run_tests && rt fmt)
 const pairs = {
   32: [[0, 0], [1, -1], [-1, 1], [0x80000000, -1], [0x7fffffff, 0x80000000], [0x80000000, 31],
     [0xabcd9876, 33], [7, -2], [-7, 2], [0x12345678, 32]],
@@ -45,7 +45,7 @@ function expected([opcode, operands, from, to], pair) {
 }
 
 console.log("// What V8 computes for each operation and pair of operands (bench/integers.js).\n");
-console.log("use super::Row;\nuse crate::Failure::{DivideByZero, Overflow};\n");
+console.log("use super::Row;\nuse wm_numeric::Failure::{DivideByZero, Overflow};\n");
 for (const n of [32, 64]) {
   console.log(`pub fn rows_${n}() -> [Row<u${n}>; ${pairs[n].length}] {\n    [`);
   for (const pair of pairs[n]) {
