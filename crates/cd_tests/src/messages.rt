@@ -254,7 +254,7 @@ fn read_back(rt: HostRuntime) {
 
 #[test]
 fn messages_written(rt: HostRuntime) -> Result<(), Fail> {
-    let rows: [(&[u8], &[u8]); 6] = [
+    let rows: [(&[u8], &[u8]); 7] = [
         (b"DIDL\x00\x00", b"DIDL\x00\x00"),
         // Each number padded.
         (
@@ -270,6 +270,11 @@ fn messages_written(rt: HostRuntime) -> Result<(), Fail> {
         (
             b"DIDL\x00\x02\x7c\x71\x80\x80\x80\x80\x80\x80\x80\x80\x80\x80\x80\x80\x80\x80\x80\x80\x80\x80\x7e\x02hi",
             b"DIDL\x00\x02\x7c\x71\x80\x80\x80\x80\x80\x80\x80\x80\x80\x80\x80\x80\x80\x80\x80\x80\x80\x80\x7e\x02hi",
+        ),
+        // A service with a query method of type (nat) -> (service).
+        (
+            b"DIDL\x02\x69\x01\x01m\x01\x6a\x01\x7d\x01\x00\x01\x01\x01\x00\x01\x01\x04",
+            b"DIDL\x02\x69\x01\x01m\x01\x6a\x01\x7d\x01\x00\x01\x01\x01\x00\x01\x01\x04",
         ),
         // Numbers of fixed width, null and reserved.
         (

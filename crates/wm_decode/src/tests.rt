@@ -109,10 +109,13 @@ fn float_modules() -> [&'static [u8]; 4] {
 }
 
 // Sections, their order and their sizes.
-fn no_sections() -> [&'static [u8]; 13] {
+fn no_sections() -> [&'static [u8]; 15] {
     [
-        // a size past the end
+        // a size past the end, and the largest
         b"\x01\x05\x01\x60\x00\x00",
+        b"\x01\xFF\xFF\xFF\xFF\x0F\x01\x60\x00\x00",
+        // a code whose size is past the end of its section
+        b"\x01\x04\x01\x60\x00\x00\x03\x02\x01\x00\x0A\x04\x01\x03\x00\x0B",
         // a size within the content
         b"\x01\x03\x01\x60\x00\x00",
         // a content with a byte too many
@@ -231,8 +234,12 @@ fn front_fault(alloc: Global, module: &[u8], length: usize) -> Option<ModuleFaul
 fn fronts(rt: HostRuntime) -> Result<(), Fail> {
     let module = module_of(rt.alloc(), &[&TYPE, &FUNCTION, &DROPS])?;
     for length in 0..=28 {
-        let is_module = front_fault(rt.alloc(), &module, length).is_none();
-        assert_eq!(rt; is_module, matches!(length, 8 | 14 | 28), "{length} bytes");
+        let expected = match length {
+            8 | 14 | 28 => None,
+            _ => Some(ModuleFault::NotModule),
+        };
+        let fault = front_fault(rt.alloc(), &module, length);
+        assert_eq!(rt; fault, expected, "{length} bytes");
     }
     Ok(())
 }
