@@ -13,3 +13,4 @@ pub mod Answered
 pub mod FlatTree
 pub mod StopsTree
 pub mod FlatOf
+pub mod LocalLemmas

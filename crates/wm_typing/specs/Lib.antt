@@ -1,4 +1,5 @@
 pub mod Context
+pub mod Locals
 pub mod Points
 pub mod Typed
 pub mod Nesting

@@ -3,6 +3,7 @@ ghost use Rattle.wm_typing.specs.Context.{type_of, indirect_type};
 ghost use Rattle.wm_typing.specs.Checks.{Gives};
 
 use crate::fault::BodyFault;
+use crate::locals::Locals;
 use std::marker::Model;
 use wm_tree::{FuncType, GlobalType, ValType};
 
@@ -21,15 +22,16 @@ pub struct Context<'a> {
     pub has_table: bool,
     /// Whether the module has a memory.
     pub has_memory: bool,
-    /// The types of the function's parameters, and then of its locals.
-    pub locals: &'a [ValType],
-    /// How many of these are parameters.
-    pub params: u32,
+    /// The types of the function's parameters.
+    pub params: &'a [ValType],
+    /// The types of its locals, counted behind the parameters.
+    pub locals: &'a Locals<'a>,
     /// The type of the function's result.
     pub result: Option<ValType>,
 }
 
 impl<'a> Model for Context<'a> {
+    ghost use Rattle.std.specs.Prelude.{◌++◌, length};
     ghost use Rattle.wm_typing.specs.Context.{Context};
 
     ghost Value = { Context };
@@ -41,8 +43,8 @@ impl<'a> Model for Context<'a> {
       globals = c.globals.now;
       has_table = c.has_table;
       has_memory = c.has_memory;
-      locals = c.locals.now;
-      params = c.params;
+      locals = c.params.now ++ c.locals.now;
+      params = length c.params.now;
       result = c.result;
     } };
 }
@@ -75,8 +77,13 @@ impl<'a> Context<'a> {
     pub(crate) fn local(&self, index: u32) -> Result<ValType, BodyFault>
         ensures { Gives (λ t. t) result (slice_get self.now.locals index) }
     {
-        match self.locals.get(index as usize) {
-            Some(t) => Ok(*t),
+        let place = index as usize;
+        let params = self.params;
+        if place < params.len() {
+            return Ok(params[place]);
+        }
+        match self.locals.get(place - params.len()) {
+            Some(t) => Ok(t),
             None => Err(BodyFault::Untyped),
         }
     }

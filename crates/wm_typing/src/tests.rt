@@ -5,7 +5,7 @@ use crate::*;
 use ic_base::NoMemory;
 use std::alloc::Global;
 use std::test::*;
-use wm_tree::{FuncType, GlobalType, Indices, Instr, MemArg, ValType, ValTypes};
+use wm_tree::{FuncType, GlobalType, Indices, Instr, MemArg, Run, ValType, ValTypes};
 
 const GLOBALS: [GlobalType; 2] = [
     GlobalType {
@@ -36,6 +36,11 @@ fn validated(
             items: Vec::from_slice(alloc, &[ValType::I64])?,
         },
     })?;
+    let runs = [Run {
+        count: 1,
+        kind: ValType::I64,
+    }];
+    let locals = Locals::of(alloc, &runs)?;
     let context = Context {
         types: &types,
         functions: &[0, 0],
@@ -43,8 +48,8 @@ fn validated(
         globals: &GLOBALS,
         has_table: true,
         has_memory: true,
-        locals: &[ValType::I64],
-        params: 0,
+        params: &[],
+        locals: &locals,
         result: result_type,
     };
     validate_body(alloc, &context, body)
@@ -418,5 +423,85 @@ fn calls_and_room(rt: HostRuntime) -> Result<(), Fail> {
     assert_eq!(rt; code.entries.get(5), Some(&out));
     let never_ends = validated(rt.alloc(), Some(ValType::I64), &[Instr::Unreachable])?;
     assert_eq!(rt; never_ends.frame.room, 1);
+    Ok(())
+}
+
+/// The frame of a function with two parameters of type i32 and the locals of these runs, which gives
+/// the local of that number.
+fn frame_with(alloc: Global, runs: &[Run], index: u32, kind: ValType) -> Result<Frame, BodyFault> {
+    let locals = Locals::of(alloc, runs)?;
+    let context = Context {
+        types: &[],
+        functions: &[],
+        hosts: &[],
+        globals: &[],
+        has_table: false,
+        has_memory: false,
+        params: &[ValType::I32, ValType::I32],
+        locals: &locals,
+        result: Some(kind),
+    };
+    let code = validate_body(alloc, &context, &[Instr::LocalGet(index)])?;
+    Ok(code.frame)
+}
+
+fn run(count: u32, kind: ValType) -> Run {
+    Run { count, kind }
+}
+
+#[test]
+fn locals_in_runs(rt: HostRuntime) -> Result<(), Fail> {
+    let alloc = rt.alloc();
+    let runs = [
+        run(0, ValType::I64),
+        run(2, ValType::I64),
+        run(0, ValType::I64),
+        run(3, ValType::I32),
+    ];
+    let (i32, i64) = (ValType::I32, ValType::I64);
+    for (index, kind) in [
+        (0, i32),
+        (1, i32),
+        (2, i64),
+        (3, i64),
+        (4, i32),
+        (5, i32),
+        (6, i32),
+    ] {
+        let frame = frame_with(alloc, &runs, index, kind)?;
+        assert_eq!(rt; (frame.params, frame.locals), (2, 7));
+    }
+    for (index, kind) in [
+        (1, i64),
+        (2, i32),
+        (3, i32),
+        (4, i64),
+        (6, i64),
+        (7, i32),
+        (7, i64),
+    ] {
+        let fault = frame_with(alloc, &runs, index, kind).err();
+        assert_eq!(rt; fault, Some(BodyFault::Untyped));
+    }
+    Ok(())
+}
+
+// All locals together are counted in 32 bits.
+#[test]
+fn many_locals(rt: HostRuntime) -> Result<(), Fail> {
+    let alloc = rt.alloc();
+    let kind = ValType::I64;
+    let most = [run(u32::MAX - 3, kind), run(1, kind)];
+    assert_eq!(rt;
+        frame_with(alloc, &most, u32::MAX - 1, kind)?.locals,
+        u32::MAX
+    );
+    for runs in [
+        [run(u32::MAX - 2, kind), run(1, kind)],
+        [run(u32::MAX, kind), run(1, kind)],
+    ] {
+        let fault = frame_with(alloc, &runs, 2, kind).err();
+        assert_eq!(rt; fault, Some(BodyFault::NoMemory));
+    }
     Ok(())
 }

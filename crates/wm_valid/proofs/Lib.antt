@@ -1,4 +1,6 @@
 pub mod Steps
 pub mod NameLemmas
-pub mod BodyLemmas
+pub mod MethodLemmas
 pub mod VisitLemmas
+pub mod EveryCheck
+pub mod EntryLemmas

@@ -1,5 +1,5 @@
 -- Names behind a prefix, and sets of names.
-use Rattle.std.proofs.Common.{◌≡◌, ℕ, ◌+◌, ◌<◌, get_or, Bool, true, false, cond, List, [], ◌∷◌, ◌++◌, length, take, drop, Option, Some, None, refl, sym, ap, ◌∙◌, arith}
+use Rattle.std.proofs.Common.{◌≡◌, ℕ, ◌+◌, ◌<◌, get_or, Bool, true, false, cond, List, [], ◌∷◌, ◌++◌, length, take, drop, Some, None, refl, sym, ap, ◌∙◌, arith}
 use Rattle.std.specs.Prelude.{◌&&◌, ◌||◌, nat_eq, bytes_eq}
 use Rattle.std.specs.Borrow.{Bor}
 use Rattle.std.specs.List.{starts_with, list_any}
@@ -16,15 +16,15 @@ use Rattle.std.proofs.lemmas.List.Folds.{list_any_more}
 use Rattle.std.proofs.lemmas.List.{at_drop_more}
 use Rattle.wm_tree.specs.declared.parts.Export.{Export}
 use Rattle.wm_tree.specs.declared.parts.Module.{Module}
-use Rattle.wm_valid.specs.Entries.{behind, exports_name, has_other, is_wrong, is_bad_export, least_bad}
-use Rattle.wm_valid.specs.Methods.{has_name, has_rest, HasNames}
+use Rattle.wm_valid.specs.Entries.{behind, exports_name, is_wrong, is_bad_export, least_bad}
+use Rattle.wm_valid.specs.Seen.{has_name, HasAlso, HasNames}
 
 -- ---- names behind a prefix
 
 eq_comm : (x y : ℕ) → nat_eq x y ≡ nat_eq y x
 eq_comm x y = grind (arith, nat_tests)
 
-bytes_eq_comm : (xs ys : List ℕ) → bytes_eq xs ys ≡ bytes_eq ys xs
+pub bytes_eq_comm : (xs ys : List ℕ) → bytes_eq xs ys ≡ bytes_eq ys xs
 bytes_eq_comm [] [] = refl
 bytes_eq_comm [] (y ∷ ys) = refl
 bytes_eq_comm (x ∷ xs) [] = refl
@@ -76,7 +76,7 @@ or_same : (a b : Bool) → (a || b) ≡ (a || (a || b))
 or_same true b = refl
 or_same false b = refl
 
-same_name : (x y : List ℕ) → slice_cmp nat_cmp x y ≡ Equal → x ≡ y
+pub same_name : (x y : List ℕ) → slice_cmp nat_cmp x y ≡ Equal → x ≡ y
 same_name x y e = (bytes_eq-Decides x y).0 (sym (is_eq-slice_cmp x y) ∙ ap is_eq e)
 
 step : (name : List ℕ) (k x : Bor (List ℕ)) (xs more : List (Bor (List ℕ))) (o : Ordering) → slice_cmp nat_cmp k.now x.now ≡ o
@@ -99,25 +99,17 @@ swap false true = refl
 swap false false = refl
 
 -- the set with the name of one more export
-pub names_more : (set new : BTreeSet (Bor (List ℕ))) (prefix : List ℕ) (exports : List Export) (n : ℕ) (e : Export) → n < length exports → e ≡ get_or exports n e
-    → HasNames set prefix (take n exports)
-    → ((name : List ℕ) → has_name new name ≡ (bytes_eq e.name (prefix ++ name) || has_name set name))
-    → HasNames new prefix (take (n + 1) exports)
-names_more set new prefix exports n e lt is so_far added = λ name.
-    let here : bytes_eq e.name (prefix ++ name) ≡ bytes_eq (get_or exports n e).name (prefix ++ name) = ap (λ (x : Export). bytes_eq x.name (prefix ++ name)) is in
+pub names_more : (set new : BTreeSet (Bor (List ℕ))) (exports : List Export) (n : ℕ) (e : Export) → n < length exports → e ≡ get_or exports n e → HasNames set (take n exports) → HasAlso set new (bytes_eq e.name) → HasNames new (take (n + 1) exports)
+names_more set new exports n e lt is so_far added = λ name.
+    let here : bytes_eq e.name name ≡ bytes_eq (get_or exports n e).name name = ap (λ (x : Export). bytes_eq x.name name) is in
     added name
-    ∙ rw (here, so_far name) (swap (bytes_eq (get_or exports n e).name (prefix ++ name)) (exports_name (take n exports) (prefix ++ name)))
-    ∙ sym (list_any_more (λ x. bytes_eq x.name (prefix ++ name)) exports n e lt)
-
--- what stands behind a prefix is a name of the set exactly where it is exported behind the other
-pub has_rest-has_other : (set : BTreeSet (Bor (List ℕ))) (prefix : List ℕ) (exports : List Export) → HasNames set prefix exports → (rest : Option (List ℕ)) → has_rest set rest ≡ has_other exports prefix rest
-has_rest-has_other set prefix exports names None = refl
-has_rest-has_other set prefix exports names (Some name) = names name
+    ∙ rw (here, so_far name) (swap (bytes_eq (get_or exports n e).name name) (exports_name (take n exports) name))
+    ∙ sym (list_any_more (λ x. bytes_eq x.name name) exports n e lt)
 
 -- ---- the least export that is no good
 
 -- an export is no good where its name was seen, or it is wrong by its own name
-pub is_bad : (m : Module) (exports : List Export) (n : ℕ) (e : Export) (seen : BTreeSet (Bor (List ℕ))) → exports ≡ m.exports → HasNames seen [] (take n exports)
+pub is_bad : (m : Module) (exports : List Export) (n : ℕ) (e : Export) (seen : BTreeSet (Bor (List ℕ))) → exports ≡ m.exports → HasNames seen (take n exports)
     → (has_name seen e.name || is_wrong m e) ≡ is_bad_export m n e
 is_bad m exports n e seen same so_far =
     let before : has_name seen e.name ≡ exports_name (take n m.exports) e.name = so_far e.name ∙ ap (λ xs. exports_name (take n xs) e.name) same in

@@ -1,20 +1,17 @@
 -- One more function visited.
 use Rattle.std.proofs.Common.{◌≡◌, ℕ, ◌+◌, ◌<◌, ◌≤◌, Bool, true, false, List, [], ◌∷◌, ◌++◌, length, get_or, take, drop, Option, Some, None, refl, sym, ap, ◌∙◌, arith}
 use Rattle.std.proofs.lemmas.List.{take_more, drop_all, take_all}
-use Rattle.std.proofs.lemmas.List.Recursion.{and_at}
-use Rattle.std.proofs.lemmas.Bool.{leb-true}
 use Rattle.std.proofs.lemmas.Option.{slice_get_within, get_or_from_slice_get, slice_get-get_or}
 use Rattle.std.proofs.lemmas.Slice.Zip.{all_zipped_more, get_or-zip, length-zip}
-use Rattle.std.specs.Prelude.{not, slice_get, nat_le}
+use Rattle.std.specs.Prelude.{not, slice_get}
 use Rattle.std.specs.Option.{option_or}
-use Rattle.std.specs.List.{AllZip, position_from, list_all}
+use Rattle.std.specs.List.{AllZip, position_from}
 use Rattle.wm_tree.specs.declared.parts.FuncCode.{FuncCode}
 use Rattle.wm_tree.specs.declared.parts.Module.{Module}
 use Rattle.wm_typing.specs.FlatCode.{FlatCode}
 use Rattle.wm_valid.specs.declared.invalid.Invalid.TheVariants as fault
 use Rattle.wm_valid.specs.Bodies.{definitions, nesting_fits, has_typing, is_deep, is_untyped, least_deep, least_untyped, nesting_fault, typing_fault}
 use Rattle.wm_valid.specs.IsValid.{Suits}
-use Rattle.wm_valid.specs.Sizes.{frame_size, frames_fit}
 use Rattle.wm_valid.specs.Visited.{Visited}
 use Rattle.wm_valid.proofs.Steps.{position_more, position_here}
 
@@ -72,13 +69,6 @@ definition_at m n c counts lt is =
     let all : n < length (definitions m) = omega (arith, length-zip m.functions m.codes) in
     let first : n < length m.functions = omega arith in
     slice_get-get_or (definitions m) n (0, c) all ∙ ap Some (get_or-zip m.functions m.codes n (0, c) first lt ∙ ap (λ x. (get_or m.functions n 0, x)) (sym is))
-
--- its frame fits
-pub frame_fits_at : (m : Module) (n : ℕ) (f : ℕ × FuncCode) → slice_get (definitions m) n ≡ Some f → frames_fit m ≡ true → frame_size m.types f ≤ 10000
-frame_fits_at m n f here fit =
-    let test : ℕ × FuncCode → Bool = λ g. nat_le (frame_size m.types g) 10000 in
-    let passes : test (get_or (definitions m) n f) ≡ true = and_at (list_all test) test refl (λ _ _. refl) (definitions m) n f (slice_get_within (definitions m) n f here) fit in
-    leb-true (frame_size m.types f) 10000 (ap test (sym (get_or_from_slice_get (definitions m) n f f here)) ∙ passes)
 
 module _ (m : Module) (n : ℕ) (few : length m.codes ≤ n) (codes : List FlatCode) where
   ends : length (definitions m) ≤ n

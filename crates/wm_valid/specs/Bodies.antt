@@ -1,6 +1,7 @@
 -- The bodies of the functions that a module defines (WebAssembly Core 1.0, 3.4.1).
-use Rattle.std.specs.Prelude.{◌≡◌, ℕ, Bool, true, false, not, ◌==◌, List, [], ◌++◌, length, Option, Some, None, nat_le, slice_get, map, filter_map, flat_map, replicate, zip, option_map}
+use Rattle.std.specs.Prelude.{◌≡◌, ℕ, Bool, true, false, not, ◌==◌, List, [], ◌++◌, length, Option, Some, None, nat_le, slice_get, map, filter_map, zip, option_map}
 use Rattle.std.specs.List.{position_from}
+use Rattle.std.specs.Option.{option_or}
 use Rattle.wm_tree.specs.declared.types.ValType.{ValType}
 use Rattle.wm_tree.specs.declared.types.FuncType.{FuncType}
 use Rattle.wm_tree.specs.declared.parts.Run.{Run}
@@ -10,6 +11,7 @@ use Rattle.wm_tree.specs.TreeOf.{tree_of}
 use Rattle.wm_typing.specs.declared.fault.BodyFault.{BodyFault}
 use Rattle.wm_typing.specs.declared.fault.BodyFault.TheVariants as body
 use Rattle.wm_typing.specs.Context.{Context}
+pub use Rattle.wm_typing.specs.Locals.{locals_of}
 use Rattle.wm_typing.specs.Nesting.{nesting}
 use Rattle.wm_typing.specs.Typed.{is_typed}
 use Rattle.wm_valid.specs.declared.invalid.Invalid.{Invalid}
@@ -18,7 +20,7 @@ use Rattle.wm_valid.specs.SystemApi.{number_of}
 use Rattle.wm_valid.specs.Imports.{call_of}
 use Rattle.wm_valid.specs.Space.{function_types}
 
--- each defined function: the index of its type, and its code
+-- each defined function: the index of its type, and its code; there are as many of both
 abbrev pub definitions : Module → List (ℕ × FuncCode)
 definitions m = zip m.functions m.codes
 
@@ -31,11 +33,7 @@ abbrev pub result_of : Option FuncType → Option ValType
 result_of None = None
 result_of (Some t) = slice_get t.results 0
 
--- the types of the locals
-abbrev pub locals_of : List Run → List ValType
-locals_of runs = flat_map (λ r. replicate r.count r.kind) runs
-
--- the place of each imported call in the table of the System API
+-- the place of each imported call in the table of the System API; each import is one
 abbrev pub hosts_of : Module → List ℕ
 hosts_of m = map number_of (filter_map (call_of m.types) m.imports)
 
@@ -82,6 +80,10 @@ nesting_fault m = option_map (λ n. fault.Nesting n) (least_deep m)
 
 abbrev pub typing_fault : Module → Option Invalid
 typing_fault m = option_map (λ n. fault.Untyped n) (least_untyped m)
+
+-- the fault of the bodies: that any nests too deeply comes before that another has no typing
+abbrev pub bodies_fault : Module → Option Invalid
+bodies_fault m = option_or (nesting_fault m) (typing_fault m)
 
 -- when a body has a fault; want of memory is free
 abbrev pub BodyFails : Module → ℕ × FuncCode → BodyFault → Type 0

@@ -1,4 +1,5 @@
--- Entry points (IC Interface Specification, "Entry points"): the exports that a canister is called by.
+-- Entry points (IC Interface Specification, "Entry points"): the exports that a canister is
+-- called by.
 use Rattle.std.specs.Prelude.{ℕ, Bool, false, not, ◌&&◌, ◌||◌, List, [], ◌∷◌, ◌++◌, ◌+◌, length, take, drop, Option, Some, None, codes, bytes_eq, nat_eq, if◌then◌else◌, option_map, find}
 use Rattle.std.specs.List.{list_any, starts_with}
 use Rattle.ic_base.specs.Reader.{◌>>=◌}
@@ -21,7 +22,8 @@ update_prefix = codes "canister_update "
 abbrev pub query_prefix : List ℕ
 query_prefix = codes "canister_query "
 
--- the name that an entry point is exported under; a method's is the prefix and the method, whatever it is
+-- the name that an entry point is exported under; of a method the prefix, and the method
+-- whatever it is
 abbrev pub name_of : EntryName → List ℕ → List ℕ
 name_of Init method = codes "canister_init"
 name_of PreUpgrade method = codes "canister_pre_upgrade"
@@ -32,7 +34,8 @@ name_of Query method = query_prefix ++ method
 
 -- what stands behind the prefix
 abbrev pub behind : List ℕ → List ℕ → Option (List ℕ)
-behind prefix name = if starts_with nat_eq name prefix then Some (drop (length prefix) name) else None
+behind prefix name =
+    if starts_with nat_eq name prefix then Some (drop (length prefix) name) else None
 
 -- whether an entry point has the name
 abbrev pub is_entry_name : List ℕ → Bool
@@ -59,7 +62,9 @@ is_entry_kind m (export.Global index) = false
 
 -- the names that begin with `canister_` are for entry points
 abbrev pub is_misnamed : Module → Export → Bool
-is_misnamed m e = starts_with nat_eq e.name (codes "canister_") && not (is_entry_name e.name && is_entry_kind m e.kind)
+is_misnamed m e =
+    starts_with nat_eq e.name (codes "canister_")
+    && not (is_entry_name e.name && is_entry_kind m e.kind)
 
 -- whether there is a method, and something is exported under the other prefix with it
 abbrev pub has_other : List Export → List ℕ → Option (List ℕ) → Bool
@@ -68,7 +73,9 @@ has_other exports prefix (Some method) = exports_name exports (prefix ++ method)
 
 -- the method is an update and a query
 abbrev pub is_both : List Export → List ℕ → Bool
-is_both exports name = has_other exports query_prefix (behind update_prefix name) || has_other exports update_prefix (behind query_prefix name)
+is_both exports name =
+    has_other exports query_prefix (behind update_prefix name)
+    || has_other exports update_prefix (behind query_prefix name)
 
 abbrev pub is_wrong : Module → Export → Bool
 is_wrong m e = is_misnamed m e || is_both m.exports e.name
@@ -77,10 +84,11 @@ is_wrong m e = is_misnamed m e || is_both m.exports e.name
 abbrev pub is_bad_export : Module → ℕ → Export → Bool
 is_bad_export m place e = exports_name (take place m.exports) e.name || is_wrong m e
 
--- the least export that is no good, from one at that place on
+-- the least export that fails, from one at that place on
 abbrev pub least_bad : Module → ℕ → List Export → Option ℕ
 least_bad m place [] = None
-least_bad m place (e ∷ more) = if is_bad_export m place e then Some place else least_bad m (place + 1) more
+least_bad m place (e ∷ more) =
+    if is_bad_export m place e then Some place else least_bad m (place + 1) more
 
 abbrev pub entry_fault : Module → Option Invalid
 entry_fault m = option_map (λ n. fault.Entry n) (least_bad m 0 m.exports)
@@ -93,9 +101,15 @@ exported_function (export.Table index) = None
 exported_function (export.Memory index) = None
 exported_function (export.Global index) = None
 
+-- the function that is exported under the name
+abbrev pub function_named : List Export → List ℕ → Option ℕ
+function_named exports name = do
+  e ← find (λ e. bytes_eq e.name name) exports
+  exported_function e.kind
+
 -- the function that is exported as that entry point
 abbrev pub entry_in : List Export → EntryName → List ℕ → Option ℕ
-entry_in exports kind method = find (λ e. bytes_eq e.name (name_of kind method)) exports >>= λ e. exported_function e.kind
+entry_in exports kind method = function_named exports (name_of kind method)
 
 abbrev pub entry_of : Module → EntryName → List ℕ → Option ℕ
 entry_of m kind method = entry_in m.exports kind method

@@ -62,7 +62,7 @@ is_procedure (Some t) = nat_le (length t.params) 0 && nat_le (length t.results) 
 
 -- ---- the sections
 
--- a function has at most one result (3.2.3)
+-- a function has at most one result (3.2.2)
 abbrev pub types_in_range : Module → Bool
 types_in_range m = list_all (λ t. nat_le (length t.results) 1) m.types
 
@@ -70,11 +70,11 @@ types_in_range m = list_all (λ t. nat_le (length t.results) 1) m.types
 abbrev pub functions_in_range : Module → Bool
 functions_in_range m = list_all (λ t. nat_lt t (length m.types)) m.functions
 
--- at most one table (3.4.10, 3.2.4)
+-- at most one table (3.4.10, 3.2.3)
 abbrev pub tables_in_range : Module → Bool
 tables_in_range m = nat_le (length m.tables) 1 && all_within (2 ^ 32) m.tables
 
--- at most one memory, of at most 65,536 pages (3.4.10, 3.2.5)
+-- at most one memory, of at most 65,536 pages (3.4.10, 3.2.4)
 abbrev pub memories_in_range : Module → Bool
 memories_in_range m = nat_le (length m.memories) 1 && all_within 65536 m.memories
 
@@ -97,14 +97,17 @@ all_below count indices = list_all (λ f. nat_lt f count) indices
 
 -- a table, an offset and functions, where there are so many tables and functions (3.4.5)
 abbrev pub element_in_range : ℕ → ℕ → Element → Bool
-element_in_range tables functions e = nat_lt e.table tables && is_constant I32 e.offset && all_below functions e.functions
+element_in_range tables functions e =
+    nat_lt e.table tables && is_constant I32 e.offset && all_below functions e.functions
 
 abbrev pub elements_in_range : Module → Bool
-elements_in_range m = list_all (element_in_range (length m.tables) (length (function_types m))) m.elements
+elements_in_range m =
+    list_all (element_in_range (length m.tables) (length (function_types m))) m.elements
 
 -- (3.4.6)
 abbrev pub segments_in_range : Module → Bool
-segments_in_range m = list_all (λ s. nat_lt s.memory (length m.memories) && is_constant I32 s.offset) m.segments
+segments_in_range m =
+    list_all (λ s. nat_lt s.memory (length m.memories) && is_constant I32 s.offset) m.segments
 
 -- ---- the least section that fails
 

@@ -21,6 +21,9 @@ pub record Validated : Type 0 where
   -- what a machine runs by, for each function that the module defines
   pub codes : List FlatCode
 
+abbrev pub validated : Module → List SystemCall → List FlatCode → Validated
+validated m calls codes = record { «module» = m; calls = calls; codes = codes }
+
 -- the calls are those of the imports
 abbrev pub Calls : List FuncType → List Import → List SystemCall → Type 0
 Calls types imports calls = map (call_of types) imports ≡ map (λ c. Some c) calls
@@ -29,8 +32,12 @@ Calls types imports calls = map (call_of types) imports ≡ map (λ c. Some c) c
 abbrev pub Suits : Module → ℕ × FuncCode → FlatCode → Type 0
 Suits m f code = IsSound (record { context = context_of m f; words = f.1.body; code = code })
 
+-- each code suits its function
+abbrev pub SuitAll : Module → List FlatCode → Type 0
+SuitAll m codes = AllZip (Suits m) (definitions m) codes
+
 pub record IsValid (v : Validated) : Type 0 where
   pub grammar : IsModule v.module
   pub passes : checked v.module ≡ None
   pub calls : Calls v.module.types v.module.imports v.calls
-  pub codes : AllZip (Suits v.module) (definitions v.module) v.codes
+  pub codes : SuitAll v.module v.codes

@@ -6,7 +6,9 @@ pub mod Indices
 pub mod Sizes
 pub mod Entries
 pub mod Methods
+pub mod Seen
 pub mod Bodies
 pub mod Checked
+pub mod Passes
 pub mod IsValid
 pub mod Visited

@@ -1,5 +1,5 @@
 -- The sizes that this profile admits: of a table, of a memory and of a function's frame.
-use Rattle.std.specs.Prelude.{ℕ, Bool, List, [], ◌∷◌, ◌+◌, length, Option, Some, None, nat_le, slice_get, option_map, sum_by, zip}
+use Rattle.std.specs.Prelude.{ℕ, Bool, List, [], ◌∷◌, ◌+◌, length, Option, Some, None, nat_le, slice_get, option_map, sum_by}
 use Rattle.std.specs.List.{list_all}
 use Rattle.wm_tree.specs.declared.types.FuncType.{FuncType}
 use Rattle.wm_tree.specs.declared.parts.FuncCode.{FuncCode}
@@ -7,6 +7,7 @@ use Rattle.wm_tree.specs.declared.parts.Module.{Module}
 use Rattle.wm_valid.specs.declared.invalid.Invalid.{Invalid}
 use Rattle.wm_valid.specs.declared.invalid.Invalid.TheVariants as fault
 use Rattle.wm_valid.specs.Indices.{first_failing}
+use Rattle.wm_valid.specs.Bodies.{definitions}
 
 -- at most 65,536 entries at first
 abbrev pub tables_fit : Module → Bool
@@ -26,7 +27,7 @@ frame_size types f = count_of_params (slice_get types f.0) + sum_by (λ r. r.cou
 
 -- at most 10,000 parameters and locals
 abbrev pub frames_fit : Module → Bool
-frames_fit m = list_all (λ f. nat_le (frame_size m.types f) 10000) (zip m.functions m.codes)
+frames_fit m = list_all (λ f. nat_le (frame_size m.types f) 10000) (definitions m)
 
 abbrev pub size_fault : Module → Option Invalid
 size_fault m = option_map (λ s. fault.Size s) (first_failing (

@@ -1,5 +1,5 @@
--- The System API (IC Interface Specification, "System API"): the functions that a canister may import
--- from the module `ic0`, in this project's profile, each with its parameters and its result.
+-- The System API (IC Interface Specification, "System API"): the functions that a canister may
+-- import from the module `ic0`, in this project's profile, each with its parameters and its result.
 use Rattle.std.specs.Prelude.{ℕ, List, [], ◌∷◌, Option, Some, None, codes, bytes_eq, find}
 use Rattle.std.specs.List.{position_or_len}
 use Rattle.wm_tree.specs.declared.types.ValType.{ValType}

@@ -1,19 +1,18 @@
 ghost use Rattle.std.specs.Prelude.{◌≡◌, None, IfOk, IfErr, map, OnOk, true};
-ghost use Rattle.std.specs.List.{AllZip};
-ghost use Rattle.std.specs.Option.{option_or};
 ghost use Rattle.wm_tree.specs.IsModule.{IsModule};
 ghost use Rattle.wm_valid.specs.SystemApi.{number_of};
 ghost use Rattle.wm_valid.specs.Space.{function_types};
-ghost use Rattle.wm_valid.specs.Sizes.{frames_fit};
-ghost use Rattle.wm_valid.specs.Bodies.{definitions, nesting_fault, typing_fault};
+ghost use Rattle.wm_valid.specs.Bodies.{nesting_fault, typing_fault, bodies_fault};
 ghost use Rattle.wm_valid.specs.Checked.{checked, Fails};
-ghost use Rattle.wm_valid.specs.IsValid.{Calls, Suits, IsValid};
+ghost use Rattle.wm_valid.specs.IsValid.{Calls, SuitAll, IsValid};
+ghost use Rattle.wm_valid.specs.Methods.{HasEntries};
 
 use crate::bodies::validate_functions;
 use crate::entries::check_exports;
 use crate::imports::calls_of;
 use crate::indices::index_fault;
 use crate::invalid::Invalid;
+use crate::methods::Entries;
 use crate::scope::Scope;
 use crate::sizes::size_fault;
 use crate::space::function_types;
@@ -49,13 +48,12 @@ fn codes_of(
     calls: &[SystemCall],
 ) -> Result<Vec<FlatCode>, Invalid>
     requires grammar { IsModule «module».now }
-    requires sizes { frames_fit «module».now ≡ true }
     requires functions { functions.now ≡ function_types «module».now }
     requires calls { Calls «module».now.types «module».now.imports calls.now }
     ensures shallow { OnOk result (nesting_fault «module».now ≡ None) }
     ensures typed { OnOk result (typing_fault «module».now ≡ None) }
-    ensures suits { IfOk result (λ codes. AllZip (Suits «module».now) (definitions «module».now) codes.items) }
-    ensures faults { IfErr result (λ e. Fails e (option_or (nesting_fault «module».now) (typing_fault «module».now))) }
+    ensures suits { IfOk result (λ codes. SuitAll «module».now codes.items) }
+    ensures faults { IfErr result (λ e. Fails e (bodies_fault «module».now)) }
 {
     let hosts = numbers_of(alloc, calls)?;
     let globals = global_types(alloc, &module.globals.items)?;
@@ -68,12 +66,22 @@ fn codes_of(
     validate_functions(alloc, &scope)
 }
 
+/// What the checks of a module find out.
+#[derive(Drop)]
+struct Found {
+    calls: Vec<SystemCall>,
+    codes: Vec<FlatCode>,
+    entries: Entries,
+}
+
 /// Tries the checks in their order, and gives what they find out.
-fn checks(alloc: Global, module: &Module) -> Result<(Vec<SystemCall>, Vec<FlatCode>), Invalid>
+fn checks(alloc: Global, module: &Module) -> Result<Found, Invalid>
     requires grammar { IsModule «module».now }
     ensures passes { OnOk result (checked «module».now ≡ None) }
-    ensures calls { IfOk result (λ found. Calls «module».now.types «module».now.imports found.0.items) }
-    ensures codes { IfOk result (λ found. AllZip (Suits «module».now) (definitions «module».now) found.1.items) }
+    ensures calls { IfOk result (λ found.
+        Calls «module».now.types «module».now.imports found.calls.items) }
+    ensures codes { IfOk result (λ found. SuitAll «module».now found.codes.items) }
+    ensures entries { IfOk result (λ found. HasEntries found.entries «module».now.exports) }
     ensures fault { IfErr result (λ e. Fails e (checked «module».now)) }
 {
     let calls = calls_of(alloc, &module.types.items, &module.imports.items)?;
@@ -84,14 +92,19 @@ fn checks(alloc: Global, module: &Module) -> Result<(Vec<SystemCall>, Vec<FlatCo
     if let Some(fault) = size_fault(module) {
         return Err(fault);
     }
-    check_exports(alloc, module, &functions)?;
+    let entries = Entries::among(alloc, &module.exports.items)?;
+    check_exports(alloc, module, &functions, &entries)?;
     let codes = codes_of(alloc, module, &functions, &calls)?;
-    Ok((calls, codes))
+    Ok(Found {
+        calls,
+        codes,
+        entries,
+    })
 }
 
-/// Validates a module (WebAssembly Core 1.0, chapter 3) in this profile. The checks are tried in the
-/// order of `Invalid`. Time and memory grow linearly with the module, but that the names of exports
-/// are kept in search trees, and each function's locals, of which there are few, are listed.
+/// Validates a module (WebAssembly Core 1.0, chapter 3) in this profile. The checks are tried in
+/// the order of `Invalid`. Memory is linear in the module, and so is time, but that names of exports
+/// are looked up in search trees, and locals in their runs.
 pub fn validate(alloc: Global, module: Module) -> Result<Valid, Invalid>
     requires { IsModule «module» }
     // The module is kept as it is, and passes every check.
@@ -100,6 +113,10 @@ pub fn validate(alloc: Global, module: Module) -> Result<Valid, Invalid>
     // It is the first check that fails.
     ensures fault { IfErr result (λ e. Fails e (checked «module»)) }
 {
-    let (calls, codes) = checks(alloc, &module)?;
-    Ok(Valid::new(module, calls, codes))
+    let Found {
+        calls,
+        codes,
+        entries,
+    } = checks(alloc, &module)?;
+    Ok(Valid::new(module, calls, codes, entries))
 }

@@ -1,20 +1,17 @@
-ghost use Rattle.std.specs.Prelude.{◌≡◌, ◌≤◌, ◌+◌, ◌++◌, Some, None, true, slice_get, IfOk, IfErr, OnOk, replicate};
-ghost use Rattle.std.specs.Option.{option_copied, option_or};
-ghost use Rattle.std.specs.List.{AllZip};
+ghost use Rattle.std.specs.Prelude.{◌≡◌, ◌+◌, Some, None, true, slice_get, IfOk, IfErr, OnOk};
+ghost use Rattle.std.specs.Option.{option_copied};
 ghost use Rattle.wm_tree.specs.IsModule.{IsModule};
 ghost use Rattle.wm_tree.specs.Seq.{IsFlat};
 ghost use Rattle.wm_valid.specs.Bodies as specs;
-ghost use Rattle.wm_valid.specs.IsValid.{Suits};
+ghost use Rattle.wm_valid.specs.IsValid.{Suits, SuitAll};
 ghost use Rattle.wm_valid.specs.Checked.{Fails};
-ghost use Rattle.wm_valid.specs.Sizes.{frame_size, frames_fit};
 ghost use Rattle.wm_valid.specs.Visited.{Visited};
 
 use crate::invalid::Invalid;
 use crate::scope::Scope;
-use ic_base::NoMemory;
 use std::alloc::Global;
-use wm_tree::{FuncCode, FuncType, Run, ValType};
-use wm_typing::{BodyFault, Context, FlatCode, validate_body};
+use wm_tree::{FuncCode, FuncType, ValType};
+use wm_typing::{BodyFault, Context, FlatCode, Locals, validate_body};
 
 fn params_of(t: Option<&FuncType>) -> &[ValType]
     ensures { result.now ≡ specs.params_of (option_copied t.entry) }
@@ -34,42 +31,25 @@ fn result_of(t: Option<&FuncType>) -> Option<ValType>
     }
 }
 
-fn push_run(locals: &mut Vec<ValType>, run: &Run) -> Result<(), NoMemory>
-    ensures { OnOk result (locals.new.items ≡ locals.old.items ++ replicate run.now.count run.now.kind) }
-{
-    let len = locals.len();
-    locals.resize(len + run.count as usize, run.kind)
-}
-
-/// The types of parameters and locals.
-fn locals_of(alloc: Global, params: &[ValType], runs: &[Run]) -> Result<Vec<ValType>, NoMemory>
-    ensures { IfOk result (λ locals. locals.items ≡ params.now ++ specs.locals_of runs.now) }
-{
-    let mut locals = Vec::from_slice(alloc, params)?;
-    for run in runs {
-        push_run(&mut locals, run)?;
-    }
-    Ok(locals)
-}
-
 /// Validates the body of a function whose type has that index.
-pub(crate) fn validate_function(
+fn validate_function(
     alloc: Global,
     scope: &Scope,
     index: u32,
     code: &FuncCode,
+    locals: &Locals,
 ) -> Result<FlatCode, BodyFault>
     requires flat { IsFlat code.now.body }
-    requires small { frame_size scope.now.«module».now.types (index, code.now) ≤ 10000 }
+    requires locals { locals.now ≡ specs.locals_of code.now.locals }
     ensures shallow { IfOk result (λ _. specs.nesting_fits (index, code.now) ≡ true) }
-    ensures typed { IfOk result (λ _. specs.has_typing scope.now.«module».now (index, code.now) ≡ true) }
+    ensures typed { IfOk result (λ _.
+        specs.has_typing scope.now.«module».now (index, code.now) ≡ true) }
     ensures suits { IfOk result (λ flat. Suits scope.now.«module».now (index, code.now) flat) }
-    ensures faults { IfErr result (λ e. specs.BodyFails scope.now.«module».now (index, code.now) e) }
+    ensures faults { IfErr result (λ e.
+        specs.BodyFails scope.now.«module».now (index, code.now) e) }
 {
     let module = scope.module;
     let t = module.types.items.get(index as usize);
-    let params = params_of(t);
-    let locals = locals_of(alloc, params, &code.locals.items)?;
     let context = Context {
         types: &module.types.items,
         functions: scope.functions,
@@ -77,8 +57,8 @@ pub(crate) fn validate_function(
         globals: scope.globals,
         has_table: !module.tables.items.is_empty(),
         has_memory: !module.memories.items.is_empty(),
-        locals: &locals,
-        params: params.len() as u32,
+        params: params_of(t),
+        locals,
         result: result_of(t),
     };
     validate_body(alloc, &context, &code.body.items)
@@ -95,13 +75,15 @@ fn visit(
     codes: &mut Vec<FlatCode>,
 ) -> Result<Option<u32>, Invalid>
     requires flat { IsFlat code.now.body }
-    requires small { frame_size scope.now.«module».now.types (index, code.now) ≤ 10000 }
-    requires here { slice_get (specs.definitions scope.now.«module».now) number ≡ Some (index, code.now) }
+    requires here { slice_get (specs.definitions scope.now.«module».now) number
+        ≡ Some (index, code.now) }
     requires before { Visited scope.now.«module».now number untyped codes.old.items }
-    ensures visited { IfOk result (λ untyped. Visited scope.now.«module».now (number + 1) untyped codes.new.items) }
-    ensures faults { IfErr result (λ e. Fails e (option_or (specs.nesting_fault scope.now.«module».now) (specs.typing_fault scope.now.«module».now))) }
+    ensures visited { IfOk result (λ untyped.
+        Visited scope.now.«module».now (number + 1) untyped codes.new.items) }
+    ensures faults { IfErr result (λ e. Fails e (specs.bodies_fault scope.now.«module».now)) }
 {
-    match validate_function(alloc, scope, index, code) {
+    let locals = Locals::of(alloc, &code.locals.items)?;
+    match validate_function(alloc, scope, index, code, &locals) {
         Ok(flat) => {
             codes.push(flat)?;
             Ok(untyped)
@@ -115,12 +97,11 @@ fn visit(
 /// Validates the bodies of all functions. That one nests too deeply counts before that another has
 /// no typing.
 pub(crate) fn validate_functions(alloc: Global, scope: &Scope) -> Result<Vec<FlatCode>, Invalid>
-    requires grammar { IsModule scope.now.«module».now }
-    requires sizes { frames_fit scope.now.«module».now ≡ true }
+    requires { IsModule scope.now.«module».now }
     ensures shallow { OnOk result (specs.nesting_fault scope.now.«module».now ≡ None) }
     ensures typed { OnOk result (specs.typing_fault scope.now.«module».now ≡ None) }
-    ensures suits { IfOk result (λ codes. AllZip (Suits scope.now.«module».now) (specs.definitions scope.now.«module».now) codes.items) }
-    ensures faults { IfErr result (λ e. Fails e (option_or (specs.nesting_fault scope.now.«module».now) (specs.typing_fault scope.now.«module».now))) }
+    ensures suits { IfOk result (λ codes. SuitAll scope.now.«module».now codes.items) }
+    ensures faults { IfErr result (λ e. Fails e (specs.bodies_fault scope.now.«module».now)) }
 {
     let module = scope.module;
     let functions = module.functions.items.as_slice();

@@ -1,6 +1,6 @@
-ghost use Rattle.std.specs.Prelude.{◌≡◌, ◌<◌, ◌^◌, None, IfOk, IfErr, length, option_map};
+ghost use Rattle.std.specs.Prelude.{◌≡◌, ◌<◌, ◌^◌, None, IfOk, IfErr, length};
 ghost use Rattle.wm_valid.specs.Checked.{Fails};
-ghost use Rattle.wm_valid.specs.Imports.{has_signature, call_of, least_other};
+ghost use Rattle.wm_valid.specs.Imports.{has_signature, call_of, least_other, fault_of};
 ghost use Rattle.wm_valid.specs.IsValid.{Calls};
 ghost use Rattle.wm_valid.specs.SystemApi.{row_of};
 ghost use Rattle.wm_valid.specs.Types.{same_types};
@@ -50,7 +50,7 @@ pub(crate) fn calls_of(
     requires { length imports.now < 2 ^ 32 }
     ensures calls { IfOk result (λ calls. Calls types.now imports.now calls.items) }
     ensures passes { IfOk result (λ _. least_other types.now imports.now ≡ None) }
-    ensures fault { IfErr result (λ e. Fails e (option_map (λ n. Invalid.Import n) (least_other types.now imports.now))) }
+    ensures fault { IfErr result (λ e. Fails e (fault_of types.now imports.now)) }
 {
     let mut calls = Vec::new(alloc);
     for (number, import) in imports.iter().enumerate() {

@@ -2,7 +2,7 @@
 //!
 //! `validate` tries the checks in the order of `Invalid` and answers the first that fails
 //! (`specs/Checked`): imports are calls of the System API, indices and limits are in range, sizes
-//! are within this profile, exports with a name of the System API are its entry points, and bodies
+//! are within this profile, exports whose names begin with `canister_` are entry points, and bodies
 //! have a typing. A `Valid` keeps its module with what the checks found.
 #![tactic(auto)]
 
@@ -13,6 +13,7 @@ mod entry;
 mod imports;
 mod indices;
 mod invalid;
+mod laws;
 mod methods;
 mod names;
 mod scope;
@@ -24,4 +25,5 @@ mod valid;
 pub use answer::validate;
 pub use entry::EntryName;
 pub use invalid::Invalid;
+pub use laws::every_check_passes;
 pub use valid::Valid;

@@ -1,89 +1,127 @@
-ghost use Rattle.std.specs.Prelude.{◌≡◌, ◌++◌, ◌||◌, codes, bytes_eq, ℕ, List, IfOk, OnOk};
-ghost use Rattle.wm_valid.specs.Entries.{behind};
-ghost use Rattle.wm_valid.specs.Methods.{has_name, has_rest, HasNames};
+ghost use Rattle.std.specs.Prelude.{◌≡◌, IfOk, OnOk, List, bytes_eq, find};
+ghost use Rattle.std.specs.Option.{option_copied, option_flatten};
+ghost use Rattle.wm_tree.specs.declared.parts.Export.{Export as AnExport};
+ghost use Rattle.wm_valid.specs.Entries as specs;
+ghost use Rattle.wm_valid.specs.Methods.{found_in, has_rest, Gains, HasMethods, HasEntries};
 
-use crate::names::{QUERY, UPDATE, behind, name_bytes};
+use crate::entry::EntryName;
+use crate::names::{INIT, INSPECT, POST_UPGRADE, PRE_UPGRADE, QUERY, UPDATE, behind, name_bytes};
 use ic_base::NoMemory;
 use std::alloc::Global;
-use std::collections::BTreeSet;
-use wm_tree::Export;
+use std::collections::BTreeMap;
+use wm_tree::{Export, ExportKind};
 
-/// Adds a name to a set; whether it was there before.
-pub(crate) fn add<'a>(names: &mut BTreeSet<&'a [u8]>, name: &'a [u8]) -> Result<bool, NoMemory>
-    ensures seen { IfOk result (λ seen. seen ≡ has_name names.old name.now) }
-    ensures names { OnOk result ((other : List ℕ) → has_name names.new other ≡ (bytes_eq name.now other || has_name names.old other)) }
+fn exported_function(kind: ExportKind) -> Option<u32>
+    ensures { result ≡ specs.exported_function kind }
 {
-    Ok(!names.insert(name)?)
+    match kind {
+        ExportKind::Function(index) => Some(index),
+        _ => None,
+    }
 }
 
-/// Adds what stands behind the prefix, where the name begins with it.
-fn add_behind<'a>(
-    names: &mut BTreeSet<&'a [u8]>,
-    prefix: &[u8],
-    name: &'a [u8],
-) -> Result<(), NoMemory>
-    ensures { OnOk result ((other : List ℕ) → has_name names.new other ≡ (bytes_eq name.now (prefix.now ++ other) || has_name names.old other)) }
+fn find_export<'a>(exports: &'a [Export], name: &[u8]) -> Option<&'a Export>
+    ensures { option_copied result ≡ find (λ e. bytes_eq e.name name.now) exports.now }
 {
-    if let Some(rest) = behind(prefix, name) {
-        add(names, rest)?;
+    exports.iter().find(|export| name_bytes(export) == name)
+}
+
+/// The function that is exported under the name.
+fn function_named(exports: &[Export], name: &[u8]) -> Option<u32>
+    ensures { result ≡ specs.function_named exports.now name.now }
+{
+    let export = find_export(exports, name)?;
+    exported_function(export.kind)
+}
+
+/// What is exported behind a prefix: for each method its function, if it is one.
+type Methods = BTreeMap<Vec<u8>, Option<u32>>;
+
+/// Adds the export where its name begins with the prefix; it takes the place of another of its name.
+fn add(alloc: Global, methods: &mut Methods, prefix: &[u8], export: &Export) -> Result<(), NoMemory>
+    ensures { OnOk result (Gains methods.old methods.new prefix.now export.now) }
+{
+    if let Some(method) = behind(prefix, name_bytes(export)) {
+        let method = Vec::from_slice(alloc, method)?;
+        methods.insert(method, exported_function(export.kind))?;
     }
     Ok(())
 }
 
 /// What is exported behind the prefix.
-fn names_behind<'a>(
-    alloc: Global,
-    prefix: &[u8],
-    exports: &'a [Export],
-) -> Result<BTreeSet<&'a [u8]>, NoMemory>
-    ensures { IfOk result (λ names. HasNames names prefix.now exports.now) }
+fn methods_behind(alloc: Global, prefix: &[u8], exports: &[Export]) -> Result<Methods, NoMemory>
+    ensures { IfOk result (λ methods. HasMethods methods prefix.now exports.now) }
 {
-    let mut names = BTreeSet::new(alloc);
-    for export in exports {
-        add_behind(&mut names, prefix, name_bytes(export))?;
+    let mut methods = BTreeMap::new(alloc);
+    // From the last on, so that the first of a name stays.
+    for place in (0..exports.len()).rev() {
+        add(alloc, &mut methods, prefix, &exports[place])?;
     }
-    Ok(names)
+    Ok(methods)
 }
 
-/// Whether the name is the prefix and a name of the set.
-fn has_behind(names: &BTreeSet<&[u8]>, prefix: &[u8], name: &[u8]) -> bool
-    ensures { result ≡ has_rest names.now (behind prefix.now name.now) }
+/// The function that the method is.
+fn function_of(methods: &Methods, method: &[u8]) -> Option<u32>
+    ensures { result ≡ option_flatten (found_in methods.now method.now) }
+{
+    *methods.get(method)?
+}
+
+/// Whether the name is the prefix and a method.
+fn has_behind(methods: &Methods, prefix: &[u8], name: &[u8]) -> bool
+    ensures { result ≡ has_rest methods.now (specs.behind prefix.now name.now) }
 {
     match behind(prefix, name) {
         None => false,
-        Some(rest) => names.contains(rest),
+        Some(method) => methods.contains_key(method),
     }
 }
 
-/// The methods that are exported.
-#[derive(Drop)]
-pub(crate) struct Methods<'a> {
-    pub(crate) exports: &'a [Export],
-    updates: BTreeSet<&'a [u8]>,
-    queries: BTreeSet<&'a [u8]>,
-    ghost has_updates: { HasNames updates (codes "canister_update ") exports.now },
-    ghost has_queries: { HasNames queries (codes "canister_query ") exports.now },
+/// What is exported under the names of entry points.
+#[derive(Debug, Drop)]
+pub(crate) struct Entries {
+    init: Option<u32>,
+    pre_upgrade: Option<u32>,
+    post_upgrade: Option<u32>,
+    inspect: Option<u32>,
+    updates: Methods,
+    queries: Methods,
 }
 
-impl<'a> Methods<'a> {
-    ghost use Rattle.wm_valid.specs.Entries as specs;
-
-    /// The methods among the exports.
-    pub(crate) fn among(alloc: Global, exports: &'a [Export]) -> Result<Methods<'a>, NoMemory>
-        ensures { IfOk result (λ methods. methods.exports.now ≡ exports.now) }
+impl Entries {
+    /// The entry points among the exports.
+    pub(crate) fn among(alloc: Global, exports: &[Export]) -> Result<Entries, NoMemory>
+        ensures { IfOk result (λ entries. HasEntries entries exports.now) }
     {
-        let updates = names_behind(alloc, UPDATE, exports)?;
-        let queries = names_behind(alloc, QUERY, exports)?;
-        Ok(Methods {
-            exports,
-            updates,
-            queries,
+        Ok(Entries {
+            init: function_named(exports, INIT),
+            pre_upgrade: function_named(exports, PRE_UPGRADE),
+            post_upgrade: function_named(exports, POST_UPGRADE),
+            inspect: function_named(exports, INSPECT),
+            updates: methods_behind(alloc, UPDATE, exports)?,
+            queries: methods_behind(alloc, QUERY, exports)?,
         })
+    }
+
+    /// The function that is exported as that entry point.
+    pub(crate) fn get(&self, kind: EntryName, method: &[u8]) -> Option<u32>
+        ensures { (exports : List AnExport) → HasEntries self.now exports
+            → result ≡ specs.entry_in exports kind method.now }
+    {
+        match kind {
+            EntryName::Init => self.init,
+            EntryName::PreUpgrade => self.pre_upgrade,
+            EntryName::PostUpgrade => self.post_upgrade,
+            EntryName::Inspect => self.inspect,
+            EntryName::Update => function_of(&self.updates, method),
+            EntryName::Query => function_of(&self.queries, method),
+        }
     }
 
     /// Whether the name is that of a method which is an update and a query.
     pub(crate) fn is_both(&self, name: &[u8]) -> bool
-        ensures { result ≡ specs.is_both self.now.exports.now name.now }
+        ensures { (exports : List AnExport) → HasEntries self.now exports
+            → result ≡ specs.is_both exports name.now }
     {
         has_behind(&self.queries, UPDATE, name) || has_behind(&self.updates, QUERY, name)
     }

@@ -1,19 +1,18 @@
-ghost use Rattle.std.specs.Prelude.{◌≡◌, ◌++◌, bytes_eq};
+ghost use Rattle.std.specs.Prelude.{◌≡◌};
 ghost use Rattle.std.specs.Option.{option_copied};
 ghost use Rattle.wm_valid.specs.Entries as specs;
 
-use crate::entry::EntryName;
 use wm_tree::Export;
 
 pub(crate) const CANISTER: &[u8] = b"canister_";
 
-const INIT: &[u8] = b"canister_init";
+pub(crate) const INIT: &[u8] = b"canister_init";
 
-const PRE_UPGRADE: &[u8] = b"canister_pre_upgrade";
+pub(crate) const PRE_UPGRADE: &[u8] = b"canister_pre_upgrade";
 
-const POST_UPGRADE: &[u8] = b"canister_post_upgrade";
+pub(crate) const POST_UPGRADE: &[u8] = b"canister_post_upgrade";
 
-const INSPECT: &[u8] = b"canister_inspect_message";
+pub(crate) const INSPECT: &[u8] = b"canister_inspect_message";
 
 pub(crate) const UPDATE: &[u8] = b"canister_update ";
 
@@ -33,30 +32,6 @@ pub(crate) fn behind<'a>(prefix: &[u8], name: &'a [u8]) -> Option<&'a [u8]>
         Some(&name[prefix.len()..])
     } else {
         None
-    }
-}
-
-/// Whether the name is the prefix and the method.
-fn is_method(prefix: &[u8], method: &[u8], name: &[u8]) -> bool
-    ensures { result ≡ bytes_eq name.now (prefix.now ++ method.now) }
-{
-    match behind(prefix, name) {
-        None => false,
-        Some(rest) => rest == method,
-    }
-}
-
-/// Whether the name is that of the entry point.
-pub(crate) fn is_named(kind: EntryName, method: &[u8], name: &[u8]) -> bool
-    ensures { result ≡ bytes_eq name.now (specs.name_of kind method.now) }
-{
-    match kind {
-        EntryName::Init => name == INIT,
-        EntryName::PreUpgrade => name == PRE_UPGRADE,
-        EntryName::PostUpgrade => name == POST_UPGRADE,
-        EntryName::Inspect => name == INSPECT,
-        EntryName::Update => is_method(UPDATE, method, name),
-        EntryName::Query => is_method(QUERY, method, name),
     }
 }
 

@@ -18,7 +18,8 @@ pub(crate) fn imported_type(import: &Import) -> Option<u32>
 }
 
 fn push_imported(types: &mut Vec<u32>, import: &Import) -> Result<(), NoMemory>
-    ensures { OnOk result (types.new.items ≡ types.old.items ++ cons_option (imported_type import.now) []) }
+    ensures { OnOk result
+        (types.new.items ≡ types.old.items ++ cons_option (imported_type import.now) []) }
 {
     if let Some(index) = imported_type(import) {
         types.push(index)?;

@@ -1,44 +1,55 @@
-ghost use Rattle.std.specs.Prelude.{◌≡◌, slice_get};
+ghost use Rattle.std.specs.Prelude.{◌≡◌, ◌↔◌, IsNone, false, slice_get};
 
-use crate::entries::entry_of;
 use crate::entry::EntryName;
+use crate::methods::Entries;
 use crate::system_api::SystemCall;
 use std::marker::Model;
 use wm_tree::Module;
 use wm_typing::FlatCode;
 
 /// A module that is valid, with what validation found out.
-#[derive(Drop)]
+#[derive(Debug, Drop)]
 pub struct Valid {
     module: Module,
     calls: Vec<SystemCall>,
     codes: Vec<FlatCode>,
+    entries: Entries,
 }
 
 impl Model for Valid {
-    ghost use Rattle.wm_valid.specs.IsValid.{Validated, IsValid};
+    ghost use Rattle.wm_valid.specs.IsValid.{Validated, validated, IsValid};
+    ghost use Rattle.wm_valid.specs.Methods.{HasEntries};
 
     ghost Value = { Validated };
 
-    ghost view = { λ v. record { «module» = v.«module»; calls = v.calls.items; codes = v.codes.items } };
+    ghost view = { λ v. validated v.«module» v.calls.items v.codes.items };
 
-    ghost invariant = { λ v. IsValid (record { «module» = v.«module»; calls = v.calls.items; codes = v.codes.items }) };
+    ghost invariant = { λ v. IsValid (validated v.«module» v.calls.items v.codes.items)
+        × HasEntries v.entries v.«module».exports };
 }
 
 impl Valid {
     ghost use Rattle.std.specs.Option.{option_copied};
-    ghost use Rattle.wm_valid.specs.Entries.{entry_of};
-    ghost use Rattle.wm_valid.specs.IsValid.{IsValid};
+    ghost use Rattle.wm_valid.specs.Entries.{entry_of, exports_name, name_of};
+    ghost use Rattle.wm_valid.specs.IsValid.{validated, IsValid};
+    ghost use Rattle.wm_valid.specs.Methods.{HasEntries};
 
     /// A module with what its validation found out.
-    pub(crate) fn new(module: Module, calls: Vec<SystemCall>, codes: Vec<FlatCode>) -> Valid
-        requires { IsValid (record { «module» = «module»; calls = calls.items; codes = codes.items }) }
+    pub(crate) fn new(
+        module: Module,
+        calls: Vec<SystemCall>,
+        codes: Vec<FlatCode>,
+        entries: Entries,
+    ) -> Valid
+        requires valid { IsValid (validated «module» calls.items codes.items) }
+        requires entries { HasEntries entries «module».exports }
         ensures { result.module ≡ «module» }
     {
         Valid {
             module,
             calls,
             codes,
+            entries,
         }
     }
 
@@ -51,14 +62,16 @@ impl Valid {
         &self.module
     }
 
-    /// The System API's call that the import of this number is, if there is such an import.
+    /// The System API's call that the import of this number is, if there is such an import. Hosts
+    /// know it by the call's own number.
     pub fn system_call(&self, import: u32) -> Option<SystemCall>
         ensures { result ≡ slice_get self.now.calls import }
     {
         self.calls.get(import as usize).copied()
     }
 
-    /// What a machine runs by, of the function of this number among the defined ones.
+    /// What a machine runs by, of the function of this number among the defined ones. By `module`'s
+    /// clause `valid` it suits the function's body.
     pub fn code(&self, function: u32) -> Option<&FlatCode>
         ensures { option_copied result ≡ slice_get self.now.codes function }
     {
@@ -66,10 +79,13 @@ impl Valid {
     }
 
     /// The function that is exported as this entry point. The name is that of the method, and is
-    /// read for `Update` and `Query` alone.
+    /// read for `Update` and `Query` alone. It is looked up in a search tree.
     pub fn entry(&self, kind: EntryName, name: &str) -> Option<u32>
-        ensures { result ≡ entry_of self.now.module kind name.now }
+        ensures entry { result ≡ entry_of self.now.module kind name.now }
+        // There is one exactly where something has its name.
+        ensures none { IsNone result
+            ↔ (exports_name self.now.module.exports (name_of kind name.now) ≡ false) }
     {
-        entry_of(&self.module.exports.items, kind, name.as_bytes())
+        self.entries.get(kind, name.as_bytes())
     }
 }

@@ -2,7 +2,7 @@ use Rattle.std.proofs.Common.{◌≡◌, ◌∙◌, ◌<◌, ◌≤◌, length, 
 use Rattle.std.specs.Prelude.{option_map}
 use Rattle.wm_tree.specs.declared.parts.Module.{Module}
 use Rattle.wm_valid.specs.declared.invalid.Invalid.TheVariants as fault
-use Rattle.wm_valid.proofs.VisitLemmas.{definition_at, frame_fits_at, visited_shallow, visited_least, visited_suits}
+use Rattle.wm_valid.proofs.VisitLemmas.{definition_at, visited_shallow, visited_least, visited_suits}
 use Rattle.wm_valid.proofs.bodies.validate_functions.Goals as goal
 
 pub visit-requires-clause-here : goal.visit-requires-clause-here
@@ -12,10 +12,7 @@ visit-requires-clause-here c =
     let bodies : c.as_slice-bodies.result.now ≡ m.codes = c.as_slice-bodies.ensures.value ∙ ap (λ (x : Module). x.codes) c.«module».view_is in
     let lt : c.loop-number.number < length m.codes = rw (← bodies) c.loop-number-test.true in
     let is : c.index-bodies-number.result ≡ get_or m.codes c.loop-number.number c.index-bodies-number.result = rw (← bodies) c.index-bodies-number.is in
-    rw functions (definition_at m c.loop-number.number c.index-bodies-number.result c.requires.grammar.counts lt is)
-
-pub visit-requires-clause-small : goal.visit-requires-clause-small
-visit-requires-clause-small c = frame_fits_at c.args.scope.now.«module».now c.loop-number.number _ (visit-requires-clause-here c) c.requires.sizes
+    rw functions (definition_at m c.loop-number.number c.index-bodies-number.result c.requires.counts lt is)
 
 pub returns-in-None-clause-shallow : goal.returns-in-None-clause-shallow
 returns-in-None-clause-shallow c =

@@ -1,8 +1,8 @@
 use Rattle.wm_valid.proofs.VisitLemmas.{visited_typed, visited_untyped, visited_deep}
 use Rattle.wm_valid.proofs.bodies.visit.Goals as goal
 
-pub returns-in_ok-push-in-Ok-clause-visited : goal.returns-in_ok-push-in-Ok-clause-visited
-returns-in_ok-push-in-Ok-clause-visited c =
+pub returns-in-Ok-clause-visited : goal.returns-in-Ok-clause-visited
+returns-in-Ok-clause-visited c =
     rw c.in_ok-push-in-Ok.ensures.items
     (visited_typed c.args.scope.now.«module».now c.args.number (c.args.index, c.args.code.now) c.requires.here c.args.untyped c.args.codes.now.items c.in-Ok.flat c.requires.before c.in-Ok.ensures.shallow c.in-Ok.ensures.typed c.in-Ok.ensures.suits)
 

@@ -1,4 +1,4 @@
-use Rattle.std.proofs.Common.{◌≡◌, false, true, [], sym, ◌∙◌, ap}
+use Rattle.std.proofs.Common.{◌≡◌, false, true, sym, ◌∙◌, ap}
 use Rattle.std.specs.Prelude.{option_map}
 use Rattle.wm_tree.specs.declared.parts.Module.{Module}
 use Rattle.wm_valid.specs.declared.invalid.Invalid.TheVariants as fault
@@ -14,7 +14,7 @@ loop-place-preserved c =
     let same : exports ≡ m.exports = c.as_slice-exports.ensures.value ∙ ap (λ (x : Module). x.exports) c.«module».view_is in
     let bad : is_bad_export m c.loop-place.place export ≡ false =
     sym (is_bad m exports c.loop-place.place export c.loop-place.seen same c.loop-place.invariant.0) ∙ sym c.in_ok-is_bad.ensures.bad ∙ c.if-branch.false in (
-      names_more c.loop-place.seen c.is_bad.new.seen [] exports c.loop-place.place export c.loop-place-test.true c.index-exports-place.is c.loop-place.invariant.0 c.in_ok-is_bad.ensures.seen,
+      names_more c.loop-place.seen c.is_bad.new.seen exports c.loop-place.place export c.loop-place-test.true c.index-exports-place.is c.loop-place.invariant.0 c.in_ok-is_bad.ensures.seen,
       sym (least_bad_more m exports c.loop-place.place export c.loop-place-test.true c.index-exports-place.is bad) ∙ c.loop-place.invariant.1,
     )
 
