@@ -22,6 +22,3 @@ mod words;
 pub use answer::decode;
 pub use fault::ModuleFault;
 pub use laws::one_module;
-
-#[cfg(test)]
-mod tests;

@@ -15,6 +15,3 @@ mod writer;
 
 pub use laws::{read_back, read_fits, relay_fits};
 pub use writer::encode;
-
-#[cfg(test)]
-mod tests;

@@ -12,5 +12,4 @@ pub mod Sound
 pub mod Answered
 pub mod FlatTree
 pub mod StopsTree
-pub mod FlatOf
 pub mod LocalLemmas

@@ -28,6 +28,3 @@ pub use locals::Locals;
 pub use nesting::nests_within;
 pub use op::Op;
 pub use operand::Operand;
-
-#[cfg(test)]
-mod tests;

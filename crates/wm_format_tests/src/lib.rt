@@ -1,0 +1,10 @@
+//! Tests of WebAssembly modules, read and written, beside their crates: a crate with tests of its own
+//! is proved twice.
+#![tactic(auto)]
+
+#[cfg(test)]
+mod classes;
+#[cfg(test)]
+mod decoding;
+#[cfg(test)]
+mod encoding;

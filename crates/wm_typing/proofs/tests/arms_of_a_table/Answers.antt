@@ -1,6 +1,0 @@
-use Rattle.std.proofs.Common.{refl}
-use Rattle.wm_typing.proofs.FlatOf.{flat_of}
-use Rattle.wm_typing.proofs.tests.arms_of_a_table.Goals as goal
-
-pub validated-requires : goal.validated-requires
-validated-requires g c = flat_of _ refl refl

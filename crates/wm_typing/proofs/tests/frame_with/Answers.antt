@@ -1,6 +1,0 @@
-use Rattle.std.proofs.Common.{refl}
-use Rattle.wm_typing.proofs.FlatOf.{flat_of}
-use Rattle.wm_typing.proofs.tests.frame_with.Goals as goal
-
-pub validate_body-requires : goal.validate_body-requires
-validate_body-requires c = record { flat = flat_of _ refl refl }
