@@ -1,4 +1,4 @@
-ghost use Rattle.std.specs.Prelude.{◌≡◌, ℕ, ◌+◌, ◌*◌, ◌/◌, ◌<◌, ◌≤◌, true, false, [], length, OnOk, slice_index_or};
+ghost use Rattle.std.specs.Prelude.{◌≡◌, ℕ, ◌+◌, ◌*◌, ◌/◌, ◌<◌, ◌≤◌, true, false, [], length, IfOk, OnOk, slice_index_or};
 ghost use Rattle.wm_pages.specs.Over.{over};
 
 use ic_base::NoMemory;
@@ -6,6 +6,9 @@ use std::alloc::Global;
 
 /// The bytes of a range.
 pub const RANGE: usize = 4_096;
+
+/// How many freed ranges are held for later messages.
+const SPARE: usize = 128;
 
 /// A range as it was at the beginning of the message. `range` is its number.
 #[derive(Debug, Drop)]
@@ -23,6 +26,8 @@ pub struct Ranges {
     pub marks: Vec<bool>,
     /// How many pages there were at the beginning; 0 where no message has begun.
     pub start: usize,
+    /// Lists of freed ranges, for later ones.
+    pub spare: Vec<Vec<u8>>,
 }
 
 /// Writes the source over the bytes from a place on.
@@ -31,6 +36,24 @@ pub fn paste(bytes: &mut [u8], at: usize, source: &[u8])
     ensures { bytes.new ≡ over at source.now bytes.old }
 {
     bytes[at..at + source.len()].copy_from_slice(source);
+}
+
+/// Copies a range, where it can into a list that is held.
+fn copied(alloc: Global, spare: &mut Vec<Vec<u8>>, range: &[u8]) -> Result<Vec<u8>, NoMemory>
+    ensures { IfOk result (λ copy. copy.items ≡ range.now) }
+{
+    let mut copy = spare.pop().unwrap_or(Vec::new(alloc));
+    copy.clear();
+    copy.extend_from_slice(range)?;
+    Ok(copy)
+}
+
+/// Holds the list of a range for a later one, where there is room for it. It takes no memory.
+fn hold(spare: &mut Vec<Vec<u8>>, kept: Kept) {
+    let Kept { range: _, bytes } = kept;
+    if spare.len() < spare.capacity() {
+        let _ = spare.push(bytes);
+    }
 }
 
 impl Ranges {
@@ -46,6 +69,7 @@ impl Ranges {
             kept: Vec::new(alloc),
             marks: Vec::new(alloc),
             start: 0,
+            spare: Vec::new(alloc),
         }
     }
 
@@ -63,7 +87,8 @@ impl Ranges {
         ensures stays { (r : ℕ) → covers self.old.kept.items r ≡ true → covers self.new.kept.items r ≡ true }
     {
         let at = RANGE * range;
-        let copy = Vec::from_slice(*self.kept.allocator(), &bytes[at..at + RANGE])?;
+        let alloc = *self.kept.allocator();
+        let copy = copied(alloc, &mut self.spare, &bytes[at..at + RANGE])?;
         self.kept.push(Kept { range, bytes: copy })?;
         self.marks[range] = true;
         Ok(())
@@ -119,6 +144,9 @@ impl Ranges {
         ensures stays { length self.old.marks.items ≤ length self.new.marks.items }
         ensures room { OnOk result (ranges ≤ length self.new.marks.items) }
     {
+        if self.spare.capacity() == 0 {
+            self.spare.reserve_exact(SPARE)?;
+        }
         if ranges > self.marks.len() {
             self.marks.resize(ranges, false)?;
         }
@@ -136,6 +164,7 @@ impl Ranges {
         while let Some(kept) = self.kept.pop() {
             paste(bytes, RANGE * kept.range, kept.bytes.as_slice());
             self.marks[kept.range] = false;
+            hold(&mut self.spare, kept);
         }
     }
 
@@ -149,6 +178,7 @@ impl Ranges {
     {
         while let Some(kept) = self.kept.pop() {
             self.marks[kept.range] = false;
+            hold(&mut self.spare, kept);
         }
     }
 }
