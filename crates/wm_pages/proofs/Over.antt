@@ -1,6 +1,6 @@
 -- What stands in a list once bytes were written into it.
-use Rattle.std.proofs.Common.{◌≡◌, ℕ, ◌+◌, ◌-◌, ◌<◌, ◌≤◌, List, ◌++◌, length, get_or, take, drop, refl, ap, sym, ◌∙◌, arith, rules, append_assoc, length-append, length-drop}
-use Rattle.std.proofs.lemmas.List.{places, same_lists, length-take, take-append-le, drop-append-le, take-append-drop, drop-drop, get_or_append_left, get_or-append_right, get_or-take, get_or-drop, length-take-le}
+use Rattle.std.proofs.Common.{◌≡◌, ℕ, ◌+◌, ◌-◌, ◌<◌, ◌≤◌, List, ◌++◌, length, get_or, take, drop, arith, rules, length-append, length-drop}
+use Rattle.std.proofs.lemmas.List.{places, same_lists, length-take}
 use Rattle.wm_pages.specs.Over.{over}
 
 pub length-over : (at : ℕ) (bytes xs : List ℕ) → at + length bytes ≤ length xs → length (over at bytes xs) ≡ length xs

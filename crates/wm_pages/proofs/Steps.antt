@@ -1,14 +1,13 @@
 -- How each step keeps what was saved undoable.
-use Rattle.std.proofs.Common.{◌≡◌, ℕ, ◌+◌, ◌-◌, ◌*◌, ◌/◌, ◌%◌, ◌<◌, ◌≤◌, ◌⊎◌, inl, inr, Bool, true, false, eqb, cond, List, [], ◌∷◌, ◌++◌, length, get_or, set, take, drop, refl, ap, sym, ◌∙◌, arith, rules, count_by, get_or-set_same, get_or-set_other, length-set}
+use Rattle.std.proofs.Common.{◌≡◌, ℕ, ◌+◌, ◌*◌, ◌/◌, ◌<◌, ◌≤◌, ◌⊎◌, inl, inr, Bool, true, false, cond, List, [], ◌∷◌, ◌++◌, length, get_or, set, take, drop, refl, ap, sym, ◌∙◌, arith, count_by, get_or-set_other, length-set}
 use Rattle.std.proofs.lemmas.Bool.{cases_lt, cases_eq, false≢true}
-use Rattle.std.proofs.lemmas.Bool.Decides.{nat_tests}
-use Rattle.std.proofs.lemmas.List.{places, same_lists, length_push, take-append-le, get_or-take, length-take-le}
+use Rattle.std.proofs.lemmas.List.{same_lists, length_push, take-append-le, get_or-take, length-take-le}
 use Rattle.std.proofs.lemmas.Grind.{get_or-set_at}
 use Rattle.std.proofs.lemmas.List.Sums.{sum_by-set}
 use Rattle.wm_pages.specs.declared.ranges.Kept.{Kept}
 use Rattle.wm_pages.specs.declared.ranges.Ranges.{Ranges}
 use Rattle.wm_pages.specs.Over.{over}
-use Rattle.wm_pages.specs.Ranges.{back, covers, AreRanges, bytes_before, AreSaved, IsUndoable}
+use Rattle.wm_pages.specs.Ranges.{back, covers, bytes_before, AreSaved, IsUndoable}
 use Rattle.wm_pages.proofs.Over.{length-over, over_itself, over_below, over_above}
 use Rattle.wm_pages.proofs.Back.{length-back, back_push, back-append, back_at, covers_push, covers_more, covers_less, AreRanges-push, AreRanges-pop}
 

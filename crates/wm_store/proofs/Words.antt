@@ -1,5 +1,5 @@
 -- Numbers and their bytes, the lowest first, at each size.
-use Rattle.std.proofs.Common.{◌≡◌, ℕ, suc, zero, suc-add, ◌+◌, ◌-◌, ◌≤◌, inl, inr, List, [], ◌∷◌, ◌++◌, length, take, drop, replicate, get_or, refl, sym, ap, subst, ◌∙◌, arith}
+use Rattle.std.proofs.Common.{◌≡◌, ℕ, suc, zero, suc-add, ◌+◌, ◌-◌, ◌≤◌, inl, inr, List, ◌∷◌, ◌++◌, length, take, drop, replicate, get_or, refl, sym, ap, subst, ◌∙◌, arith}
 use Rattle.std.proofs.lemmas.Bool.{cases_lt}
 use Rattle.std.proofs.lemmas.List.{length-replicate, get_or-replicate, drop-replicate, get_or_past, get_or_append_left, get_or-append_right}
 use Rattle.std.specs.Int.{bytes_low_first, byte_at, byte_worth, sum_through, from_le_bytes, w64}

@@ -1,5 +1,5 @@
 -- What a store's fields are seen as.
-use Rattle.std.specs.Prelude.{◌≡◌, ℕ, ◌+◌, ◌<◌, ◌^◌, false, [], length, All, Some, None, IfSome, if◌then◌else◌}
+use Rattle.std.specs.Prelude.{◌≡◌, ◌+◌, ◌<◌, ◌^◌, false, [], length, All, Some, None, IfSome, if◌then◌else◌}
 use Rattle.wm_store.specs.declared.store.Store.TheInside.{Inside}
 use Rattle.wm_store.specs.Lists.{Lists}
 use Rattle.wm_store.specs.Held.{Held}

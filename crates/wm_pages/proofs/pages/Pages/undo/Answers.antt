@@ -1,4 +1,4 @@
-use Rattle.std.proofs.Common.{◌≡◌, ◌*◌, length, take, drop, arith, refl, sym, ◌∙◌, ap, rules}
+use Rattle.std.proofs.Common.{◌≡◌, ◌*◌, length, take, drop, arith, refl, sym, ◌∙◌, ap}
 use Rattle.std.proofs.lemmas.List.{take_at}
 use Rattle.wm_pages.specs.Paged.{Paged}
 use Rattle.wm_pages.specs.Ranges.{bytes_before}

@@ -1,8 +1,7 @@
-use Rattle.std.proofs.Common.{◌≡◌, ◌++◌, take, drop, arith, refl, sym, ◌∙◌, ap, rules, length}
+use Rattle.std.proofs.Common.{◌≡◌, ◌++◌, take, drop, arith, ◌∙◌, ap, length}
 use Rattle.std.proofs.lemmas.List.{take_at}
 use Rattle.wm_pages.specs.Paged.{Paged}
 use Rattle.wm_pages.specs.Over.{over}
-use Rattle.wm_pages.specs.Ranges.{bytes_before}
 use Rattle.wm_pages.proofs.Steps.{before_written, none_begun}
 use Rattle.wm_pages.proofs.pages.Pages.write.Goals as goal
 

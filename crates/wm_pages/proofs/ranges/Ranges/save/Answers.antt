@@ -1,4 +1,4 @@
-use Rattle.std.proofs.Common.{arith, rules}
+use Rattle.std.proofs.Common.{arith}
 use Rattle.std.proofs.lemmas.Bool.Decides.{nat_tests}
 use Rattle.wm_pages.specs.Ranges.{touched}
 use Rattle.wm_pages.proofs.ranges.Ranges.save.Goals as goal
