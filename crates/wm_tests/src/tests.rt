@@ -1,0 +1,223 @@
+use crate::bytes::*;
+use crate::tables;
+use crate::tables::Row;
+use ic_base::NoMemory;
+use std::alloc::Global;
+use std::process::Abort;
+use std::test::*;
+use wm_decode::decode;
+use wm_encode::{encode, relay_fits};
+use wm_tree::samples::relay;
+use wm_valid::system_api::SystemCall;
+use wm_valid::{EntryName, Invalid, Valid, validate};
+
+/// Puts each content as a section of that id among the others, and compares the modules' faults.
+fn compare<R: Abort + AllocGlobal>(
+    rt: &R,
+    sections: &[Section],
+    id: u8,
+    rows: &[Row],
+) -> Result<(), Fail> {
+    for (content, fault) in rows {
+        let bytes = bytes_of(rt.alloc(), sections, (id, *content))?;
+        assert_eq!(rt; fault_of(rt.alloc(), &bytes)?, *fault, "{content:?}");
+    }
+    Ok(())
+}
+
+#[test]
+fn imports(rt: HostRuntime) -> Result<(), Fail> {
+    let types: [Section; 1] = [(1, b"\x02\x60\x00\x00\x60\x00\x01\x7F")];
+    compare(&rt, &types, 2, tables::imports())
+}
+
+// A fault of an import comes before every other, and the least import counts.
+#[test]
+fn least_import(rt: HostRuntime) -> Result<(), Fail> {
+    let types: [Section; 1] = [(1, b"\x01\x60\x00\x02\x7F\x7F")];
+    compare(&rt, &types, 2, tables::imports_first())?;
+    compare(&rt, &[PROCEDURE], 2, tables::least_import())
+}
+
+#[test]
+fn types_and_functions(rt: HostRuntime) -> Result<(), Fail> {
+    compare(&rt, &[], 1, tables::types())?;
+    compare(&rt, &[PROCEDURE, EMPTY_BODY], 3, tables::functions())
+}
+
+#[test]
+fn tables_and_memories(rt: HostRuntime) -> Result<(), Fail> {
+    compare(&rt, &[], 4, tables::tables())?;
+    compare(&rt, &[], 5, tables::memories())
+}
+
+#[test]
+fn globals(rt: HostRuntime) -> Result<(), Fail> {
+    compare(&rt, &[], 6, tables::globals())
+}
+
+#[test]
+fn exports_in_range(rt: HostRuntime) -> Result<(), Fail> {
+    let sections = [PROCEDURE, FUNCTION, TABLE, MEMORY, GLOBAL, EMPTY_BODY];
+    compare(&rt, &sections, 7, tables::exports())
+}
+
+#[test]
+fn start_functions(rt: HostRuntime) -> Result<(), Fail> {
+    let reply: [Section; 2] = [PROCEDURE, (2, b"\x01\x03ic0\x09msg_reply\x00\x00")];
+    compare(&rt, &reply, 8, tables::starts())?;
+    let size: [Section; 2] = [
+        (1, b"\x01\x60\x00\x01\x7F"),
+        (2, b"\x01\x03ic0\x0Fmsg_caller_size\x00\x00"),
+    ];
+    compare(&rt, &size, 8, tables::starts_not())?;
+    let trap: [Section; 2] = [
+        (1, b"\x01\x60\x02\x7F\x7F\x00"),
+        (2, b"\x01\x03ic0\x04trap\x00\x00"),
+    ];
+    compare(&rt, &trap, 8, tables::starts_not())
+}
+
+#[test]
+fn elements_and_segments(rt: HostRuntime) -> Result<(), Fail> {
+    let reply: Section = (2, b"\x01\x03ic0\x09msg_reply\x00\x00");
+    compare(&rt, &[PROCEDURE, reply, TABLE], 9, tables::elements())?;
+    compare(&rt, &[MEMORY], 9, tables::elements_not())?;
+    compare(&rt, &[MEMORY, GLOBAL], 11, tables::segments())?;
+    compare(&rt, &[TABLE], 11, tables::segments_not())
+}
+
+#[test]
+fn frames(rt: HostRuntime) -> Result<(), Fail> {
+    let parameter: Section = (1, b"\x01\x60\x01\x7F\x00");
+    compare(&rt, &[PROCEDURE, FUNCTION], 10, tables::frames())?;
+    compare(
+        &rt,
+        &[parameter, FUNCTION],
+        10,
+        tables::frames_with_parameter(),
+    )
+}
+
+#[test]
+fn entries(rt: HostRuntime) -> Result<(), Fail> {
+    let sections = [PROCEDURE, FUNCTION, MEMORY, GLOBAL, EMPTY_BODY];
+    compare(&rt, &sections, 7, tables::entry_names())?;
+    compare(&rt, &sections, 7, tables::methods())
+}
+
+#[test]
+fn types_of_entries(rt: HostRuntime) -> Result<(), Fail> {
+    let sections: [Section; 3] = [
+        FUNCTION,
+        (7, b"\x01\x0Dcanister_init\x00\x00"),
+        // unreachable
+        (10, b"\x01\x03\x00\x00\x0B"),
+    ];
+    compare(&rt, &sections, 1, tables::entry_types())
+}
+
+#[test]
+fn bodies(rt: HostRuntime) -> Result<(), Fail> {
+    compare(&rt, &[PROCEDURE, FUNCTION], 10, tables::bodies())
+}
+
+#[test]
+fn contexts(rt: HostRuntime) -> Result<(), Fail> {
+    let sections: [Section; 4] = [
+        (1, b"\x02\x60\x01\x7E\x01\x7F\x60\x00\x01\x7F"),
+        (2, b"\x01\x03ic0\x0Fmsg_caller_size\x00\x01"),
+        FUNCTION,
+        (6, b"\x01\x7F\x01\x41\x00\x0B"),
+    ];
+    compare(&rt, &sections, 10, tables::contexts())
+}
+
+/// The code section of a function with so many nested blocks, and one of another body.
+fn nested(alloc: Global, blocks: u32, other: &[u8]) -> Result<Vec<u8>, Fail> {
+    let mut code = Vec::from_slice(alloc, b"\x00")?;
+    for _ in 0..blocks {
+        code.extend_from_slice(b"\x02\x40")?;
+    }
+    for _ in 0..blocks {
+        code.push(0x0B)?;
+    }
+    code.push(0x0B)?;
+    let mut content = Vec::from_slice(alloc, b"\x02")?;
+    content.extend_from_slice(other)?;
+    ic_leb::write_u(code.len() as u128, &mut content)?;
+    content.extend_from_slice(&code)?;
+    Ok(content)
+}
+
+#[test]
+fn nesting(rt: HostRuntime) -> Result<(), Fail> {
+    let alloc = rt.alloc();
+    let sections: [Section; 2] = [PROCEDURE, (3, b"\x02\x00\x00")];
+    for (blocks, other, fault) in tables::nested() {
+        let codes = nested(alloc, *blocks, other)?;
+        let bytes = bytes_of(alloc, &sections, (10, &codes))?;
+        assert_eq!(rt; fault_of(alloc, &bytes)?, *fault, "{blocks}");
+    }
+    Ok(())
+}
+
+fn relay_of(alloc: Global) -> Result<Valid, Fail> {
+    let module = relay(alloc)?;
+    relay_fits();
+    let written = encode(alloc, &module)?;
+    Ok(validate(alloc, decode(alloc, &written.items)?)?)
+}
+
+/// The export section that exports functions under these names.
+fn exports_of(alloc: Global, exports: &[(&str, u8)]) -> Result<Vec<u8>, NoMemory> {
+    let mut content = Vec::new(alloc);
+    ic_leb::write_u(exports.len() as u128, &mut content)?;
+    for (name, function) in exports {
+        ic_leb::write_u(name.len() as u128, &mut content)?;
+        content.extend_from_slice(name.as_bytes())?;
+        content.extend_from_slice(&[0, *function])?;
+    }
+    Ok(content)
+}
+
+/// A module with six functions and these exports.
+fn exporting(alloc: Global, exports: &[(&str, u8)]) -> Result<Valid, Fail> {
+    let content = exports_of(alloc, exports)?;
+    let sections: [Section; 3] = [
+        PROCEDURE,
+        (3, b"\x06\x00\x00\x00\x00\x00\x00"),
+        (
+            10,
+            b"\x06\x02\x00\x0B\x02\x00\x0B\x02\x00\x0B\x02\x00\x0B\x02\x00\x0B\x02\x00\x0B",
+        ),
+    ];
+    let bytes = bytes_of(alloc, &sections, (7, &content))?;
+    Ok(validate(alloc, decode(alloc, &bytes)?)?)
+}
+
+// Of each kind of entry point its function, and of methods those of the name.
+#[test]
+fn entry_points(rt: HostRuntime) -> Result<(), Fail> {
+    let valid = exporting(rt.alloc(), tables::entry_exports())?;
+    for (kind, name, function) in tables::entry_points() {
+        assert_eq!(rt; valid.entry(*kind, name), *function, "{kind:?} {name}");
+    }
+    Ok(())
+}
+
+#[test]
+fn relay_module(rt: HostRuntime) -> Result<(), Fail> {
+    let valid = relay_of(rt.alloc())?;
+    assert_eq!(rt; valid.entry(EntryName::Update, "relay"), Some(10));
+    assert_eq!(rt; valid.entry(EntryName::Update, "rela"), None);
+    assert_eq!(rt; valid.entry(EntryName::Query, "relay"), None);
+    assert_eq!(rt; valid.entry(EntryName::Init, "relay"), None);
+    assert_eq!(rt; valid.system_call(3), Some(SystemCall::MsgReply));
+    assert_eq!(rt; valid.system_call(10), None);
+    let code = valid.code(1).ok_or("code of the reply's callback")?;
+    assert_eq!(rt; code.frame.params, 1);
+    assert!(rt; valid.code(3).is_none());
+    assert_eq!(rt; valid.module().imports.items.len(), 10);
+    Ok(())
+}
