@@ -127,7 +127,8 @@ impl Store {
         }
     }
 
-    /// A store with so many pages of zeros, of 65,536 bytes each.
+    /// A store with so many pages of zeros, of 65,536 bytes each. What element segments put into the
+    /// table is in the table that is handed in.
     pub fn make(
         alloc: Global,
         pages: u32,
