@@ -28,6 +28,13 @@ impl Meter {
         Meter { limit, used: 0 }
     }
 
+    /// The limit.
+    pub fn limit(&self) -> u64
+        ensures { result ≡ self.now.limit }
+    {
+        self.limit
+    }
+
     /// What is used.
     pub fn used(&self) -> u64
         ensures used { result ≡ self.now.used }
