@@ -1,0 +1,27 @@
+pub mod Lies
+mod Piles
+mod Frames
+mod Paying
+mod Advance
+mod Words
+mod RowArms
+mod ControlArms
+mod BlockArms
+mod EndArms
+mod BranchArms
+mod GlobalArms
+mod Turning
+mod Stops
+mod Follow
+mod Entering
+mod Calling
+mod Leaving
+mod Asking
+mod Growing
+mod Hosting
+mod Looking
+mod Loop
+mod EntryPoints
+mod Going
+mod ByTable
+mod Firsts

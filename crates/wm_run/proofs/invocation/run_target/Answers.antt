@@ -1,0 +1,58 @@
+use Rattle.std.proofs.Common.{◌≡◌, ℕ, List, [], ◌∷◌, ◌++◌, Option, Ok, Err, refl, sym, ap, subst, ◌∙◌}
+use Rattle.wm_semantics.specs.declared.target.Target.{Target}
+use Rattle.wm_semantics.specs.declared.target.Ended.TheVariants.{Trapped}
+use Rattle.wm_semantics.specs.Functions.{look_up, callback_type}
+use Rattle.wm_semantics.specs.Steps.{outcome}
+use Rattle.wm_semantics.specs.Begin.{Invokes}
+use Rattle.wm_run.specs.Activations.{FoundBy}
+use Rattle.wm_run.specs.Firsts.{EndsIn}
+use Rattle.wm_run.proofs.Follow.{if_ok}
+use Rattle.wm_run.proofs.Firsts.{first_function, first_element, function_invokes, element_invokes, element_traps}
+use Rattle.wm_run.proofs.invocation.run_target.Goals as goal
+
+pub returns-in-Function-clause-outcome : goal.returns-in-Function-clause-outcome
+returns-in-Function-clause-outcome g c =
+    let v = c.args.valid.now in
+    let s = c.args.store.now.lists in
+    let f = c.in-Function.function in
+    let used = c.args.meter.now.used in
+    let limit = c.args.meter.now.limit in
+    let host = c.args.host.now in
+    let r = c.run_function.new in
+    if_ok c.run_function.result _ _ (λ ended e.
+    subst (λ (t : Target). Invokes g.H.Host.answers v.module limit host s used t (outcome ended r.host r.store.lists r.meter.used)) (sym c.in-Function.is)
+    (function_invokes v c.module-module.ensures.valid s c.requires.fits c.requires.bytes g.H.Host.answers limit host used (outcome ended r.host r.store.lists r.meter.used) f
+    (subst (λ (ns : List ℕ). EndsIn g.H.Host.answers v limit host s used f ns (outcome ended r.host r.store.lists r.meter.used)) c.new-args.ensures.items e))) c.run_function.ensures.ends
+
+pub returns-in_ok-push-in-Ok-clause-outcome : goal.returns-in_ok-push-in-Ok-clause-outcome
+returns-in_ok-push-in-Ok-clause-outcome g c =
+    let v = c.args.valid.now in
+    let s = c.args.store.now.lists in
+    let f = c.in-Ok.function in
+    let i = c.in-Element.index in
+    let env = c.in-Element.env in
+    let used = c.args.meter.now.used in
+    let limit = c.args.meter.now.limit in
+    let host = c.args.host.now in
+    let r = c.run_function-in-Ok.new in
+    let found : FoundBy (look_up v.module s.table callback_type i) (Ok f) = subst (λ (ts : List (Option ℕ)). FoundBy (look_up v.module ts callback_type i) (Ok f)) c.table.ensures c.in-Ok.ensures in
+    let args : c.push.new.self.items ≡ env ∷ [] =
+    c.in_ok-push-in-Ok.ensures.items ∙ ap (λ (xs : List ℕ). xs ++ (c.from.result ∷ [])) c.new-args-in-Ok.ensures.items ∙ ap (λ (k : ℕ). k ∷ []) c.from.ensures in
+    if_ok c.run_function-in-Ok.result _ _ (λ ended e.
+    subst (λ (t : Target). Invokes g.H.Host.answers v.module limit host s used t (outcome ended r.host r.store.lists r.meter.used)) (sym c.in-Element.is)
+    (element_invokes v c.module-module.ensures.valid s c.requires.fits c.requires.bytes g.H.Host.answers limit host used (outcome ended r.host r.store.lists r.meter.used) i env f found
+    (subst (λ (ns : List ℕ). EndsIn g.H.Host.answers v limit host s used f ns (outcome ended r.host r.store.lists r.meter.used)) args e))) c.run_function-in-Ok.ensures.ends
+
+pub returns-in-Err-clause-outcome : goal.returns-in-Err-clause-outcome
+returns-in-Err-clause-outcome g c =
+    let v = c.args.valid.now in
+    let s = c.args.store.now.lists in
+    let i = c.in-Element.index in
+    let env = c.in-Element.env in
+    let used = c.args.meter.now.used in
+    let limit = c.args.meter.now.limit in
+    let host = c.args.host.now in
+    let refused : FoundBy (look_up v.module s.table callback_type i) (Err c.in-Err.trap) =
+    subst (λ (ts : List (Option ℕ)). FoundBy (look_up v.module ts callback_type i) (Err c.in-Err.trap)) c.table.ensures c.in-Err.ensures in
+    subst (λ (t : Target). Invokes g.H.Host.answers v.module limit host s used t (outcome (Trapped c.in-Err.trap) host s used)) (sym c.in-Element.is)
+    (element_traps v c.module-module.ensures.valid s c.requires.fits c.requires.bytes g.H.Host.answers limit host used i env c.in-Err.trap refused)

@@ -1,0 +1,22 @@
+use Rattle.std.proofs.Common.{arith, reverse}
+use Rattle.wm_run.proofs.Leaving.{function_there, can_finish_at, finish_follows_at, drops}
+use Rattle.wm_run.proofs.returns.finish.Goals as goal
+
+pub frame_of-gives-requires : goal.frame_of-gives-requires
+frame_of-gives-requires c =
+    function_there c.args.valid.now c.args.here (reverse c.args.callers.now.items) c.args.stack.now.items c.requires.stopped.0 c.requires.stopped.1 c.requires.stopped.1 c.requires.stopped.2 c.requires.stopped.3.running
+
+pub leave-requires : goal.leave-requires
+leave-requires c =
+    can_finish_at c.args.valid.now c.args.here (reverse c.args.callers.now.items) c.args.stack.now.items c.requires.stopped.0 c.requires.stopped.1 c.requires.stopped.1 c.requires.stopped.2 (omega arith) c.requires.stopped.3
+    c.frame_of-gives.result c.frame_of-gives.ensures
+
+pub returns-clause-follows : goal.returns-clause-follows
+returns-clause-follows c =
+    λ s used limit d within x.
+    finish_follows_at c.args.valid.now c.args.here (reverse c.args.callers.now.items) c.args.stack.now.items s used limit d within x c.frame_of-gives.result c.frame_of-gives.ensures
+    (reverse c.leave.new.callers.items) c.leave.new.stack.items c.leave.result c.leave.ensures
+
+pub returns-clause-drops : goal.returns-clause-drops
+returns-clause-drops c =
+    drops c.args.callers.now.items c.leave.new.callers.items c.args.stack.now.items c.leave.new.stack.items c.args.here.top c.frame_of-gives.result.result c.leave.result c.leave.ensures

@@ -1,0 +1,9 @@
+pub mod Words
+pub mod Turns
+pub mod Stacks
+pub mod Agree
+pub mod Activations
+pub mod Asking
+pub mod Halts
+pub mod Callees
+pub mod Firsts

@@ -1,0 +1,30 @@
+use crate::spot::Layout;
+use wm_semantics::Ended;
+
+/// A function that runs, or waits for the one that it called.
+#[derive(Clone, Copy, Debug, PartialEq, Eq)]
+pub(crate) struct Activation {
+    /// Its number among the defined functions.
+    pub(crate) function: u32,
+    pub(crate) layout: Layout,
+    /// The word of its body that is next.
+    pub(crate) place: usize,
+    /// The place on the stack behind its topmost operand.
+    pub(crate) top: usize,
+}
+
+/// What comes after a body was left.
+#[derive(Debug, Drop)]
+pub(crate) enum Next {
+    On(Activation),
+    Over(Ended),
+}
+
+/// A function, as the machine reaches it.
+#[derive(Clone, Copy, Debug, PartialEq, Eq)]
+pub(crate) enum Callee {
+    /// By its number among the defined functions.
+    Own(u32),
+    /// By its number in the table of the System API.
+    Host(u32),
+}

@@ -1,0 +1,88 @@
+ghost use Rattle.std.specs.Prelude.{◌≡◌, ◌+◌, ◌≤◌, ◌<◌, ◌^◌, ℕ, suc, Some, nat_le, length, reverse, slice_get, IfOk};
+ghost use Rattle.wm_typing.specs.declared.op.Op.TheVariants as op;
+ghost use Rattle.wm_typing.specs.FlatCode.{FlatCode as Flat};
+ghost use Rattle.wm_store.specs.Lists.{Lists};
+ghost use Rattle.wm_semantics.specs.Configs.{Config};
+ghost use Rattle.wm_run.specs.Agree.{none_answers, alone_at};
+ghost use Rattle.wm_run.specs.Activations.{CanEnter, Entered, IsRoom, Stopped, Follows, Pays, trapped_by};
+
+use crate::activation::{Activation, Next};
+use crate::stack::lay;
+use ic_base::NoMemory;
+use wm_semantics::{Ended, Meter, Trap};
+use wm_typing::{FlatCode, Frame};
+use wm_valid::Valid;
+
+/// The most frames of defined functions.
+const DEPTH: usize = 512;
+
+/// The code of a defined function.
+pub(crate) fn code_of(valid: &Valid, function: u32) -> &FlatCode
+    requires { function < length valid.now.codes }
+    ensures { slice_get valid.now.codes function ≡ Some result.now }
+{
+    valid.code(function).unwrap()
+}
+
+/// What a call of a defined function makes room for.
+pub(crate) fn frame_of(valid: &Valid, function: u32) -> Frame
+    requires { function < length valid.now.codes }
+    ensures { IsRoom valid.now function result }
+{
+    code_of(valid, function).frame
+}
+
+/// The run ends with that trap.
+pub(crate) fn trapped(trap: Trap) -> Next
+    ensures { result ≡ trapped_by trap }
+{
+    Next::Over(Ended::Trapped(trap))
+}
+
+/// Enters a defined function, whose arguments are the topmost operands.
+pub(crate) fn enter(
+    valid: &Valid,
+    stack: &mut Vec<u64>,
+    callers: &mut Vec<Activation>,
+    here: Activation,
+    function: u32,
+) -> Result<Next, NoMemory>
+    requires can { CanEnter valid.now function here.top stack.old.items }
+    requires short { here.place < 2 ^ 63 }
+    ensures { IfOk result (λ next. (code : Flat) → slice_get valid.now.codes function ≡ Some code
+        → Entered (nat_le 512 (suc (length (reverse callers.old.items)))) code.frame function here (reverse callers.old.items) (reverse callers.new.items) stack.old.items stack.new.items next) }
+{
+    if callers.len() + 1 >= DEPTH {
+        return Ok(trapped(Trap::Depth));
+    }
+    let called = lay(stack, frame_of(valid, function), function, here.top)?;
+    callers.push(Activation {
+        place: here.place + 1,
+        top: called.layout.locals,
+        ..here
+    })?;
+    Ok(Next::On(called))
+}
+
+/// Calls a defined function.
+pub(crate) fn call(
+    valid: &Valid,
+    stack: &mut Vec<u64>,
+    callers: &mut Vec<Activation>,
+    meter: &mut Meter,
+    here: Activation,
+    function: u32,
+) -> Result<Next, NoMemory>
+    requires stopped { (s : Lists) × (c : Config) × Stopped valid.now here (reverse callers.old.items) stack.old.items s meter.old.used c (op.Call function) }
+    requires short { here.place < 2 ^ 63 }
+    ensures follows { IfOk result (λ next. (s : Lists) (c : Config) → Stopped valid.now here (reverse callers.old.items) stack.old.items s meter.old.used c (op.Call function)
+        → Follows none_answers valid.now meter.old.limit (alone_at s meter.old.used c) next (reverse callers.new.items) stack.new.items tt s meter.new.used) }
+    ensures limit { meter.new.limit ≡ meter.old.limit }
+    ensures paid { IfOk result (λ next. Pays next meter.old.used meter.new.used) }
+    ensures rises { meter.old.used ≤ meter.new.used }
+{
+    if !meter.charge(1) {
+        return Ok(trapped(Trap::Limit));
+    }
+    enter(valid, stack, callers, here, function)
+}

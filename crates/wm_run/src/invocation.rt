@@ -1,0 +1,142 @@
+ghost use Rattle.std.specs.Prelude.{◌≡◌, ◌≤◌, ℕ, Some, IfOk};
+ghost use Rattle.wm_valid.specs.IsValid.{Validated};
+ghost use Rattle.wm_store.specs.Lists.{HoldsBytes};
+ghost use Rattle.wm_store.specs.Fits.{Fits};
+ghost use Rattle.wm_semantics.specs.Steps.{Outcome, state, outcome, Reaches};
+ghost use Rattle.wm_semantics.specs.Begin.{calling, IsTarget, Invokes, InvokesOn};
+ghost use Rattle.wm_semantics.specs.Fuel.{HostOf, IsFunctional, AgreesWith, Rises, invoked};
+ghost use Rattle.wm_run.specs.Firsts.{i32s, IsFirst, EndsIn, AsksAlone};
+
+use crate::activation::Callee;
+use crate::calls::frame_of;
+use crate::indirect::callee;
+use crate::machine::run;
+use crate::stack::lay;
+use crate::table::look_up_callback;
+use ic_base::NoMemory;
+use std::alloc::Global;
+use wm_semantics::{Ended, Host, HostAnswer, Meter, Target, Trap};
+use wm_store::Store;
+use wm_valid::Valid;
+
+/// Calls a function of the host, with nothing around the call.
+fn call_alone<H: Host>(
+    args: &[u64],
+    store: &mut Store,
+    host: &mut H,
+    meter: &mut Meter,
+    number: u32,
+) -> Result<Ended, NoMemory>
+    requires asks { (v : Validated) × (f : ℕ) × AsksAlone v store.old.lists f args.now number }
+    ensures reaches { IfOk result (λ ended. (v : Validated) (f : ℕ) → AsksAlone v store.old.lists f args.entry.now number
+        → Reaches H.answers v.«module» meter.old.limit (state host.old store.old.lists meter.old.used (calling f (i32s args.entry.now))) (outcome ended host.new store.new.lists meter.new.used)) }
+    ensures begun { store.new.begun ≡ store.old.begun }
+    ensures limit { meter.new.limit ≡ meter.old.limit }
+    ensures rises { meter.old.used ≤ meter.new.used }
+{
+    if !meter.charge(1) {
+        return Ok(Ended::Trapped(Trap::Limit));
+    }
+    match host.call(number, args, store, meter)? {
+        HostAnswer::Nothing => Ok(Ended::Returned),
+        HostAnswer::Number(_) => Ok(Ended::Returned),
+        HostAnswer::Trap(trap) => Ok(Ended::Trapped(trap)),
+    }
+}
+
+/// Runs a function that gives nothing, and takes one i32 at most.
+fn run_function<H: Host>(
+    alloc: Global,
+    valid: &Valid,
+    store: &mut Store,
+    host: &mut H,
+    meter: &mut Meter,
+    function: u32,
+    args: Vec<u64>,
+) -> Result<Ended, NoMemory>
+    requires first { IsFirst valid.now store.old.lists function args.items }
+    ensures ends { IfOk result (λ ended. EndsIn H.answers valid.now meter.old.limit host.old store.old.lists meter.old.used function args.items (outcome ended host.new store.new.lists meter.new.used)) }
+    ensures begun { store.new.begun ≡ store.old.begun }
+    ensures limit { meter.new.limit ≡ meter.old.limit }
+    ensures rises { meter.old.used ≤ meter.new.used }
+{
+    match callee(valid, function) {
+        Callee::Own(number) => {
+            let mut stack = args;
+            let top = stack.len();
+            let first = lay(&mut stack, frame_of(valid, number), number, top)?;
+            let mut callers = Vec::new(alloc);
+            run(valid, &mut stack, &mut callers, store, host, meter, first)
+        }
+        Callee::Host(number) => call_alone(args.as_slice(), store, host, meter, number),
+    }
+}
+
+fn run_target<H: Host>(
+    alloc: Global,
+    valid: &Valid,
+    store: &mut Store,
+    target: Target,
+    host: &mut H,
+    meter: &mut Meter,
+) -> Result<Ended, NoMemory>
+    requires fits { Fits valid.now.«module» store.old.lists }
+    requires bytes { HoldsBytes store.old.lists }
+    requires target { IsTarget valid.now.«module» target }
+    ensures outcome { IfOk result (λ ended. Invokes H.answers valid.now.«module» meter.old.limit host.old store.old.lists meter.old.used target (outcome ended host.new store.new.lists meter.new.used)) }
+    ensures begun { store.new.begun ≡ store.old.begun }
+    ensures limit { meter.new.limit ≡ meter.old.limit }
+    ensures rises { meter.old.used ≤ meter.new.used }
+{
+    let _module = valid.module();
+    match target {
+        Target::Function(function) => {
+            let args = Vec::new(alloc);
+            run_function(alloc, valid, store, host, meter, function, args)
+        }
+        Target::Element { index, env } => match look_up_callback(valid, store.table(), index) {
+            Ok(function) => {
+                let mut args = Vec::new(alloc);
+                args.push(u64::from(env))?;
+                run_function(alloc, valid, store, host, meter, function, args)
+            }
+            Err(trap) => Ok(Ended::Trapped(trap)),
+        },
+    }
+}
+
+/// Runs a function of the module until it returns or the run traps. The stack of the machine is
+/// taken from the allocator; a message's store can be undone afterwards, and also where memory ran
+/// out.
+pub fn invoke<H: Host>(
+    alloc: Global,
+    valid: &Valid,
+    store: &mut Store,
+    target: Target,
+    host: &mut H,
+    meter: &mut Meter,
+) -> Result<Ended, NoMemory>
+    // The store is one of the module.
+    requires fits { Fits valid.now.«module» store.old.lists }
+    // A function that is invoked by its index has the type () -> ().
+    requires target { IsTarget valid.now.«module» target }
+    // What the reductions end in.
+    ensures outcome { IfOk result (λ ended. Invokes H.answers valid.now.«module» meter.old.limit host.old store.old.lists meter.old.used target (outcome ended host.new store.new.lists meter.new.used)) }
+    // Nothing else is an outcome, where the host's relation is a function.
+    ensures only { IfOk result (λ ended. IsFunctional H.answers → (o : Outcome H) → Invokes H.answers valid.now.«module» meter.old.limit host.old store.old.lists meter.old.used target o
+        → o ≡ outcome ended host.new store.new.lists meter.new.used) }
+    // The same outcome by the function, where the host is one.
+    ensures function { IfOk result (λ ended. (reply : HostOf H) → Rises reply → AgreesWith reply H.answers
+        → invoked reply valid.now.«module» meter.old.limit host.old store.old.lists meter.old.used target ≡ Some (outcome ended host.new store.new.lists meter.new.used)) }
+    // No state on the way is stuck.
+    ensures never { InvokesOn H.answers valid.now.«module» meter.old.limit host.old store.old.lists meter.old.used target }
+    ensures fits { IfOk result (λ _. Fits valid.now.«module» store.new.lists) }
+    // These hold without memory too.
+    ensures begun { store.new.begun ≡ store.old.begun }
+    ensures limit { meter.new.limit ≡ meter.old.limit }
+    ensures rises { meter.old.used ≤ meter.new.used }
+{
+    let _module = valid.module();
+    store.holds_bytes();
+    run_target(alloc, valid, store, target, host, meter)
+}

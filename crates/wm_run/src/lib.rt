@@ -1,0 +1,22 @@
+//! A machine that runs valid WebAssembly modules.
+#![tactic(auto)]
+
+mod activation;
+mod calls;
+mod code;
+mod entry;
+mod frame;
+mod growth;
+mod hosts;
+mod indirect;
+mod invocation;
+mod machine;
+mod returns;
+mod spot;
+mod stack;
+mod table;
+mod turn;
+
+pub use entry::entry_target;
+pub use invocation::invoke;
+pub use wm_semantics::{Ended, Host, HostAnswer, Meter, Target, Trap};
