@@ -2,12 +2,8 @@
 #![tactic(auto)]
 
 #[cfg(test)]
-mod instances;
-#[cfg(test)]
 mod meters;
 #[cfg(test)]
 mod numbers;
 #[cfg(test)]
 mod pages;
-#[cfg(test)]
-mod stores;
