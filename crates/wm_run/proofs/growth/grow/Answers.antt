@@ -1,7 +1,5 @@
-use Rattle.std.proofs.Common.{◌≡◌, ◌≤◌, ◌+◌, ◌-◌, ◌<◌, ◌^◌, ℕ, cond, List, arith, refl, sym, ap, ◌∙◌, subst, slice_index, slice_set, length}
+use Rattle.std.proofs.Common.{◌≡◌, ◌≤◌, ◌+◌, ◌-◌, ◌<◌, ℕ, cond, List, arith, refl, sym, ap, ◌∙◌, subst, slice_index, slice_set, length}
 use Rattle.std.specs.Prelude.{nat_le}
-use Rattle.wm_store.specs.Lists.{page_limit}
-use Rattle.wm_store.specs.Fits.{maximum_of}
 use Rattle.wm_semantics.specs.declared.trap.Trap.TheVariants as trap
 use Rattle.wm_run.specs.declared.activation.Next.TheVariants.{On}
 use Rattle.wm_run.specs.Agree.{none_answers, alone_at}

@@ -1,4 +1,4 @@
-use Rattle.std.proofs.Common.{◌≡◌, ◌≤◌, ◌+◌, ◌-◌, ℕ, List, arith, refl, sym, ap, ◌∙◌, subst, take, drop, length}
+use Rattle.std.proofs.Common.{◌≡◌, ◌≤◌, ◌+◌, ◌-◌, ℕ, List, refl, sym, ap, ◌∙◌, subst, take, drop, length}
 use Rattle.wm_semantics.specs.Hosts.{IsAsked}
 use Rattle.wm_run.proofs.Asking.{named, few, said_as, is_asked, can_answer, answer_follows}
 use Rattle.wm_run.proofs.hosts.ask.Goals as goal

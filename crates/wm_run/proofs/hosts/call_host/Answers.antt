@@ -1,4 +1,4 @@
-use Rattle.std.proofs.Common.{◌≡◌, ◌≤◌, ◌+◌, ◌<◌, ℕ, refl, sym, subst}
+use Rattle.std.proofs.Common.{◌≤◌, ◌+◌, ℕ, sym, subst}
 use Rattle.wm_semantics.specs.declared.trap.Trap.TheVariants as trap
 use Rattle.wm_semantics.specs.Steps.{state}
 use Rattle.wm_run.specs.Activations.{Follows, trapped_by}

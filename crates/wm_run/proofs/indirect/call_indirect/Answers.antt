@@ -1,11 +1,7 @@
-use Rattle.std.proofs.Common.{◌≡◌, ◌≤◌, ◌<◌, ◌+◌, ◌-◌, ℕ, List, Option, Some, Ok, Err, length, arith, refl, sym, ap, subst, ◌∙◌, reverse, slice_index}
-use Rattle.std.specs.Prelude.{slice_get}
-use Rattle.wm_tree.specs.declared.types.FuncType.{FuncType}
-use Rattle.wm_semantics.specs.declared.trap.Trap.{Trap}
+use Rattle.std.proofs.Common.{◌≤◌, ◌+◌, ◌-◌, ℕ, List, Ok, Err, length, arith, refl, sym, subst, reverse}
 use Rattle.wm_semantics.specs.declared.trap.Trap.TheVariants as trap
-use Rattle.wm_semantics.specs.Functions.{look_up}
 use Rattle.wm_semantics.specs.Steps.{state}
-use Rattle.wm_run.specs.Activations.{FoundBy, Follows, trapped_by}
+use Rattle.wm_run.specs.Activations.{Follows, trapped_by}
 use Rattle.wm_run.proofs.Follow.{charge_fits, charge_fails, if_ok, follows_as, follows_with}
 use Rattle.wm_run.proofs.ByTable.{found_with, expected_at, positive_at, within_at, limit_at, trap_at, can_enter_at, enter_at, ask_at}
 use Rattle.wm_run.proofs.indirect.call_indirect.Goals as goal

@@ -1,7 +1,6 @@
-use Rattle.std.proofs.Common.{◌≡◌, ℕ, ◌-◌, ◌≤◌, Option, Some, None, length, ap, ◌∙◌, sym, arith}
-use Rattle.std.specs.Prelude.{slice_get, option_map}
+use Rattle.std.proofs.Common.{◌≡◌, ℕ, ◌-◌, Option, length, ap, ◌∙◌, sym, arith}
+use Rattle.std.specs.Prelude.{option_map}
 use Rattle.wm_tree.specs.declared.parts.Module.{Module}
-use Rattle.wm_valid.specs.declared.system_api.SystemCall.{SystemCall}
 use Rattle.wm_valid.specs.SystemApi.{number_of}
 use Rattle.wm_valid.specs.Bodies.{hosts_of}
 use Rattle.wm_run.specs.declared.activation.Callee.TheVariants.{Own, Host}

@@ -1,4 +1,4 @@
-use Rattle.std.proofs.Common.{◌≡◌, ◌≤◌, ◌+◌, ◌<◌, ℕ, refl, sym, ap, subst}
+use Rattle.std.proofs.Common.{◌+◌, ℕ, refl, sym, subst}
 use Rattle.wm_semantics.specs.declared.target.Ended.TheVariants.{Trapped}
 use Rattle.wm_semantics.specs.declared.trap.Trap.TheVariants as trap
 use Rattle.wm_semantics.specs.declared.host.HostAnswer.{HostAnswer}

@@ -1,4 +1,4 @@
-use Rattle.std.proofs.Common.{◌≡◌, ℕ, List, [], length, arith, refl, sym, ap, subst, ◌∙◌, reverse}
+use Rattle.std.proofs.Common.{◌≡◌, ℕ, List, length, arith, sym, subst, reverse}
 use Rattle.wm_semantics.specs.Steps.{state, outcome, Reaches}
 use Rattle.wm_semantics.specs.Begin.{calling}
 use Rattle.wm_run.specs.declared.activation.Activation.{Activation}

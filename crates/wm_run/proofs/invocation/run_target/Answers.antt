@@ -1,4 +1,4 @@
-use Rattle.std.proofs.Common.{◌≡◌, ℕ, List, [], ◌∷◌, ◌++◌, Option, Ok, Err, refl, sym, ap, subst, ◌∙◌}
+use Rattle.std.proofs.Common.{◌≡◌, ℕ, List, [], ◌∷◌, ◌++◌, Option, Ok, Err, sym, ap, subst, ◌∙◌}
 use Rattle.wm_semantics.specs.declared.target.Target.{Target}
 use Rattle.wm_semantics.specs.declared.target.Ended.TheVariants.{Trapped}
 use Rattle.wm_semantics.specs.Functions.{look_up, callback_type}
@@ -7,7 +7,7 @@ use Rattle.wm_semantics.specs.Begin.{Invokes}
 use Rattle.wm_run.specs.Activations.{FoundBy}
 use Rattle.wm_run.specs.Firsts.{EndsIn}
 use Rattle.wm_run.proofs.Follow.{if_ok}
-use Rattle.wm_run.proofs.Firsts.{first_function, first_element, function_invokes, element_invokes, element_traps}
+use Rattle.wm_run.proofs.Firsts.{function_invokes, element_invokes, element_traps}
 use Rattle.wm_run.proofs.invocation.run_target.Goals as goal
 
 pub returns-in-Function-clause-outcome : goal.returns-in-Function-clause-outcome

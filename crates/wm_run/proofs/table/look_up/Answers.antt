@@ -1,7 +1,6 @@
 use Rattle.std.proofs.Common.{◌≡◌, ℕ, Option, Some, List, ap, ◌∙◌, sym, rules}
 use Rattle.std.specs.Prelude.{slice_get}
 use Rattle.std.specs.Option.{option_copied}
-use Rattle.wm_tree.specs.declared.types.FuncType.{FuncType}
 use Rattle.wm_tree.specs.declared.parts.Module.{Module}
 use Rattle.wm_valid.specs.Space.{type_of}
 use Rattle.wm_run.proofs.Looking.{entry_typed}
