@@ -19,4 +19,5 @@ mod turn;
 
 pub use entry::entry_target;
 pub use invocation::invoke;
+pub use wm_instance::{InstanceFault, instantiate};
 pub use wm_semantics::{Ended, Host, HostAnswer, Meter, Target, Trap};
