@@ -7,3 +7,5 @@ mod meters;
 mod numbers;
 #[cfg(test)]
 mod pages;
+#[cfg(test)]
+mod runs;

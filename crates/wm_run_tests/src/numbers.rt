@@ -1,6 +1,6 @@
 ghost use Rattle.std.specs.Prelude.{◌<◌, ◌^◌};
 
-mod vectors;
+pub(crate) mod vectors;
 
 use wm_numeric::{Failure, int32, int64};
 

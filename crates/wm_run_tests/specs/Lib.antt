@@ -1,0 +1,3 @@
+pub mod SameStore
+pub mod Counting
+pub mod Refusing

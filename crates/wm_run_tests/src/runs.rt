@@ -1,0 +1,206 @@
+mod bodies;
+mod hosts;
+mod modules;
+mod outcome;
+mod rows;
+mod words;
+
+use crate::numbers::vectors;
+use hosts::{Counting, Refusing};
+use ic_base::NoMemory;
+use ic_principal::Text;
+use modules::module;
+use outcome::{Outcome, run, run_module, run_with};
+use rows::Row;
+use std::alloc::Global;
+use std::process::Abort;
+use std::test::*;
+use wm_numeric::Failure;
+
+/// The run of these words ended so.
+fn expect(rt: &impl Abort, body: &[u8], found: &Outcome, text: &str, used: u64) {
+    assert_eq!(rt; found.text.as_str(), text, "{body:?}");
+    assert_eq!(rt; found.used, used, "{body:?}");
+}
+
+fn compare<R: Abort + AllocGlobal>(rt: &R, rows: &[Row]) -> Result<(), Fail> {
+    for (body, limit, text, used) in rows {
+        let found = run(rt.alloc(), body, *limit)?;
+        expect(rt, body, &found, text, *used);
+    }
+    Ok(())
+}
+
+#[test]
+fn charges(rt: HostRuntime) -> Result<(), Fail> {
+    compare(&rt, rows::charges())
+}
+
+#[test]
+fn growth(rt: HostRuntime) -> Result<(), Fail> {
+    for (body, limit, text, used, pages) in rows::growths() {
+        let found = run(rt.alloc(), body, *limit)?;
+        expect(&rt, body, &found, text, *used);
+        assert_eq!(rt; found.pages, *pages, "{body:?}");
+    }
+    Ok(())
+}
+
+#[test]
+fn traps(rt: HostRuntime) -> Result<(), Fail> {
+    compare(&rt, rows::traps())
+}
+
+#[test]
+fn depth(rt: HostRuntime) -> Result<(), Fail> {
+    compare(&rt, rows::depths())
+}
+
+/// Each frame adds 1 to the global, which began with 7, and calls itself. The 512th calls a function
+/// by the table before that.
+fn calls_in_last_frame(alloc: Global, place: u8) -> Result<Vec<u8>, NoMemory> {
+    let mut body = Vec::from_slice(
+        alloc,
+        b"\x23\x00\x42\x01\x7c\x24\x00\x23\x00\x42\x87\x04\x51\x04\x40\x41\x05\x41",
+    )?;
+    body.push(place)?;
+    body.extend_from_slice(b"\x11\x01\x00\x0b\x10\x03")?;
+    Ok(body)
+}
+
+// What a call by the table finds comes before the count of frames.
+#[test]
+fn last_frame(rt: HostRuntime) -> Result<(), Fail> {
+    for (place, limit, text, used) in rows::last_frames() {
+        let body = calls_in_last_frame(rt.alloc(), *place)?;
+        let found = run(rt.alloc(), &body, *limit)?;
+        expect(&rt, &body, &found, text, *used);
+    }
+    Ok(())
+}
+
+#[test]
+fn beginnings(rt: HostRuntime) -> Result<(), Fail> {
+    for (function, beginning, limit, text, used, calls) in rows::begun() {
+        let mut host = Counting { calls: 0 };
+        let bytes = module(rt.alloc(), *function, &[])?;
+        let found = run_module(rt.alloc(), &bytes, *beginning, *limit, &mut host)?;
+        assert_eq!(rt;
+            found.text.as_str(),
+            *text,
+            "{function} {beginning:?} {limit}"
+        );
+        assert_eq!(rt; found.used, *used, "{function} {beginning:?} {limit}");
+        assert_eq!(rt; host.calls, *calls, "{function} {beginning:?} {limit}");
+    }
+    Ok(())
+}
+
+#[test]
+fn refusals(rt: HostRuntime) -> Result<(), Fail> {
+    for (body, limit, text, used) in rows::refused() {
+        let mut host = Refusing { message: None };
+        let found = run_with(rt.alloc(), body, *limit, &mut host)?;
+        expect(&rt, body, &found, text, *used);
+    }
+    Ok(())
+}
+
+// Of two calls of an import the host refuses the first.
+#[test]
+fn message(rt: HostRuntime) -> Result<(), Fail> {
+    let mut host = Refusing {
+        message: Some(Text {
+            items: String::from_str(rt.alloc(), "no cycles")?,
+        }),
+    };
+    let body = b"\x10\x00\x10\x00";
+    let found = run_with(rt.alloc(), body, 9, &mut host)?;
+    expect(&rt, body, &found, "no cycles", 1);
+    Ok(())
+}
+
+// Every operation on numbers gives what V8 gives for it: a wrong value traps.
+#[test]
+fn operations_32(rt: HostRuntime) -> Result<(), Fail> {
+    for row in vectors::rows_32() {
+        let words = words::row_32(rt.alloc(), &row)?;
+        let found = run(rt.alloc(), &words.bytes, 1_000_000)?;
+        expect(&rt, &words.bytes, &found, "returned", words.cost);
+    }
+    Ok(())
+}
+
+#[test]
+fn operations_64(rt: HostRuntime) -> Result<(), Fail> {
+    for row in vectors::rows_64() {
+        let words = words::row_64(rt.alloc(), &row)?;
+        let found = run(rt.alloc(), &words.bytes, 1_000_000)?;
+        expect(&rt, &words.bytes, &found, "returned", words.cost);
+    }
+    Ok(())
+}
+
+fn text_of(failure: Failure) -> &'static str {
+    match failure {
+        Failure::DivideByZero => "division by zero",
+        Failure::Overflow => "integer overflow",
+        Failure::MemoryBounds => "memory out of bounds",
+    }
+}
+
+/// The divisions that fail trap, and the others return.
+fn compare_divisions<R: Abort + AllocGlobal>(
+    rt: &R,
+    operands: &[u8],
+    opcodes: &[u8],
+    divisions: &[Result<u64, Failure>],
+) -> Result<(), Fail> {
+    for (opcode, division) in opcodes.iter().zip(divisions) {
+        let mut body = Vec::from_slice(rt.alloc(), operands)?;
+        body.extend_from_slice(&[*opcode, 0x1a])?;
+        let found = run(rt.alloc(), &body, 100)?;
+        match division {
+            Ok(_) => expect(rt, &body, &found, "returned", 4),
+            Err(failure) => expect(rt, &body, &found, text_of(*failure), 3),
+        }
+    }
+    Ok(())
+}
+
+#[test]
+fn divisions_32(rt: HostRuntime) -> Result<(), Fail> {
+    for row in vectors::rows_32() {
+        let operands = words::operands_32(rt.alloc(), &row)?;
+        compare_divisions(&rt, &operands, words::divisions_32(), &row.divisions)?;
+    }
+    Ok(())
+}
+
+#[test]
+fn divisions_64(rt: HostRuntime) -> Result<(), Fail> {
+    for row in vectors::rows_64() {
+        let operands = words::operands_64(rt.alloc(), &row)?;
+        compare_divisions(&rt, &operands, words::divisions_64(), &row.divisions)?;
+    }
+    Ok(())
+}
+
+// Memory, locals, globals and control.
+#[test]
+fn other_instructions(rt: HostRuntime) -> Result<(), Fail> {
+    for (name, body) in bodies::others() {
+        let found = run(rt.alloc(), body, 1000)?;
+        assert_eq!(rt; found.text.as_str(), "returned", "{name}");
+    }
+    Ok(())
+}
+
+// A wrong value would be seen.
+#[test]
+fn wrong_value(rt: HostRuntime) -> Result<(), Fail> {
+    let bytes = words::wrong(rt.alloc())?;
+    let found = run(rt.alloc(), &bytes, 1000)?;
+    expect(&rt, &bytes, &found, "unreachable", 5);
+    Ok(())
+}
