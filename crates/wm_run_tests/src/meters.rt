@@ -14,18 +14,31 @@ fn meter(rt: HostRuntime) -> Result<(), Fail> {
     Ok(())
 }
 
+/// Each trap that has no message, and its text.
+fn traps() -> [(Trap, &'static str); 10] {
+    [
+        (Trap::Unreachable, "unreachable"),
+        (Trap::DivideByZero, "division by zero"),
+        (Trap::Overflow, "integer overflow"),
+        (Trap::MemoryBounds, "memory out of bounds"),
+        (Trap::TableBounds, "table out of bounds"),
+        (Trap::Uninitialised, "uninitialised element"),
+        (Trap::Signature, "signature mismatch"),
+        (Trap::Depth, "call depth"),
+        (Trap::Limit, "instruction limit"),
+        (Trap::Api, "system call"),
+    ]
+}
+
 #[test]
-fn texts(rt: HostRuntime) -> Result<(), Fail> {
-    assert_eq!(rt; Trap::Unreachable.text(), "unreachable");
-    assert_eq!(rt; Trap::DivideByZero.text(), "division by zero");
-    assert_eq!(rt; Trap::Overflow.text(), "integer overflow");
-    assert_eq!(rt; Trap::MemoryBounds.text(), "memory out of bounds");
-    assert_eq!(rt; Trap::TableBounds.text(), "table out of bounds");
-    assert_eq!(rt; Trap::Uninitialised.text(), "uninitialised element");
-    assert_eq!(rt; Trap::Signature.text(), "signature mismatch");
-    assert_eq!(rt; Trap::Depth.text(), "call depth");
-    assert_eq!(rt; Trap::Limit.text(), "instruction limit");
-    assert_eq!(rt; Trap::Api.text(), "system call");
+fn texts(rt: HostRuntime) {
+    for (trap, text) in &traps() {
+        assert_eq!(rt; trap.text(), *text);
+    }
+}
+
+#[test]
+fn message(rt: HostRuntime) -> Result<(), Fail> {
     let message = String::from_str(rt.alloc(), "no cycles")?;
     let explicit = Trap::Explicit(Text { items: message });
     assert_eq!(rt; explicit.text(), "no cycles");

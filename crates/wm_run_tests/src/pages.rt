@@ -39,25 +39,30 @@ fn three(pages: &Pages, at: usize) -> [Option<u8>; 3] {
     ]
 }
 
-// Both sides of a range's end and of the end of what was there, a range written twice, and growth.
+/// Writes on both sides of a range's end and of the end of what was there, a range written twice, and
+/// growth.
+fn changed<R: Abort + AllocGlobal>(rt: &R) -> Result<Pages, NoMemory> {
+    let mut pages = two_pages(rt.alloc())?;
+    write(rt, &mut pages, 4_095, &[1, 2])?;
+    begin(rt, &mut pages);
+    write(rt, &mut pages, 4_095, &[])?;
+    assert_eq!(rt; pages.saved(), 0);
+    write(rt, &mut pages, 4_095, &[3, 4])?;
+    write(rt, &mut pages, 4_094, &[5, 6])?;
+    assert_eq!(rt; pages.saved(), 2);
+    grow(rt, &mut pages)?;
+    write(rt, &mut pages, 131_071, &[7, 8])?;
+    Ok(pages)
+}
+
 #[test]
 fn undone(rt: HostRuntime) -> Result<(), NoMemory> {
-    let mut pages = two_pages(rt.alloc())?;
-    write(&rt, &mut pages, 4_095, &[1, 2])?;
-    begin(&rt, &mut pages);
-    write(&rt, &mut pages, 4_095, &[])?;
-    assert_eq!(rt; pages.saved(), 0);
-    write(&rt, &mut pages, 4_095, &[3, 4])?;
-    write(&rt, &mut pages, 4_094, &[5, 6])?;
-    assert_eq!(rt; pages.saved(), 2);
-    grow(&rt, &mut pages)?;
-    write(&rt, &mut pages, 131_071, &[7, 8])?;
+    let mut pages = changed(&rt)?;
     assert_eq!(rt; pages.saved(), 3);
     assert_eq!(rt; three(&pages, 4_094), [Some(5), Some(6), Some(4)]);
     assert_eq!(rt; three(&pages, 131_071), [Some(7), Some(8), Some(0)]);
     pages.undo();
-    assert_eq!(rt; pages.pages(), 2);
-    assert_eq!(rt; pages.saved(), 0);
+    assert_eq!(rt; [pages.pages(), pages.saved()], [2, 0]);
     assert_eq!(rt; three(&pages, 4_094), [Some(0), Some(1), Some(2)]);
     assert_eq!(rt; three(&pages, 131_071), [Some(0), None, None]);
     Ok(())

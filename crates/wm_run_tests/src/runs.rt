@@ -11,7 +11,7 @@ use ic_base::NoMemory;
 use ic_principal::Text;
 use modules::module;
 use outcome::{Outcome, run, run_module, run_with};
-use rows::Row;
+use rows::{Begun, Row};
 use std::alloc::Global;
 use std::process::Abort;
 use std::test::*;
@@ -19,8 +19,7 @@ use wm_numeric::Failure;
 
 /// The run of these words ended so.
 fn expect(rt: &impl Abort, body: &[u8], found: &Outcome, text: &str, used: u64) {
-    assert_eq!(rt; found.text.as_str(), text, "{body:?}");
-    assert_eq!(rt; found.used, used, "{body:?}");
+    assert_eq!(rt; (found.text.as_str(), found.used), (text, used), "{body:?}");
 }
 
 fn compare<R: Abort + AllocGlobal>(rt: &R, rows: &[Row]) -> Result<(), Fail> {
@@ -79,19 +78,25 @@ fn last_frame(rt: HostRuntime) -> Result<(), Fail> {
     Ok(())
 }
 
+/// Runs the empty body's module from a function of it.
+fn compare_beginning<R: Abort + AllocGlobal>(rt: &R, row: &Begun) -> Result<(), Fail> {
+    let (function, beginning, limit, text, used, calls) = *row;
+    let mut host = Counting { calls: 0 };
+    let bytes = module(rt.alloc(), function, &[])?;
+    let found = run_module(rt.alloc(), &bytes, beginning, limit, &mut host)?;
+    let ended = (found.text.as_str(), found.used, host.calls);
+    assert_eq!(rt;
+        ended,
+        (text, used, calls),
+        "{function} {beginning:?} {limit}"
+    );
+    Ok(())
+}
+
 #[test]
 fn beginnings(rt: HostRuntime) -> Result<(), Fail> {
-    for (function, beginning, limit, text, used, calls) in rows::begun() {
-        let mut host = Counting { calls: 0 };
-        let bytes = module(rt.alloc(), *function, &[])?;
-        let found = run_module(rt.alloc(), &bytes, *beginning, *limit, &mut host)?;
-        assert_eq!(rt;
-            found.text.as_str(),
-            *text,
-            "{function} {beginning:?} {limit}"
-        );
-        assert_eq!(rt; found.used, *used, "{function} {beginning:?} {limit}");
-        assert_eq!(rt; host.calls, *calls, "{function} {beginning:?} {limit}");
+    for row in rows::begun() {
+        compare_beginning(&rt, row)?;
     }
     Ok(())
 }
@@ -141,12 +146,21 @@ fn operations_64(rt: HostRuntime) -> Result<(), Fail> {
     Ok(())
 }
 
-fn text_of(failure: Failure) -> &'static str {
-    match failure {
-        Failure::DivideByZero => "division by zero",
-        Failure::Overflow => "integer overflow",
-        Failure::MemoryBounds => "memory out of bounds",
+/// How a division ends, whose quotient is dropped, and what that uses.
+fn ending_of(division: &Result<u64, Failure>) -> (&'static str, u64) {
+    match division {
+        Ok(_) => ("returned", 4),
+        Err(Failure::DivideByZero) => ("division by zero", 3),
+        Err(Failure::Overflow) => ("integer overflow", 3),
+        Err(Failure::MemoryBounds) => ("memory out of bounds", 3),
     }
+}
+
+/// The operands and the division of that opcode.
+fn division_of(alloc: Global, operands: &[u8], opcode: u8) -> Result<Vec<u8>, NoMemory> {
+    let mut body = Vec::from_slice(alloc, operands)?;
+    body.extend_from_slice(&[opcode, 0x1a])?;
+    Ok(body)
 }
 
 /// The divisions that fail trap, and the others return.
@@ -157,13 +171,10 @@ fn compare_divisions<R: Abort + AllocGlobal>(
     divisions: &[Result<u64, Failure>],
 ) -> Result<(), Fail> {
     for (opcode, division) in opcodes.iter().zip(divisions) {
-        let mut body = Vec::from_slice(rt.alloc(), operands)?;
-        body.extend_from_slice(&[*opcode, 0x1a])?;
+        let body = division_of(rt.alloc(), operands, *opcode)?;
         let found = run(rt.alloc(), &body, 100)?;
-        match division {
-            Ok(_) => expect(rt, &body, &found, "returned", 4),
-            Err(failure) => expect(rt, &body, &found, text_of(*failure), 3),
-        }
+        let (text, used) = ending_of(division);
+        expect(rt, &body, &found, text, used);
     }
     Ok(())
 }

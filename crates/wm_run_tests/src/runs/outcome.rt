@@ -37,9 +37,11 @@ fn text_of(ended: &Ended) -> &str {
     }
 }
 
-fn valid_of(alloc: Global, bytes: &[u8]) -> Result<Valid, Fail> {
-    let module = decode(alloc, bytes)?;
-    Ok(validate(alloc, module)?)
+fn valid_of(alloc: Global, bytes: &[u8]) -> Option<Valid> {
+    match decode(alloc, bytes) {
+        Ok(module) => validate(alloc, module).ok(),
+        Err(_) => None,
+    }
 }
 
 fn instance_of(alloc: Global, valid: &Valid) -> Result<Store, Fail>
@@ -80,6 +82,7 @@ fn target_of(valid: &Valid, beginning: Beginning) -> Result<Target, Fail>
     }
 }
 
+/// Runs a target on the store of its module.
 fn run_target<H: Host>(
     alloc: Global,
     valid: &Valid,
@@ -100,6 +103,7 @@ fn run_target<H: Host>(
     })
 }
 
+/// Runs the target on a new store.
 fn run_valid<H: Host>(
     alloc: Global,
     valid: &Valid,
@@ -121,8 +125,10 @@ pub fn run_module<H: Host>(
     host: &mut H,
 ) -> Result<Outcome, Fail> {
     // The module is owned here alone: each place that may drop it is dear to prove.
-    let valid = valid_of(alloc, bytes)?;
-    run_valid(alloc, &valid, beginning, limit, host)
+    match valid_of(alloc, bytes) {
+        Some(valid) => run_valid(alloc, &valid, beginning, limit, host),
+        None => Err(Fail::new("no valid module")),
+    }
 }
 
 /// Runs a body () -> () with one local of type i32, in the module of `modules`, with a host.

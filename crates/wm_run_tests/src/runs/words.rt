@@ -2,7 +2,6 @@ use crate::numbers::Row;
 use ic_base::NoMemory;
 use ic_leb::write_s;
 use std::alloc::Global;
-use wm_numeric::Failure;
 
 // The opcodes in the order of the vectors' values. A row's last three values are of no operation
 // between numbers of one type.
@@ -53,7 +52,7 @@ pub struct Words {
 }
 
 impl Words {
-    pub fn new(alloc: Global) -> Words {
+    fn new(alloc: Global) -> Words {
         Words {
             bytes: Vec::new(alloc),
             cost: 0,
@@ -61,18 +60,18 @@ impl Words {
     }
 
     /// An instruction without immediate operands.
-    pub fn word(&mut self, opcode: u8) -> Result<(), NoMemory> {
+    fn word(&mut self, opcode: u8) -> Result<(), NoMemory> {
         self.bytes.push(opcode)?;
         self.cost = self.cost.wrapping_add(1);
         Ok(())
     }
 
-    pub fn number_32(&mut self, value: u32) -> Result<(), NoMemory> {
+    fn number_32(&mut self, value: u32) -> Result<(), NoMemory> {
         self.word(0x41)?;
         write_s(i128::from(value.cast_signed()), &mut self.bytes)
     }
 
-    pub fn number_64(&mut self, value: u64) -> Result<(), NoMemory> {
+    fn number_64(&mut self, value: u64) -> Result<(), NoMemory> {
         self.word(0x42)?;
         write_s(i128::from(value.cast_signed()), &mut self.bytes)
     }
@@ -84,13 +83,13 @@ impl Words {
     }
 
     /// The value on top is that one.
-    pub fn is_32(&mut self, value: u32) -> Result<(), NoMemory> {
+    fn is_32(&mut self, value: u32) -> Result<(), NoMemory> {
         self.number_32(value)?;
         self.word(0x47)?;
         self.trap_if()
     }
 
-    pub fn is_64(&mut self, value: u64) -> Result<(), NoMemory> {
+    fn is_64(&mut self, value: u64) -> Result<(), NoMemory> {
         self.number_64(value)?;
         self.word(0x52)?;
         self.trap_if()
