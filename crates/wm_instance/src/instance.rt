@@ -1,4 +1,4 @@
-ghost use Rattle.std.specs.Prelude.{◌≡◌, ◌+◌, ◌≤◌, ◌&&◌, true, Some, None, length, IfOk, IfErr};
+ghost use Rattle.std.specs.Prelude.{◌≡◌, ◌+◌, ◌≤◌, ◌&&◌, true, Some, None, length, IsSome, IfOk, IfErr};
 ghost use Rattle.wm_store.specs.Lists.{page_limit};
 ghost use Rattle.wm_store.specs.Fits.{Fits, minimum_of, maximum_of};
 ghost use Rattle.wm_semantics.specs.Instance.{constant_of, elements_fit, first_store, instance, laid, memory_size, segments_fit, table_size, with_segments};
@@ -80,6 +80,8 @@ pub fn instantiate(alloc: Global, valid: &Valid) -> Result<Store, InstanceFault>
     ensures begun { IfOk result (λ s. s.begun ≡ None) }
     ensures saved { IfOk result (λ s. s.saved ≡ 0) }
     ensures out { IfErr result (λ e. e ≡ InstanceFault.SegmentOut → instance valid.now.«module» ≡ None) }
+    // Want of memory never hides that a segment is out.
+    ensures inside { IfErr result (λ e. e ≡ InstanceFault.NoMemory → IsSome (instance valid.now.«module»)) }
 {
     let module = valid.module();
     if !segments_are_inside(module) {
