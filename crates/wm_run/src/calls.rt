@@ -40,6 +40,7 @@ pub(crate) fn trapped(trap: Trap) -> Next
 }
 
 /// Enters a defined function, whose arguments are the topmost operands.
+#[inline(always)]
 pub(crate) fn enter(
     valid: &Valid,
     stack: &mut Vec<u64>,

@@ -16,6 +16,7 @@ mod spot;
 mod stack;
 mod table;
 mod turn;
+mod word;
 
 pub use entry::entry_target;
 pub use invocation::invoke;
