@@ -1,5 +1,6 @@
 // Tables of sections. A test that wrote one out would be long to prove, so each stands behind a
 // function.
+use crate::bytes::{PROCEDURE, Section};
 use wm_valid::{EntryName, Invalid};
 
 /// The content of a section, and why a module with it is not valid, if it is not.
@@ -359,8 +360,25 @@ pub fn entry_exports() -> &'static [(&'static str, u8)] {
     &ENTRY_EXPORTS
 }
 
+// One type, six functions of it, and their empty bodies.
+static SIX_FUNCTIONS: [Section; 3] = [
+    PROCEDURE,
+    (3, b"\x06\x00\x00\x00\x00\x00\x00"),
+    (
+        10,
+        b"\x06\x02\x00\x0B\x02\x00\x0B\x02\x00\x0B\x02\x00\x0B\x02\x00\x0B\x02\x00\x0B",
+    ),
+];
+
+pub fn six_functions() -> &'static [Section<'static>] {
+    &SIX_FUNCTIONS
+}
+
+/// An entry point, and its function, if there is one.
+pub type EntryRow = (EntryName, &'static str, Option<u32>);
+
 // Entry points among these exports.
-static ENTRY_POINTS: [(EntryName, &str, Option<u32>); 10] = [
+static ENTRY_POINTS: [EntryRow; 10] = [
     (EntryName::Init, "", Some(1)),
     (EntryName::PreUpgrade, "a", Some(2)),
     (EntryName::PostUpgrade, "", Some(3)),
@@ -373,6 +391,17 @@ static ENTRY_POINTS: [(EntryName, &str, Option<u32>); 10] = [
     (EntryName::Update, "", None),
 ];
 
-pub fn entry_points() -> &'static [(EntryName, &'static str, Option<u32>)] {
+pub fn entry_points() -> &'static [EntryRow] {
     &ENTRY_POINTS
+}
+
+static RELAY_ENTRIES: [EntryRow; 4] = [
+    (EntryName::Update, "relay", Some(10)),
+    (EntryName::Update, "rela", None),
+    (EntryName::Query, "relay", None),
+    (EntryName::Init, "relay", None),
+];
+
+pub fn relay_entries() -> &'static [EntryRow] {
+    &RELAY_ENTRIES
 }

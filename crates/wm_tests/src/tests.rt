@@ -1,15 +1,15 @@
 use crate::bytes::*;
 use crate::tables;
-use crate::tables::Row;
+use crate::tables::{EntryRow, Row};
 use ic_base::NoMemory;
+use ic_leb::write_u;
 use std::alloc::Global;
 use std::process::Abort;
 use std::test::*;
-use wm_decode::decode;
 use wm_encode::{encode, relay_fits};
 use wm_tree::samples::relay;
+use wm_valid::Valid;
 use wm_valid::system_api::SystemCall;
-use wm_valid::{EntryName, Invalid, Valid, validate};
 
 /// Puts each content as a section of that id among the others, and compares the modules' faults.
 fn compare<R: Abort + AllocGlobal>(
@@ -145,8 +145,7 @@ fn nested(alloc: Global, blocks: u32, other: &[u8]) -> Result<Vec<u8>, Fail> {
     code.push(0x0B)?;
     let mut content = Vec::from_slice(alloc, b"\x02")?;
     content.extend_from_slice(other)?;
-    ic_leb::write_u(code.len() as u128, &mut content)?;
-    content.extend_from_slice(&code)?;
+    push_sized(&mut content, &code)?;
     Ok(content)
 }
 
@@ -162,62 +161,70 @@ fn nesting(rt: HostRuntime) -> Result<(), Fail> {
     Ok(())
 }
 
-fn relay_of(alloc: Global) -> Result<Valid, Fail> {
-    let module = relay(alloc)?;
-    relay_fits();
-    let written = encode(alloc, &module)?;
-    Ok(validate(alloc, decode(alloc, &written.items)?)?)
+fn push_export(content: &mut Vec<u8>, export: &(&str, u8)) -> Result<(), NoMemory> {
+    let (name, function) = export;
+    push_sized(content, name.as_bytes())?;
+    content.extend_from_slice(&[0, *function])?;
+    Ok(())
 }
 
 /// The export section that exports functions under these names.
 fn exports_of(alloc: Global, exports: &[(&str, u8)]) -> Result<Vec<u8>, NoMemory> {
     let mut content = Vec::new(alloc);
-    ic_leb::write_u(exports.len() as u128, &mut content)?;
-    for (name, function) in exports {
-        ic_leb::write_u(name.len() as u128, &mut content)?;
-        content.extend_from_slice(name.as_bytes())?;
-        content.extend_from_slice(&[0, *function])?;
+    write_u(exports.len() as u128, &mut content)?;
+    for export in exports {
+        push_export(&mut content, export)?;
     }
     Ok(content)
 }
 
-/// A module with six functions and these exports.
-fn exporting(alloc: Global, exports: &[(&str, u8)]) -> Result<Valid, Fail> {
+/// The bytes of a module with six functions and these exports.
+fn exporting(alloc: Global, exports: &[(&str, u8)]) -> Result<Vec<u8>, NoMemory> {
     let content = exports_of(alloc, exports)?;
-    let sections: [Section; 3] = [
-        PROCEDURE,
-        (3, b"\x06\x00\x00\x00\x00\x00\x00"),
-        (
-            10,
-            b"\x06\x02\x00\x0B\x02\x00\x0B\x02\x00\x0B\x02\x00\x0B\x02\x00\x0B\x02\x00\x0B",
-        ),
-    ];
-    let bytes = bytes_of(alloc, &sections, (7, &content))?;
-    Ok(validate(alloc, decode(alloc, &bytes)?)?)
+    bytes_of(alloc, tables::six_functions(), (7, &content))
+}
+
+/// The bytes of the relay module.
+fn relay_bytes(alloc: Global) -> Result<Vec<u8>, NoMemory> {
+    let module = relay(alloc)?;
+    relay_fits();
+    Ok(encode(alloc, &module)?.items)
+}
+
+fn compare_entries(rt: &impl Abort, valid: &Valid, rows: &[EntryRow]) {
+    for (kind, name, function) in rows {
+        assert_eq!(rt; valid.entry(*kind, name), *function, "{kind:?} {name}");
+    }
 }
 
 // Of each kind of entry point its function, and of methods those of the name.
 #[test]
 fn entry_points(rt: HostRuntime) -> Result<(), Fail> {
-    let valid = exporting(rt.alloc(), tables::entry_exports())?;
-    for (kind, name, function) in tables::entry_points() {
-        assert_eq!(rt; valid.entry(*kind, name), *function, "{kind:?} {name}");
-    }
+    let bytes = exporting(rt.alloc(), tables::entry_exports())?;
+    let valid = valid_of(rt.alloc(), &bytes)?;
+    compare_entries(&rt, &valid, tables::entry_points());
     Ok(())
+}
+
+/// How many parameters the function has, if there is one.
+fn params(valid: &Valid, function: u32) -> Option<u32> {
+    Some(valid.code(function)?.frame.params)
+}
+
+fn compare_relay(rt: &impl Abort, valid: &Valid) {
+    compare_entries(rt, valid, tables::relay_entries());
+    assert_eq!(rt; valid.system_call(3), Some(SystemCall::MsgReply));
+    assert_eq!(rt; valid.system_call(10), None);
+    // the reply's callback
+    assert_eq!(rt; params(valid, 1), Some(1));
+    assert_eq!(rt; params(valid, 3), None);
+    assert_eq!(rt; valid.module().imports.items.len(), 10);
 }
 
 #[test]
 fn relay_module(rt: HostRuntime) -> Result<(), Fail> {
-    let valid = relay_of(rt.alloc())?;
-    assert_eq!(rt; valid.entry(EntryName::Update, "relay"), Some(10));
-    assert_eq!(rt; valid.entry(EntryName::Update, "rela"), None);
-    assert_eq!(rt; valid.entry(EntryName::Query, "relay"), None);
-    assert_eq!(rt; valid.entry(EntryName::Init, "relay"), None);
-    assert_eq!(rt; valid.system_call(3), Some(SystemCall::MsgReply));
-    assert_eq!(rt; valid.system_call(10), None);
-    let code = valid.code(1).ok_or("code of the reply's callback")?;
-    assert_eq!(rt; code.frame.params, 1);
-    assert!(rt; valid.code(3).is_none());
-    assert_eq!(rt; valid.module().imports.items.len(), 10);
+    let bytes = relay_bytes(rt.alloc())?;
+    let valid = valid_of(rt.alloc(), &bytes)?;
+    compare_relay(&rt, &valid);
     Ok(())
 }
