@@ -1,8 +1,13 @@
+use crate::tables;
+use crate::tables::ExportRow;
 use ic_base::NoMemory;
 use ic_leb::write_u;
+use ic_principal::Bytes;
 use std::alloc::Global;
 use std::test::*;
 use wm_decode::{ModuleFault, decode};
+use wm_encode::{encode, relay_fits};
+use wm_tree::samples::relay;
 use wm_valid::{Invalid, Valid, validate};
 
 /// A section: its id and its content.
@@ -56,6 +61,52 @@ pub fn bytes_of(
     push_section(&mut bytes, section)?;
     push_sections(&mut bytes, &sections[place..])?;
     Ok(bytes)
+}
+
+/// The code section of a function with so many nested blocks, and one of another body.
+pub fn nested(alloc: Global, blocks: u32, other: &[u8]) -> Result<Vec<u8>, Fail> {
+    let mut code = Vec::from_slice(alloc, b"\x00")?;
+    for _ in 0..blocks {
+        code.extend_from_slice(b"\x02\x40")?;
+    }
+    for _ in 0..blocks {
+        code.push(0x0B)?;
+    }
+    code.push(0x0B)?;
+    let mut content = Vec::from_slice(alloc, b"\x02")?;
+    content.extend_from_slice(other)?;
+    push_sized(&mut content, &code)?;
+    Ok(content)
+}
+
+fn push_export(content: &mut Vec<u8>, export: &ExportRow) -> Result<(), NoMemory> {
+    let (name, function) = export;
+    push_sized(content, name)?;
+    content.extend_from_slice(&[0, *function])?;
+    Ok(())
+}
+
+/// The export section that exports functions under these names.
+fn exports_of(alloc: Global, exports: &[ExportRow]) -> Result<Vec<u8>, NoMemory> {
+    let mut content = Vec::new(alloc);
+    write_u(exports.len() as u128, &mut content)?;
+    for export in exports {
+        push_export(&mut content, export)?;
+    }
+    Ok(content)
+}
+
+/// The bytes of a module with six functions and these exports.
+pub fn exporting(alloc: Global, exports: &[ExportRow]) -> Result<Vec<u8>, NoMemory> {
+    let content = exports_of(alloc, exports)?;
+    bytes_of(alloc, tables::six_functions(), (7, &content))
+}
+
+/// The bytes of the relay module.
+pub fn relay_bytes(alloc: Global) -> Result<Bytes, NoMemory> {
+    let module = relay(alloc)?;
+    relay_fits();
+    encode(alloc, &module)
 }
 
 /// Why the module of these bytes is not valid, if it is not.

@@ -5,6 +5,8 @@
 #[cfg(test)]
 mod bytes;
 #[cfg(test)]
+mod comparing;
+#[cfg(test)]
 mod tables;
 #[cfg(test)]
 mod tests;

@@ -344,19 +344,21 @@ pub fn nested() -> &'static [(u32, &'static [u8], Option<Invalid>)] {
     &NESTED
 }
 
-// Names and functions that are exported under them.
-static ENTRY_EXPORTS: [(&str, u8); 8] = [
-    ("canister_init", 1),
-    ("canister_pre_upgrade", 2),
-    ("canister_post_upgrade", 3),
-    ("canister_inspect_message", 4),
-    ("canister_query b", 5),
-    ("canister_update a", 0),
-    ("canister_query ", 3),
-    ("b", 2),
+/// A name and the function that is exported under it.
+pub type ExportRow = (&'static [u8], u8);
+
+static ENTRY_EXPORTS: [ExportRow; 8] = [
+    (b"canister_init", 1),
+    (b"canister_pre_upgrade", 2),
+    (b"canister_post_upgrade", 3),
+    (b"canister_inspect_message", 4),
+    (b"canister_query b", 5),
+    (b"canister_update a", 0),
+    (b"canister_query ", 3),
+    (b"b", 2),
 ];
 
-pub fn entry_exports() -> &'static [(&'static str, u8)] {
+pub fn entry_exports() -> &'static [ExportRow] {
     &ENTRY_EXPORTS
 }
 

@@ -1,29 +1,7 @@
 use crate::bytes::*;
+use crate::comparing::*;
 use crate::tables;
-use crate::tables::{EntryRow, Row};
-use ic_base::NoMemory;
-use ic_leb::write_u;
-use std::alloc::Global;
-use std::process::Abort;
 use std::test::*;
-use wm_encode::{encode, relay_fits};
-use wm_tree::samples::relay;
-use wm_valid::Valid;
-use wm_valid::system_api::SystemCall;
-
-/// Puts each content as a section of that id among the others, and compares the modules' faults.
-fn compare<R: Abort + AllocGlobal>(
-    rt: &R,
-    sections: &[Section],
-    id: u8,
-    rows: &[Row],
-) -> Result<(), Fail> {
-    for (content, fault) in rows {
-        let bytes = bytes_of(rt.alloc(), sections, (id, *content))?;
-        assert_eq!(rt; fault_of(rt.alloc(), &bytes)?, *fault, "{content:?}");
-    }
-    Ok(())
-}
 
 #[test]
 fn imports(rt: HostRuntime) -> Result<(), Fail> {
@@ -133,22 +111,6 @@ fn contexts(rt: HostRuntime) -> Result<(), Fail> {
     compare(&rt, &sections, 10, tables::contexts())
 }
 
-/// The code section of a function with so many nested blocks, and one of another body.
-fn nested(alloc: Global, blocks: u32, other: &[u8]) -> Result<Vec<u8>, Fail> {
-    let mut code = Vec::from_slice(alloc, b"\x00")?;
-    for _ in 0..blocks {
-        code.extend_from_slice(b"\x02\x40")?;
-    }
-    for _ in 0..blocks {
-        code.push(0x0B)?;
-    }
-    code.push(0x0B)?;
-    let mut content = Vec::from_slice(alloc, b"\x02")?;
-    content.extend_from_slice(other)?;
-    push_sized(&mut content, &code)?;
-    Ok(content)
-}
-
 #[test]
 fn nesting(rt: HostRuntime) -> Result<(), Fail> {
     let alloc = rt.alloc();
@@ -161,42 +123,6 @@ fn nesting(rt: HostRuntime) -> Result<(), Fail> {
     Ok(())
 }
 
-fn push_export(content: &mut Vec<u8>, export: &(&str, u8)) -> Result<(), NoMemory> {
-    let (name, function) = export;
-    push_sized(content, name.as_bytes())?;
-    content.extend_from_slice(&[0, *function])?;
-    Ok(())
-}
-
-/// The export section that exports functions under these names.
-fn exports_of(alloc: Global, exports: &[(&str, u8)]) -> Result<Vec<u8>, NoMemory> {
-    let mut content = Vec::new(alloc);
-    write_u(exports.len() as u128, &mut content)?;
-    for export in exports {
-        push_export(&mut content, export)?;
-    }
-    Ok(content)
-}
-
-/// The bytes of a module with six functions and these exports.
-fn exporting(alloc: Global, exports: &[(&str, u8)]) -> Result<Vec<u8>, NoMemory> {
-    let content = exports_of(alloc, exports)?;
-    bytes_of(alloc, tables::six_functions(), (7, &content))
-}
-
-/// The bytes of the relay module.
-fn relay_bytes(alloc: Global) -> Result<Vec<u8>, NoMemory> {
-    let module = relay(alloc)?;
-    relay_fits();
-    Ok(encode(alloc, &module)?.items)
-}
-
-fn compare_entries(rt: &impl Abort, valid: &Valid, rows: &[EntryRow]) {
-    for (kind, name, function) in rows {
-        assert_eq!(rt; valid.entry(*kind, name), *function, "{kind:?} {name}");
-    }
-}
-
 // Of each kind of entry point its function, and of methods those of the name.
 #[test]
 fn entry_points(rt: HostRuntime) -> Result<(), Fail> {
@@ -206,25 +132,10 @@ fn entry_points(rt: HostRuntime) -> Result<(), Fail> {
     Ok(())
 }
 
-/// How many parameters the function has, if there is one.
-fn params(valid: &Valid, function: u32) -> Option<u32> {
-    Some(valid.code(function)?.frame.params)
-}
-
-fn compare_relay(rt: &impl Abort, valid: &Valid) {
-    compare_entries(rt, valid, tables::relay_entries());
-    assert_eq!(rt; valid.system_call(3), Some(SystemCall::MsgReply));
-    assert_eq!(rt; valid.system_call(10), None);
-    // the reply's callback
-    assert_eq!(rt; params(valid, 1), Some(1));
-    assert_eq!(rt; params(valid, 3), None);
-    assert_eq!(rt; valid.module().imports.items.len(), 10);
-}
-
 #[test]
 fn relay_module(rt: HostRuntime) -> Result<(), Fail> {
     let bytes = relay_bytes(rt.alloc())?;
-    let valid = valid_of(rt.alloc(), &bytes)?;
+    let valid = valid_of(rt.alloc(), &bytes.items)?;
     compare_relay(&rt, &valid);
     Ok(())
 }
