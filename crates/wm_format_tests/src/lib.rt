@@ -3,6 +3,12 @@
 #![tactic(auto)]
 
 #[cfg(test)]
+mod answers;
+#[cfg(test)]
+mod bytes;
+#[cfg(test)]
+mod cases;
+#[cfg(test)]
 mod classes;
 #[cfg(test)]
 mod decoding;
