@@ -1,5 +1,5 @@
--- The table of instructions (WebAssembly Core 1.0, 5.4 and 3.3): the opcode, the operands that
--- follow it, and how the instruction is typed.
+-- The table of instructions (WebAssembly Core 1.0, 5.4 and 3.3; from Core 2.0 the sign extensions,
+-- `memory.copy` and `memory.fill`): the opcode, the operands that follow it, and how it is typed.
 use Rattle.std.specs.Prelude.{ℕ, ℤ, List, Option}
 use Rattle.wm_tree.specs.declared.types.ValType.{ValType}
 use Rattle.wm_tree.specs.declared.types.ValType.TheVariants.{I32, I64}
@@ -9,7 +9,7 @@ use Rattle.wm_tree.specs.declared.class.Class.TheVariants.{Opens, Turns, Closes,
 use Rattle.wm_tree.specs.declared.class.Shape.TheVariants as shape
 use Rattle.wm_tree.specs.declared.instr.Instr.{Instr}
 use Rattle.wm_tree.specs.declared.instr.Instr.TheVariants as op
-use Rattle.wm_tree.specs.Signatures.{nothing, constant, unary, binary, test, comparison, conversion, load, store}
+use Rattle.wm_tree.specs.Signatures.{nothing, constant, unary, binary, test, comparison, conversion, range_write, load, store}
 
 -- what follows an opcode; a block's body, its `else` and its `end` are words of their own
 pub data Operands : Type 0 where
@@ -20,6 +20,8 @@ pub data Operands : Type 0 where
   type_index : ℕ → Operands
   memory : MemArg → Operands
   reserved : Operands
+  -- the number behind the prefix FC, and so many bytes 00
+  prefixed : ℕ → ℕ → Operands
   number32 : ℤ → Operands
   number64 : ℤ → Operands
 
@@ -138,3 +140,10 @@ row_of op.I64Rotr = row 0x8A none (Fixed (binary I64))
 row_of op.I32WrapI64 = row 0xA7 none (Fixed (conversion I64 I32))
 row_of op.I64ExtendI32S = row 0xAC none (Fixed (conversion I32 I64))
 row_of op.I64ExtendI32U = row 0xAD none (Fixed (conversion I32 I64))
+row_of op.I32Extend8S = row 0xC0 none (Fixed (unary I32))
+row_of op.I32Extend16S = row 0xC1 none (Fixed (unary I32))
+row_of op.I64Extend8S = row 0xC2 none (Fixed (unary I64))
+row_of op.I64Extend16S = row 0xC3 none (Fixed (unary I64))
+row_of op.I64Extend32S = row 0xC4 none (Fixed (unary I64))
+row_of op.MemoryCopy = row 0xFC (prefixed 10 2) (Memory range_write)
+row_of op.MemoryFill = row 0xFC (prefixed 11 1) (Memory range_write)

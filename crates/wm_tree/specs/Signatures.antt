@@ -7,7 +7,7 @@ use Rattle.wm_tree.specs.declared.class.Signature.{Signature}
 use Rattle.wm_tree.specs.declared.class.Class.{Class}
 use Rattle.wm_tree.specs.declared.class.Class.TheVariants.{Access}
 
--- at most two operands and one result
+-- at most two operands and at most one result
 abbrev pub signature : Option ValType → Option ValType → Option ValType → Signature
 signature first second gives = record { first = first; second = second; third = None; gives = gives }
 
@@ -31,6 +31,10 @@ comparison t = signature (Some t) (Some t) (Some I32)
 
 abbrev pub conversion : ValType → ValType → Signature
 conversion from to = signature (Some from) None (Some to)
+
+-- a copy takes a size, where from and where to; a fill a size, a value and where to
+abbrev pub range_write : Signature
+range_write = record { first = Some I32; second = Some I32; third = Some I32; gives = None }
 
 -- a load takes an address and gives a value
 abbrev pub load : ValType → MemArg → ℕ → Class

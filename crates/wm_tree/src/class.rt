@@ -18,12 +18,12 @@ pub enum Shape {
 pub struct Signature {
     pub first: Option<ValType>,
     pub second: Option<ValType>,
-    /// Nothing of Core 1.0 has it: `memory.copy` and `memory.fill` of later versions do.
+    /// Of `memory.copy` and `memory.fill` alone.
     pub third: Option<ValType>,
     pub gives: Option<ValType>,
 }
 
-/// How an instruction is typed (WebAssembly Core 1.0, 3.3).
+/// How an instruction is typed (WebAssembly Core 1.0, 3.3; Core 2.0, 3.3).
 #[derive(Clone, Copy, Debug, PartialEq, Eq)]
 pub enum Class {
     /// A block, a loop or an `if` begins.
@@ -85,6 +85,7 @@ pub fn class_of(instr: &Instr) -> Class
         Instr::I64Store32(m) => store(ValType::I64, *m, 2),
         Instr::MemorySize => Class::Memory(constant(ValType::I32)),
         Instr::MemoryGrow => Class::Memory(unary(ValType::I32)),
+        Instr::MemoryCopy | Instr::MemoryFill => Class::Memory(range_write()),
         Instr::I32Const(_) => Class::Fixed(constant(ValType::I32)),
         Instr::I64Const(_) => Class::Fixed(constant(ValType::I64)),
         Instr::I32Eqz => Class::Fixed(test(ValType::I32)),
@@ -146,6 +147,10 @@ pub fn class_of(instr: &Instr) -> Class
             ValType::I32,
             ValType::I64,
         )),
+        Instr::I32Extend8S | Instr::I32Extend16S => Class::Fixed(unary(ValType::I32)),
+        Instr::I64Extend8S | Instr::I64Extend16S | Instr::I64Extend32S => {
+            Class::Fixed(unary(ValType::I64))
+        }
         _ => Class::Special,
     }
 }
@@ -201,6 +206,17 @@ fn conversion(from: ValType, to: ValType) -> Signature
     ensures { result ≡ row.conversion from to }
 {
     stack_type(Some(from), None, Some(to))
+}
+
+fn range_write() -> Signature
+    ensures { result ≡ row.range_write }
+{
+    Signature {
+        first: Some(ValType::I32),
+        second: Some(ValType::I32),
+        third: Some(ValType::I32),
+        gives: None,
+    }
 }
 
 fn load(t: ValType, arg: MemArg, natural: u32) -> Class

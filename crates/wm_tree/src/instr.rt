@@ -2,7 +2,8 @@ use crate::data::Indices;
 use crate::types::{MemArg, ValType};
 use std::marker::Model;
 
-/// An instruction of a flat body (WebAssembly Core 1.0, 5.4). The words of nested blocks follow one
+/// An instruction of a flat body (WebAssembly Core 1.0, 5.4; the sign extensions, `memory.copy` and
+/// `memory.fill` are those of Core 2.0, 5.4). The words of nested blocks follow one
 /// another: `Else` and `End` stand for the bytes 05 and 0B inside a body. The 0B that ends a body or
 /// a constant expression is not kept.
 #[derive(Debug, Drop)]
@@ -48,6 +49,8 @@ pub enum Instr {
     I64Store32(MemArg),
     MemorySize,
     MemoryGrow,
+    MemoryCopy,
+    MemoryFill,
     I32Const(i32),
     I64Const(i64),
     I32Eqz,
@@ -111,6 +114,11 @@ pub enum Instr {
     I32WrapI64,
     I64ExtendI32S,
     I64ExtendI32U,
+    I32Extend8S,
+    I32Extend16S,
+    I64Extend8S,
+    I64Extend16S,
+    I64Extend32S,
 }
 
 /// The instructions of a body or of a constant expression, in the order of their bytes.

@@ -3,7 +3,8 @@ ghost use Rattle.wm_tree.specs.Row.{row_of};
 
 use crate::instr::Instr;
 
-/// The byte that the instruction is written with.
+/// The first byte that the instruction is written with. Of `memory.copy` and `memory.fill` it is the
+/// prefix FC, and a number follows.
 pub fn opcode_of(instr: &Instr) -> u8
     ensures { result ≡ (row_of instr.now).opcode }
 {
@@ -112,5 +113,11 @@ pub fn opcode_of(instr: &Instr) -> u8
         Instr::I32WrapI64 => 0xA7,
         Instr::I64ExtendI32S => 0xAC,
         Instr::I64ExtendI32U => 0xAD,
+        Instr::I32Extend8S => 0xC0,
+        Instr::I32Extend16S => 0xC1,
+        Instr::I64Extend8S => 0xC2,
+        Instr::I64Extend16S => 0xC3,
+        Instr::I64Extend32S => 0xC4,
+        Instr::MemoryCopy | Instr::MemoryFill => 0xFC,
     }
 }
