@@ -1,5 +1,5 @@
--- Integers of n bits (WebAssembly Core 1.0, 4.3.2): the numbers below 2 ^ n. Each operation is named
--- as there, with n first. Only divisions and remainders may have no result.
+-- Integers of n bits (WebAssembly Core 1.0, 4.3.2; Core 2.0, 4.3.2): the numbers below 2 ^ n. Each
+-- operation is named as there, with n first. Only divisions and remainders may have no result.
 use Rattle.std.specs.Prelude.{ℕ, Bool, false, ◌+◌, ◌-◌, ◌*◌, ◌/◌, ◌%◌, ◌^◌, ◌==◌, nat_lt, nat_le, not, ℤ, pos, negsuc, ◌-ℤ◌, int_lt, int_le, int_div, int_rem, bit_and, bit_or, bit_xor, count_ones, Result, Ok, Err, if◌then◌else◌}
 use Rattle.std.specs.Int.{int_shr, from_bool}
 use Rattle.std.specs.Int.Count.{count_leading_zeros, count_trailing_zeros}
@@ -134,3 +134,7 @@ extend_u m n i = i
 -- from m bits to n: the same signed number
 abbrev pub extend_s : ℕ → ℕ → ℕ → ℕ
 extend_s m n i = unsigned n (signed m i)
+
+-- the lowest m bits, with their sign (Core 2.0, 4.3.2)
+abbrev pub iextend_s : ℕ → ℕ → ℕ → ℕ
+iextend_s n m i = extend_s m n (wrap m i)

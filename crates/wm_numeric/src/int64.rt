@@ -2,7 +2,7 @@
 //! stand in the order of the standard: `y` is the one that was pushed last.
 
 ghost use Rattle.std.specs.Prelude.{◌≡◌, ◌<◌, ◌^◌, ℤ};
-ghost use Rattle.wm_numeric.specs.Integers.{signed as signed_of, unsigned as unsigned_of, iadd, isub, imul, idiv_u, idiv_s, irem_u, irem_s, iand, ior, ixor, ishl, ishr_u, ishr_s, irotl, irotr, iclz, ictz, ipopcnt, ieqz, ieq, ine, ilt_u, ilt_s, igt_u, igt_s, ile_u, ile_s, ige_u, ige_s, wrap, extend_s};
+ghost use Rattle.wm_numeric.specs.Integers.{signed as signed_of, unsigned as unsigned_of, iadd, isub, imul, idiv_u, idiv_s, irem_u, irem_s, iand, ior, ixor, ishl, ishr_u, ishr_s, irotl, irotr, iclz, ictz, ipopcnt, ieqz, ieq, ine, ilt_u, ilt_s, igt_u, igt_s, ile_u, ile_s, ige_u, ige_s, wrap, extend_s, iextend_s};
 
 use crate::failure::Failure;
 
@@ -239,29 +239,29 @@ pub fn ge_u(x: u64, y: u64) -> u64
     u64::from(x >= y)
 }
 
-/// What the integer of 8 bits stands for, signed.
+/// `i64.extend8_s`; of an integer of 8 bits what it stands for, signed.
 #[inline]
 pub fn extend_8_s(x: u64) -> u64
-    requires { x < 2 ^ 8 }
-    ensures { result ≡ extend_s 8 64 x }
+    ensures low { result ≡ iextend_s 64 8 x }
+    ensures short { x < 2 ^ 8 → result ≡ extend_s 8 64 x }
 {
-    unsigned(i64::from((x as u8).cast_signed()))
+    unsigned(i64::from(((x % 0x100) as u8).cast_signed()))
 }
 
-/// What the integer of 16 bits stands for, signed.
+/// `i64.extend16_s`; of an integer of 16 bits what it stands for, signed.
 #[inline]
 pub fn extend_16_s(x: u64) -> u64
-    requires { x < 2 ^ 16 }
-    ensures { result ≡ extend_s 16 64 x }
+    ensures low { result ≡ iextend_s 64 16 x }
+    ensures short { x < 2 ^ 16 → result ≡ extend_s 16 64 x }
 {
-    unsigned(i64::from((x as u16).cast_signed()))
+    unsigned(i64::from(((x % 0x1_0000) as u16).cast_signed()))
 }
 
-/// What the integer of 32 bits stands for, signed.
+/// `i64.extend32_s`; of an integer of 32 bits what it stands for, signed.
 #[inline]
 pub fn extend_32_s(x: u64) -> u64
-    requires { x < 2 ^ 32 }
-    ensures { result ≡ extend_s 32 64 x }
+    ensures low { result ≡ iextend_s 64 32 x }
+    ensures short { x < 2 ^ 32 → result ≡ extend_s 32 64 x }
 {
-    unsigned(i64::from((x as u32).cast_signed()))
+    unsigned(i64::from(((x % 0x1_0000_0000) as u32).cast_signed()))
 }

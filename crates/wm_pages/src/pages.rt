@@ -1,8 +1,8 @@
-ghost use Rattle.std.specs.Prelude.{◌≡◌, ◌+◌, ◌*◌, ◌/◌, ◌≤◌, ◌++◌, [], length, replicate, OnOk, OnErr};
+ghost use Rattle.std.specs.Prelude.{◌≡◌, ◌+◌, ◌*◌, ◌/◌, ◌≤◌, ◌++◌, [], length, take, drop, replicate, OnOk, OnErr};
 ghost use Rattle.wm_pages.specs.Over.{over};
 ghost use Rattle.wm_pages.specs.Ranges.{touched};
 
-use crate::ranges::{RANGE, Ranges, paste};
+use crate::ranges::{RANGE, Ranges, paint, paste, shift};
 use ic_base::NoMemory;
 use std::alloc::Global;
 use std::marker::Model;
@@ -77,10 +77,43 @@ impl Pages {
         ensures refused { OnErr result (self.new.bytes ≡ self.old.bytes) }
         ensures before { self.new.before ≡ self.old.before }
         ensures saved { self.new.saved ≤ self.old.saved + touched at (length source.now) }
+        ensures rises { self.old.saved ≤ self.new.saved }
         ensures idle { self.old.before ≡ [] → self.new.saved ≡ self.old.saved }
     {
         self.ranges.save(self.bytes.as_slice(), at, source.len())?;
         paste(self.bytes.as_mut_slice(), at, source);
+        Ok(())
+    }
+
+    /// Copies so many bytes from one place to another, as if they were read first. Memory for the
+    /// ranges that this saves is taken before it.
+    pub fn copy_within(&mut self, to: usize, from: usize, size: usize) -> Result<(), NoMemory>
+        requires source { from + size ≤ length self.old.bytes }
+        requires target { to + size ≤ length self.old.bytes }
+        ensures bytes { OnOk result (self.new.bytes ≡ over to (take size (drop from self.old.bytes)) self.old.bytes) }
+        ensures refused { OnErr result (self.new.bytes ≡ self.old.bytes) }
+        ensures before { self.new.before ≡ self.old.before }
+        ensures saved { self.new.saved ≤ self.old.saved + touched to size }
+        ensures rises { self.old.saved ≤ self.new.saved }
+        ensures idle { self.old.before ≡ [] → self.new.saved ≡ self.old.saved }
+    {
+        self.ranges.save(self.bytes.as_slice(), to, size)?;
+        shift(self.bytes.as_mut_slice(), to, from, size);
+        Ok(())
+    }
+
+    /// Writes one byte to so many places. Memory for the ranges that this saves is taken before it.
+    pub fn fill(&mut self, at: usize, byte: u8, size: usize) -> Result<(), NoMemory>
+        requires { at + size ≤ length self.old.bytes }
+        ensures bytes { OnOk result (self.new.bytes ≡ over at (replicate size byte) self.old.bytes) }
+        ensures refused { OnErr result (self.new.bytes ≡ self.old.bytes) }
+        ensures before { self.new.before ≡ self.old.before }
+        ensures saved { self.new.saved ≤ self.old.saved + touched at size }
+        ensures rises { self.old.saved ≤ self.new.saved }
+        ensures idle { self.old.before ≡ [] → self.new.saved ≡ self.old.saved }
+    {
+        self.ranges.save(self.bytes.as_slice(), at, size)?;
+        paint(self.bytes.as_mut_slice(), at, byte, size);
         Ok(())
     }
 

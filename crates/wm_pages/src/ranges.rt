@@ -1,4 +1,4 @@
-ghost use Rattle.std.specs.Prelude.{◌≡◌, ℕ, ◌+◌, ◌*◌, ◌/◌, ◌<◌, ◌≤◌, true, false, [], length, IfOk, OnOk, slice_index_or};
+ghost use Rattle.std.specs.Prelude.{◌≡◌, ℕ, ◌+◌, ◌*◌, ◌/◌, ◌<◌, ◌≤◌, true, false, [], length, take, drop, replicate, IfOk, OnOk, slice_index_or};
 ghost use Rattle.wm_pages.specs.Over.{over};
 
 use ic_base::NoMemory;
@@ -36,6 +36,23 @@ pub fn paste(bytes: &mut [u8], at: usize, source: &[u8])
     ensures { bytes.new ≡ over at source.now bytes.old }
 {
     bytes[at..at + source.len()].copy_from_slice(source);
+}
+
+/// Copies so many bytes from one place to another, as if they were read first.
+pub fn shift(bytes: &mut [u8], to: usize, from: usize, size: usize)
+    requires source { from + size ≤ length bytes.old }
+    requires target { to + size ≤ length bytes.old }
+    ensures { bytes.new ≡ over to (take size (drop from bytes.old)) bytes.old }
+{
+    bytes.copy_within(from..from + size, to);
+}
+
+/// Writes one byte to so many places.
+pub fn paint(bytes: &mut [u8], at: usize, byte: u8, size: usize)
+    requires { at + size ≤ length bytes.old }
+    ensures { bytes.new ≡ over at (replicate size byte) bytes.old }
+{
+    bytes[at..at + size].fill(byte);
 }
 
 /// Copies a range, where it can into a list that is held.
@@ -83,6 +100,7 @@ impl Ranges {
         ensures start { self.new.start ≡ self.old.start }
         ensures before { bytes_before self.new bytes.now ≡ bytes_before self.old bytes.now }
         ensures few { length self.new.kept.items ≤ length self.old.kept.items + 1 }
+        ensures rises { length self.old.kept.items ≤ length self.new.kept.items }
         ensures covered { OnOk result (covers self.new.kept.items range ≡ true) }
         ensures stays { (r : ℕ) → covers self.old.kept.items r ≡ true → covers self.new.kept.items r ≡ true }
     {
@@ -101,6 +119,7 @@ impl Ranges {
         ensures start { self.new.start ≡ self.old.start }
         ensures before { bytes_before self.new bytes.now ≡ bytes_before self.old bytes.now }
         ensures few { length self.new.kept.items ≤ length self.old.kept.items + 1 }
+        ensures rises { length self.old.kept.items ≤ length self.new.kept.items }
         ensures covered { OnOk result (range < 16 * self.old.start → covers self.new.kept.items range ≡ true) }
         ensures stays { (r : ℕ) → covers self.old.kept.items r ≡ true → covers self.new.kept.items r ≡ true }
         ensures idle { self.old.start ≡ 0 → self.new.kept.items ≡ self.old.kept.items }
@@ -122,6 +141,7 @@ impl Ranges {
         ensures start { self.new.start ≡ self.old.start }
         ensures before { bytes_before self.new bytes.now ≡ bytes_before self.old bytes.now }
         ensures few { length self.new.kept.items ≤ length self.old.kept.items + touched at size }
+        ensures rises { length self.old.kept.items ≤ length self.new.kept.items }
         ensures covered { OnOk result ((i : ℕ) → at ≤ i → i < at + size → i < 65536 * self.new.start → covers self.new.kept.items (i / 4096) ≡ true) }
         ensures idle { self.old.start ≡ 0 → self.new.kept.items ≡ self.old.kept.items }
     {

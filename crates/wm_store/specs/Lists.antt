@@ -1,5 +1,6 @@
 -- What a store has (WebAssembly Core 1.0, 4.2.3): memory, globals and table, and stable memory.
 use Rattle.std.specs.Prelude.{ℕ, ◌+◌, ◌*◌, ◌/◌, ◌<◌, ◌^◌, List, ◌++◌, length, take, drop, replicate, All, Option, Some, None, IfSome, min, nat_le, if◌then◌else◌}
+use Rattle.ic_base.specs.Reader.{◌>>=◌}
 use Rattle.wm_pages.specs.Over.{over}
 
 -- memory and stable memory are bytes; a table's entry is a function, or none
@@ -18,6 +19,15 @@ part at n xs = if nat_le (at + n) (length xs) then Some (take n (drop at xs)) el
 -- the list with the bytes in place of those from `at` on, unless they pass the end
 abbrev pub written : ℕ → List ℕ → List ℕ → Option (List ℕ)
 written at bytes xs = if nat_le (at + length bytes) (length xs) then Some (over at bytes xs) else None
+
+-- n bytes from one place on written to another, as if they were read first, unless either passes the
+-- end (Core 2.0, 4.4.7)
+abbrev pub moved : ℕ → ℕ → ℕ → List ℕ → Option (List ℕ)
+moved to from n xs = part from n xs >>= λ bytes. written to bytes xs
+
+-- one byte written n times, unless that passes the end (Core 2.0, 4.4.7)
+abbrev pub filled : ℕ → ℕ → ℕ → List ℕ → Option (List ℕ)
+filled at byte n xs = written at (replicate n byte) xs
 
 -- a page has 65,536 bytes
 abbrev pub pages_of : List ℕ → ℕ

@@ -84,6 +84,7 @@ impl Store {
         ensures refused { IfErr result (λ _. self.new.lists ≡ self.old.lists) }
         ensures begun { self.new.begun ≡ self.old.begun }
         ensures saved { self.new.saved ≤ self.old.saved + touched (address + offset) size }
+        ensures rises { self.old.saved ≤ self.new.saved }
         ensures past { IfOk result (λ done. is_ok done ≡ false → self.new.saved ≡ self.old.saved) }
     {
         match self.save(address + u64::from(offset), size, value)? {

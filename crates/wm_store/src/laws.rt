@@ -15,6 +15,8 @@ ghost use Rattle.wm_store.specs.MeaningLaws.{IsTyped, HasTypes, global_kinds, Ru
 pub fn meanings_are_typed()
     ensures classes { (globals : List AGlobalType) (i : AnInstr) → IsTyped (row_of i).class (meaning_of globals i) }
     ensures memory_size { (globals : List AGlobalType) → IsSome (meaning_of globals instr.MemorySize) }
+    ensures memory_copy { (globals : List AGlobalType) → IsSome (meaning_of globals instr.MemoryCopy) }
+    ensures memory_fill { (globals : List AGlobalType) → IsSome (meaning_of globals instr.MemoryFill) }
     ensures global_get { (globals : List AGlobalType) (x : ℕ) (t : AGlobalType) → slice_get globals x ≡ Some t
         → IsSomeAnd (meaning_of globals (instr.GlobalGet x)) (HasTypes [] (t.kind ∷ [])) }
     ensures global_set { (globals : List AGlobalType) (x : ℕ) (t : AGlobalType) → slice_get globals x ≡ Some t

@@ -2,7 +2,7 @@ ghost use Rattle.std.specs.Prelude.{◌≡◌, ℕ, ◌+◌, ◌*◌, ◌^◌, �
 ghost use Rattle.std.specs.Option.{option_map};
 ghost use Rattle.std.specs.Int.{w64, from_le_bytes, bytes_low_first};
 ghost use Rattle.wm_pages.specs.Ranges.{touched};
-ghost use Rattle.wm_store.specs.Lists.{part, written, grown, pages_of, page_limit, or_stays, HoldsBytes};
+ghost use Rattle.wm_store.specs.Lists.{part, written, moved, filled, grown, pages_of, page_limit, or_stays, HoldsBytes};
 
 use ic_base::NoMemory;
 use std::alloc::Global;
@@ -40,10 +40,10 @@ impl Model for Store {
 }
 
 /// The place where so many elements stand, unless they pass the end.
-fn place(len: usize, at: u64, size: usize) -> Option<usize>
+fn place(len: usize, at: u64, size: u64) -> Option<usize>
     ensures { MatchOption result (len < at + size) (λ i. (i ≡ at) × (at + size ≤ len)) }
 {
-    let end = at.checked_add(size as u64)?;
+    let end = at.checked_add(size)?;
     if end <= len as u64 {
         Some(at as usize)
     } else {
@@ -66,7 +66,7 @@ fn read(bytes: &[u8], at: u64, target: &mut [u8]) -> Option<()>
     ensures fits { is_some result ≡ is_some (part at (length target.old) bytes.now) }
     ensures target { target.new ≡ or_stays (part at (length target.old) bytes.now) target.old }
 {
-    let at = place(bytes.len(), at, target.len())?;
+    let at = place(bytes.len(), at, target.len() as u64)?;
     target.copy_from_slice(&bytes[at..at + target.len()]);
     Some(())
 }
@@ -78,12 +78,53 @@ fn write(pages: &mut Pages, at: u64, bytes: &[u8]) -> Result<Option<()>, NoMemor
     ensures refused { IfErr result (λ _. pages.new.bytes ≡ pages.old.bytes) }
     ensures before { pages.new.before ≡ pages.old.before }
     ensures saved { pages.new.saved ≤ pages.old.saved + touched at (length bytes.now) }
+    ensures rises { pages.old.saved ≤ pages.new.saved }
     ensures past { IfOk result (λ done. is_some done ≡ false → pages.new.saved ≡ pages.old.saved) }
     ensures idle { pages.old.before ≡ [] → pages.new.saved ≡ pages.old.saved }
 {
-    match place(pages.as_slice().len(), at, bytes.len()) {
+    match place(pages.as_slice().len(), at, bytes.len() as u64) {
         Some(at) => {
             pages.write(at, bytes)?;
+            Ok(Some(()))
+        }
+        None => Ok(None),
+    }
+}
+
+/// Copies so many bytes from one place to another, unless either passes the end.
+fn copy(pages: &mut Pages, to: u64, from: u64, size: u64) -> Result<Option<()>, NoMemory>
+    ensures fits { IfOk result (λ done. is_some done ≡ is_some (moved to from size pages.old.bytes)) }
+    ensures bytes { IfOk result (λ _. pages.new.bytes ≡ or_stays (moved to from size pages.old.bytes) pages.old.bytes) }
+    ensures refused { IfErr result (λ _. pages.new.bytes ≡ pages.old.bytes) }
+    ensures before { pages.new.before ≡ pages.old.before }
+    ensures saved { pages.new.saved ≤ pages.old.saved + touched to size }
+    ensures rises { pages.old.saved ≤ pages.new.saved }
+    ensures past { IfOk result (λ done. is_some done ≡ false → pages.new.saved ≡ pages.old.saved) }
+    ensures idle { pages.old.before ≡ [] → pages.new.saved ≡ pages.old.saved }
+{
+    match place(pages.as_slice().len(), to.max(from), size) {
+        Some(_) => {
+            pages.copy_within(to as usize, from as usize, size as usize)?;
+            Ok(Some(()))
+        }
+        None => Ok(None),
+    }
+}
+
+/// Writes one byte to so many places, unless they pass the end.
+fn fill(pages: &mut Pages, at: u64, byte: u8, size: u64) -> Result<Option<()>, NoMemory>
+    ensures fits { IfOk result (λ done. is_some done ≡ is_some (filled at byte size pages.old.bytes)) }
+    ensures bytes { IfOk result (λ _. pages.new.bytes ≡ or_stays (filled at byte size pages.old.bytes) pages.old.bytes) }
+    ensures refused { IfErr result (λ _. pages.new.bytes ≡ pages.old.bytes) }
+    ensures before { pages.new.before ≡ pages.old.before }
+    ensures saved { pages.new.saved ≤ pages.old.saved + touched at size }
+    ensures rises { pages.old.saved ≤ pages.new.saved }
+    ensures past { IfOk result (λ done. is_some done ≡ false → pages.new.saved ≡ pages.old.saved) }
+    ensures idle { pages.old.before ≡ [] → pages.new.saved ≡ pages.old.saved }
+{
+    match place(pages.as_slice().len(), at, size) {
+        Some(at) => {
+            pages.fill(at, byte, size as usize)?;
             Ok(Some(()))
         }
         None => Ok(None),
@@ -100,7 +141,7 @@ fn grow(pages: &mut Pages, limit: u32, more: u64) -> Result<Option<u32>, NoMemor
     ensures saved { pages.new.saved ≡ pages.old.saved }
 {
     let old = pages.pages();
-    match place(limit as usize, more, old) {
+    match place(limit as usize, more, old as u64) {
         Some(more) => {
             pages.grow(more)?;
             Ok(Some(old as u32))
@@ -174,6 +215,31 @@ impl Store {
         self.stable.pages() as u32
     }
 
+    /// The bytes of memory.
+    pub fn memory(&self) -> &[u8]
+        ensures { result.now ≡ self.now.lists.memory }
+    {
+        self.memory.as_slice()
+    }
+
+    /// The bytes of stable memory.
+    pub fn stable(&self) -> &[u8]
+        ensures { result.now ≡ self.now.lists.stable }
+    {
+        self.stable.as_slice()
+    }
+
+    /// The most pages that memory may have: the declared maximum, and 256 at most.
+    pub fn page_limit(&self) -> u32
+        ensures limit { result ≡ page_limit self.now.lists.maximum }
+        ensures few { result ≤ 256 }
+    {
+        match self.maximum {
+            Some(most) => most.min(MOST_PAGES),
+            None => MOST_PAGES,
+        }
+    }
+
     /// The globals.
     pub fn globals(&self) -> &[u64]
         ensures { result.now ≡ self.now.lists.globals }
@@ -205,7 +271,7 @@ impl Store {
         ensures { result ≡ option_map (from_le_bytes w64) (part at size self.now.lists.memory) }
     {
         let bytes = self.memory.as_slice();
-        let at = place(bytes.len(), at, size as usize)?;
+        let at = place(bytes.len(), at, u64::from(size))?;
         Some(number(&bytes[at..at + size as usize]))
     }
 
@@ -218,6 +284,7 @@ impl Store {
         ensures refused { IfErr result (λ _. self.new.lists ≡ self.old.lists) }
         ensures begun { self.new.begun ≡ self.old.begun }
         ensures saved { self.new.saved ≤ self.old.saved + touched at size }
+        ensures rises { self.old.saved ≤ self.new.saved }
         ensures past { IfOk result (λ done. is_some done ≡ false → self.new.saved ≡ self.old.saved) }
     {
         self.copy_into(at, &value.to_le_bytes()[..size as usize])
@@ -238,9 +305,38 @@ impl Store {
         ensures refused { IfErr result (λ _. self.new.lists ≡ self.old.lists) }
         ensures begun { self.new.begun ≡ self.old.begun }
         ensures saved { self.new.saved ≤ self.old.saved + touched at (length bytes.now) }
+        ensures rises { self.old.saved ≤ self.new.saved }
         ensures past { IfOk result (λ done. is_some done ≡ false → self.new.saved ≡ self.old.saved) }
     {
         write(&mut self.memory, at, bytes)
+    }
+
+    /// Copies so many bytes of memory from one place to another, as if they were read first. None where
+    /// either passes its end, with no byte too; then nothing is written.
+    pub fn copy_within(&mut self, to: u64, from: u64, size: u64) -> Result<Option<()>, NoMemory>
+        ensures fits { IfOk result (λ done. is_some done ≡ is_some (moved to from size self.old.lists.memory)) }
+        ensures lists { IfOk result (λ _. self.new.lists ≡ record self.old.lists { memory = or_stays (moved to from size self.old.lists.memory) self.old.lists.memory }) }
+        ensures refused { IfErr result (λ _. self.new.lists ≡ self.old.lists) }
+        ensures begun { self.new.begun ≡ self.old.begun }
+        ensures saved { self.new.saved ≤ self.old.saved + touched to size }
+        ensures rises { self.old.saved ≤ self.new.saved }
+        ensures past { IfOk result (λ done. is_some done ≡ false → self.new.saved ≡ self.old.saved) }
+    {
+        copy(&mut self.memory, to, from, size)
+    }
+
+    /// Writes one byte to so many places of memory. None where they pass its end, with no byte too; then
+    /// nothing is written.
+    pub fn fill(&mut self, at: u64, byte: u8, size: u64) -> Result<Option<()>, NoMemory>
+        ensures fits { IfOk result (λ done. is_some done ≡ is_some (filled at byte size self.old.lists.memory)) }
+        ensures lists { IfOk result (λ _. self.new.lists ≡ record self.old.lists { memory = or_stays (filled at byte size self.old.lists.memory) self.old.lists.memory }) }
+        ensures refused { IfErr result (λ _. self.new.lists ≡ self.old.lists) }
+        ensures begun { self.new.begun ≡ self.old.begun }
+        ensures saved { self.new.saved ≤ self.old.saved + touched at size }
+        ensures rises { self.old.saved ≤ self.new.saved }
+        ensures past { IfOk result (λ done. is_some done ≡ false → self.new.saved ≡ self.old.saved) }
+    {
+        fill(&mut self.memory, at, byte, size)
     }
 
     /// Copies bytes of stable memory, as `copy_out` does of memory.
@@ -258,6 +354,7 @@ impl Store {
         ensures refused { IfErr result (λ _. self.new.lists ≡ self.old.lists) }
         ensures begun { self.new.begun ≡ self.old.begun }
         ensures saved { self.new.saved ≤ self.old.saved + touched at (length bytes.now) }
+        ensures rises { self.old.saved ≤ self.new.saved }
         ensures past { IfOk result (λ done. is_some done ≡ false → self.new.saved ≡ self.old.saved) }
     {
         write(&mut self.stable, at, bytes)
@@ -272,10 +369,7 @@ impl Store {
         ensures begun { self.new.begun ≡ self.old.begun }
         ensures saved { self.new.saved ≡ self.old.saved }
     {
-        let limit = match self.maximum {
-            Some(most) => most.min(MOST_PAGES),
-            None => MOST_PAGES,
-        };
+        let limit = self.page_limit();
         grow(&mut self.memory, limit, u64::from(pages))
     }
 
@@ -297,6 +391,8 @@ impl Store {
         ensures lists { self.new.lists ≡ self.old.lists }
         ensures begun { self.new.begun ≡ Some self.old.lists }
         ensures saved { self.new.saved ≡ 0 }
+        // So `undo` leads back to a store that is the same to its callers.
+        ensures idle { self.old.saved ≡ 0 }
     {
         self.first.copy_from_slice(self.globals.as_slice());
         self.memory.begin();
