@@ -1,5 +1,5 @@
 -- Numbers in little-endian bytes, and bytes written into bytes.
-use Rattle.std.proofs.Common.{◌≡◌, ℕ, zero, suc, ◌+◌, ◌-◌, ◌*◌, ◌/◌, ◌^◌, ◌<◌, ◌≤◌, ◌∙◌, inl, inr, Bool, true, false, nat_le, if◌then◌else◌, Some, None, List, [], ◌∷◌, ◌++◌, length, take, drop, length-append, length-drop, get_or, ap, sym, arith}
+use Rattle.std.proofs.Common.{◌≡◌, ℕ, zero, suc, ◌+◌, ◌-◌, ◌*◌, ◌/◌, ◌^◌, ◌<◌, ◌≤◌, ◌∙◌, inl, inr, Bool, true, false, nat_le, if◌then◌else◌, Some, None, List, [], ◌∷◌, ◌++◌, length, take, drop, get_or, ap, sym, arith}
 use Rattle.std.proofs.Math.Nat.{pow-suc, mul-le-mul_right}
 use Rattle.std.proofs.lemmas.Bool.{cases_lt}
 use Rattle.std.proofs.lemmas.List.{get_or_past, length-take}
@@ -15,6 +15,9 @@ use Rattle.wm_store.specs.Meaning.{number_at}
 
 abbrev pub AreBytes : List ℕ → Type 0
 AreBytes xs = All (λ b. b < 256) xs
+
+pub part_are : (at n : ℕ) (xs : List ℕ) → AreBytes xs → AreBytes (take n (drop at xs))
+part_are at n xs h = All-take (λ b. b < 256) n (drop at xs) (All-drop (λ b. b < 256) at xs h)
 
 byte_below : (xs : List ℕ) (i : ℕ) → AreBytes xs → get_or xs i 0 < 256
 byte_below xs i h = elim (cases_lt i (length xs)) [ inl p ↦ h i 0 p | inr p ↦ omega (arith, get_or_past xs i 0 p) ]
@@ -56,8 +59,7 @@ pub number_at_below : (size : ℕ) (extend : ℕ → ℕ) (at : ℕ) (memory : L
 number_at_below size extend at memory most few are keeps =
     let xs : List ℕ = take size (drop at memory) in
     let short : length xs ≤ size = omega (arith, length-take size (drop at memory)) in
-    let xs_are : AreBytes xs = All-take (λ b. b < 256) size (drop at memory) (All-drop (λ b. b < 256) at memory are) in
-    read_below (nat_le (at + size) (length memory)) xs extend most (keeps (from_le_bytes w64 xs) (number_below xs size few short xs_are))
+    read_below (nat_le (at + size) (length memory)) xs extend most (keeps (from_le_bytes w64 xs) (number_below xs size few short (part_are at size memory are)))
 
 -- ---- writing
 
@@ -65,18 +67,13 @@ byte_at_below : (i n : ℕ) → byte_at i n < 256
 byte_at_below zero n = mod_below n 256 (omega arith)
 byte_at_below (suc i) n = mod_below (n / 256 ^ suc i) 256 (omega arith)
 
-bytes_of_are : (i k n : ℕ) → AreBytes (bytes_low_first i k n)
+pub bytes_of_are : (i k n : ℕ) → AreBytes (bytes_low_first i k n)
 bytes_of_are i zero n = All-nil (λ b. b < 256)
 bytes_of_are i (suc k) n = All-cons (λ b. b < 256) (byte_at i n) (bytes_low_first (suc i) k n) (byte_at_below i n) (bytes_of_are (suc i) k n)
 
-pub over_are : (at k n : ℕ) (xs : List ℕ) → AreBytes xs → AreBytes (over at (bytes_low_first 0 k n) xs)
+pub over_are : (at : ℕ) (bytes xs : List ℕ) → AreBytes bytes → AreBytes xs → AreBytes (over at bytes xs)
 unfolding over
-over_are at k n xs h =
-    let bytes : List ℕ = bytes_low_first 0 k n in
+over_are at bytes xs are h =
     let rest : List ℕ = drop (at + length bytes) xs in
     All-append (λ b. b < 256) (take at xs) (bytes ++ rest) (All-take (λ b. b < 256) at xs h)
-    (All-append (λ b. b < 256) bytes rest (bytes_of_are 0 k n) (All-drop (λ b. b < 256) (at + length bytes) xs h))
-
-pub length-over : (at : ℕ) (bytes xs : List ℕ) → at + length bytes ≤ length xs → length (over at bytes xs) ≡ length xs
-unfolding over
-length-over at bytes xs h = simp (length-append, length-take, length-drop) (omega arith)
+    (All-append (λ b. b < 256) bytes rest are (All-drop (λ b. b < 256) (at + length bytes) xs h))
