@@ -1,5 +1,5 @@
 -- Small bodies, computed from the definitions.
-use Rattle.std.proofs.Common.{◌≡◌, ℕ, pos, Bool, true, false, List, [], ◌∷◌, Option, Some, None, refl, lit≤, map}
+use Rattle.std.proofs.Common.{◌≡◌, ℕ, pos, Bool, true, false, List, [], ◌∷◌, Option, Some, None, refl, lit≤}
 use Rattle.wm_tree.specs.declared.types.ValType.{ValType}
 use Rattle.wm_tree.specs.declared.types.ValType.TheVariants.{I32, I64}
 use Rattle.wm_tree.specs.declared.types.MemArg.{MemArg}
@@ -10,7 +10,7 @@ use Rattle.wm_typing.specs.declared.op.Op.TheVariants as op
 use Rattle.wm_typing.specs.Context.{Context}
 use Rattle.wm_typing.specs.Typed.{is_typed}
 use Rattle.wm_typing.specs.Nesting.{nesting}
-use Rattle.wm_typing.specs.Ops.{op_of}
+use Rattle.wm_typing.specs.Ops.{ops_of}
 use Rattle.wm_typing.specs.Runs.{frame_of, IsSound, branch, jump}
 
 -- a function () -> () with a local of type i64 in a module that has a memory, a table and a type (i32) -> i64
@@ -114,13 +114,14 @@ leaves_a_block : IsSound (record {
   words = i.Block (Some I32) ∷ i.LocalGet 0 ∷ one ∷ i.Br 0 ∷ i.End ∷ [];
   code = record {
     ops = op.Block ∷ op.LocalGet 0 ∷ op.I32Const (pos 1) ∷ op.Br ∷ op.End ∷ op.Finish ∷ [];
+    constants = [];
     entries = jump 0 ∷ jump 0 ∷ jump 0 ∷ branch 5 0 (Some I32) ∷ jump 0 ∷ [];
     arms = [];
     frame = frame_of (simple (Some I32)) 2;
   };
 })
 leaves_a_block = record {
-  ops = refl;
+  ops = record { ops_are = refl; constants_are = refl };
   entries = refl;
   fills = refl;
   frame = refl;
@@ -129,13 +130,17 @@ leaves_a_block = record {
 }
 
 -- a call of an imported function, and of the first defined one
-calls_run : map (op_of (simple None)) (i.Call 0 ∷ i.Call 1 ∷ []) ≡ op.CallHost 7 ∷ op.Call 0 ∷ []
+calls_run : ops_of (simple None) 0 (i.Call 0 ∷ i.Call 1 ∷ []) ≡ op.CallHost 7 ∷ op.Call 0 ∷ op.Finish ∷ []
 calls_run = refl
+
+-- each constant of 64 bits by its place
+constants_run : ops_of (simple None) 0 (i.I64Const (pos 5) ∷ i.Drop ∷ i.I64Const (pos 6) ∷ []) ≡ op.I64Const 0 ∷ op.Drop ∷ op.I64Const 1 ∷ op.Finish ∷ []
+constants_run = refl
 
 -- there is room for the result, though nothing gives it
 never_ends : IsSound (record {
   context = simple (Some I32);
   words = i.Unreachable ∷ [];
-  code = record { ops = op.Unreachable ∷ op.Finish ∷ []; entries = jump 0 ∷ []; arms = []; frame = frame_of (simple (Some I32)) 1 };
+  code = record { ops = op.Unreachable ∷ op.Finish ∷ []; constants = []; entries = jump 0 ∷ []; arms = []; frame = frame_of (simple (Some I32)) 1 };
 })
-never_ends = record { ops = refl; entries = refl; fills = refl; frame = refl; room = lit≤ tt; runs = (lit≤ tt, refl, tt) }
+never_ends = record { ops = record { ops_are = refl; constants_are = refl }; entries = refl; fills = refl; frame = refl; room = lit≤ tt; runs = (lit≤ tt, refl, tt) }
