@@ -1,14 +1,15 @@
-ghost use Rattle.std.specs.Prelude.{◌≡◌, ◌+◌, ◌^◌, ◌<◌, ◌≤◌, false, is_ok, IfOk, IfErr};
+ghost use Rattle.std.specs.Prelude.{◌≡◌, ◌+◌, ◌%◌, ◌^◌, ◌<◌, ◌≤◌, false, is_ok, IfOk, IfErr};
 ghost use Rattle.wm_numeric.specs.Integers.{extend_s};
 ghost use Rattle.wm_pages.specs.Ranges.{touched};
+ghost use Rattle.wm_store.specs.Lists.{moved, filled};
 ghost use Rattle.wm_store.specs.Meaning.{finished, memory_with, number_at, stored};
 
 use crate::store::Store;
 use ic_base::NoMemory;
 use wm_numeric::{Failure, int32, int64};
 
-/// Load and store instructions (WebAssembly Core 1.0, 4.4.4). The effective address is the sum of
-/// the operand and the offset, a whole number.
+/// Instructions that read or write memory (WebAssembly Core 1.0, 4.4.4; Core 2.0, 4.4.7). The effective
+/// address of a load or a store is the sum of the operand and the offset, a whole number.
 impl Store {
     /// A load of so many bytes that extends without a sign.
     #[inline(always)]
@@ -88,6 +89,48 @@ impl Store {
         ensures past { IfOk result (λ done. is_ok done ≡ false → self.new.saved ≡ self.old.saved) }
     {
         match self.save(address + u64::from(offset), size, value)? {
+            Some(()) => Ok(Ok(())),
+            None => Ok(Err(Failure::MemoryBounds)),
+        }
+    }
+
+    /// `memory.copy` (Core 2.0, 4.4.7).
+    #[inline(always)]
+    pub fn memory_copy(
+        &mut self,
+        to: u64,
+        from: u64,
+        size: u64,
+    ) -> Result<Result<(), Failure>, NoMemory>
+        ensures runs { IfOk result (λ done. finished done self.new.lists ≡ stored (moved to from size self.old.lists.memory) self.old.lists) }
+        ensures failed { IfOk result (λ done. IfErr done (λ _. self.new.lists ≡ self.old.lists)) }
+        ensures refused { IfErr result (λ _. self.new.lists ≡ self.old.lists) }
+        ensures begun { self.new.begun ≡ self.old.begun }
+        ensures saved { self.new.saved ≤ self.old.saved + touched to size }
+        ensures rises { self.old.saved ≤ self.new.saved }
+    {
+        match self.copy_within(to, from, size)? {
+            Some(()) => Ok(Ok(())),
+            None => Ok(Err(Failure::MemoryBounds)),
+        }
+    }
+
+    /// `memory.fill` (Core 2.0, 4.4.7), with the value's lowest byte.
+    #[inline(always)]
+    pub fn memory_fill(
+        &mut self,
+        at: u64,
+        value: u64,
+        size: u64,
+    ) -> Result<Result<(), Failure>, NoMemory>
+        ensures runs { IfOk result (λ done. finished done self.new.lists ≡ stored (filled at (value % 256) size self.old.lists.memory) self.old.lists) }
+        ensures failed { IfOk result (λ done. IfErr done (λ _. self.new.lists ≡ self.old.lists)) }
+        ensures refused { IfErr result (λ _. self.new.lists ≡ self.old.lists) }
+        ensures begun { self.new.begun ≡ self.old.begun }
+        ensures saved { self.new.saved ≤ self.old.saved + touched at size }
+        ensures rises { self.old.saved ≤ self.new.saved }
+    {
+        match self.fill(at, (value % 256) as u8, size)? {
             Some(()) => Ok(Ok(())),
             None => Ok(Err(Failure::MemoryBounds)),
         }
