@@ -32,14 +32,14 @@ abbrev pub KeptTo : {H : Type 0} → Change H → H → Lists → ℕ → After 
 KeptTo Kept h s used (Further t) = Kept h s used t.host t.store t.used
 KeptTo Kept h s used (Over o) = Kept h s used o.host o.store o.used
 
-same_after : {A : Type 0} (x y : A) → ◌≡◌ {A = Option A} (Some x) (Some y) → x ≡ y
+pub same_after : {A : Type 0} (x y : A) → ◌≡◌ {A = Option A} (Some x) (Some y) → x ≡ y
 same_after x y e = cc
 
-record Paid (limit used paid : ℕ) : Type 0 where
-  rises : used ≤ paid
-  within : used ≤ limit → paid ≤ limit
+pub record Paid (limit used paid : ℕ) : Type 0 where
+  pub rises : used ≤ paid
+  pub within : used ≤ limit → paid ≤ limit
 
-paid_so : {H : Type 0} (limit : ℕ) (s : State H) → Paid limit s.used (paid limit s)
+pub paid_so : {H : Type 0} (limit : ℕ) (s : State H) → Paid limit s.used (paid limit s)
 paid_so limit s = by_test (nat_lt limit (due s)) refl
   where
     by_test : (test : Bool) → nat_lt limit (due s) ≡ test → Paid limit s.used (cond test s.used (due s))
@@ -48,7 +48,7 @@ paid_so limit s = by_test (nat_lt limit (due s)) refl
         let fits = ltb-false limit (due s) e in
         record { rises = omega arith; within = λ _. fits }
 
-charged_stays : {H : Type 0} (m : Module) (limit : ℕ) (s : State H) → NextStays s.store (charged m limit s)
+pub charged_stays : {H : Type 0} (m : Module) (limit : ℕ) (s : State H) → NextStays s.store (charged m limit s)
 charged_stays m limit s = by_test (nat_lt limit (due s))
   where
     by_test : (test : Bool) → NextStays s.store (cond test (Traps trap.Limit) (reduce m s.store s.config s.config.frame.rest))
@@ -56,14 +56,14 @@ charged_stays m limit s = by_test (nat_lt limit (due s))
     by_test false = reduce_stays m s.store s.config s.config.frame.rest
 
 module _ {H : Type 0} (answers : Answers H) (limit : ℕ) (Kept : Change H) (k : IsKept answers limit Kept) where
-  alone_kept : (h : H) (s : Lists) (used spent : ℕ) (n : Next) (a : After H) → Paid limit used spent → NextStays s n → alone h s spent n ≡ Some a → KeptTo Kept h s used a
+  pub alone_kept : (h : H) (s : Lists) (used spent : ℕ) (n : Next) (a : After H) → Paid limit used spent → NextStays s n → alone h s spent n ≡ Some a → KeptTo Kept h s used a
   alone_kept h s used spent (Goes t c) a p on e = subst (KeptTo Kept h s used) (same_after _ a e) (k.reduced h s t used spent on p.rises p.within)
   alone_kept h s used spent (Asks import args result c) a p on e = absurd cc
   alone_kept h s used spent Ends a p on e = subst (KeptTo Kept h s used) (same_after _ a e) (k.reduced h s s used spent (stays s) p.rises p.within)
   alone_kept h s used spent (Traps t) a p on e = subst (KeptTo Kept h s used) (same_after _ a e) (k.reduced h s s used spent (stays s) p.rises p.within)
   alone_kept h s used spent Stuck a p on e = absurd cc
 
-  answered_kept : (h : H) (s : Lists) (used : ℕ) (h' : H) (t : Lists) (used' : ℕ) (c : Config) (result : Option ValType) (reply : HostAnswer) (a : After H)
+  pub answered_kept : (h : H) (s : Lists) (used : ℕ) (h' : H) (t : Lists) (used' : ℕ) (c : Config) (result : Option ValType) (reply : HostAnswer) (a : After H)
       → Kept h s used h' t used' → answered h' t used' c result reply ≡ Some a → KeptTo Kept h s used a
   answered_kept h s used h' t used' c None answer.Nothing a x e = subst (KeptTo Kept h s used) (same_after _ a e) x
   answered_kept h s used h' t used' c None (answer.Number n) a x e = absurd cc
@@ -106,7 +106,7 @@ found_stays m s env (found f) = entered_stays s f _ (function_at m f)
 found_stays m s env (refused t) = tt
 found_stays m s env missing = tt
 
-begins_stays : (m : Module) (s : Lists) (to : Target) → NextStays s (begins m s to)
+pub begins_stays : (m : Module) (s : Lists) (to : Target) → NextStays s (begins m s to)
 begins_stays m s (target.Function f) = entered_stays s f [] (function_at m f)
 begins_stays m s (target.Element i env) = found_stays m s env (look_up m s.table callback_type i)
 

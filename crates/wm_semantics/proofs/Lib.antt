@@ -18,4 +18,7 @@ pub mod NeverStuck
 pub mod Beginnings
 mod Stays
 pub mod Kept
+pub mod AlwaysKept
+pub mod Narrow
+pub mod Entries
 pub mod Paths

@@ -166,6 +166,10 @@ data Bounds (paid before : ℕ) (n : Next) : Type 0 where
 one_at_least : (s : Lists) (values : List Value) (i : Instr) → 1 ≤ cost_of s values i
 one_at_least s [] op.MemoryGrow = omega arith
 one_at_least s (v ∷ values) op.MemoryGrow = growth_one _ v.number
+one_at_least s [] op.MemoryCopy = omega arith
+one_at_least s (v ∷ values) op.MemoryCopy = omega arith
+one_at_least s [] op.MemoryFill = omega arith
+one_at_least s (v ∷ values) op.MemoryFill = omega arith
 one_at_least s values _ = omega arith
 
 reduce_bounds : (m : Module) (s : Lists) (c : Config) (rest : Seq) → Bounds (cost s c.frame.values rest) (size c) (r.reduce m s c rest)

@@ -36,11 +36,11 @@ use Rattle.wm_semantics.proofs.Operands.{same_type_is}
 
 -- ---- checks that passed
 
-or_none : {A : Type 0} (a b : Option A) → option_or a b ≡ None → (a ≡ None) × (b ≡ None)
+pub or_none : {A : Type 0} (a b : Option A) → option_or a b ≡ None → (a ≡ None) × (b ≡ None)
 or_none None b e = (refl, e)
 or_none (Some x) b e = absurd cc
 
-map_none : {A B : Type 0} (f : A → B) (o : Option A) → option_map f o ≡ None → o ≡ None
+pub map_none : {A B : Type 0} (f : A → B) (o : Option A) → option_map f o ≡ None → o ≡ None
 map_none f None e = refl
 map_none f (Some x) e = absurd cc
 

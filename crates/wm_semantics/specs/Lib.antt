@@ -9,6 +9,7 @@ pub mod Charges
 pub mod Steps
 pub mod Begin
 pub mod Fuel
+pub mod Entry
 pub mod Keeps
 pub mod Sound
 pub mod Instance

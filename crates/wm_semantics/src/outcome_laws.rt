@@ -7,6 +7,7 @@ ghost use Rattle.wm_store.specs.Lists.{Lists};
 ghost use Rattle.wm_semantics.specs.declared.target.Target.{Target};
 ghost use Rattle.wm_semantics.specs.Steps.{State, Outcome, Reaches, NeverStuck};
 ghost use Rattle.wm_semantics.specs.Begin.{Invokes, InvokesOn};
+ghost use Rattle.wm_semantics.specs.Entry.{Entered, Entry, entry};
 ghost use Rattle.wm_semantics.specs.Fuel.{HostOf, answers_of, IsFunctional, AgreesWith, Rises, run_for, measure, invoked};
 
 use crate::host::Host;
@@ -33,4 +34,14 @@ pub fn fuel_reaches<H>()
 pub fn some_outcome<H>()
     ensures runs { (reply : HostOf H) → Rises reply → (m : Module) (limit : ℕ) (s : State H) → NeverStuck (answers_of reply) m limit s → (o : Outcome H) × (run_for reply m limit (suc (measure limit s)) s ≡ Some o) × Reaches (answers_of reply) m limit s o }
     ensures targets { (reply : HostOf H) → Rises reply → (m : Module) (limit : ℕ) (h : H) (s : Lists) (used : ℕ) (target : Target) → InvokesOn (answers_of reply) m limit h s used target → (o : Outcome H) × (invoked reply m limit h s used target ≡ Some o) × Invokes (answers_of reply) m limit h s used target o }
+{}
+
+/// Where a function gives the host's answers, it gives the outcome of an entry.
+pub fn entry_is<H: Host>()
+    ensures { (reply : HostOf H) → Rises reply → AgreesWith reply H.answers → (m : Module) (s : Lists) (target : Target) (h : H) (limit spent : ℕ) (e : Entered H) → Entry H.answers m s target h limit spent e → entry reply m s target h limit spent ≡ e }
+{}
+
+/// What the function gives is the outcome of an entry that never gets stuck.
+pub fn entry_runs<H>()
+    ensures { (reply : HostOf H) → Rises reply → (m : Module) (s : Lists) (target : Target) (h : H) (limit spent : ℕ) → InvokesOn (answers_of reply) m limit h s spent target → Entry (answers_of reply) m s target h limit spent (entry reply m s target h limit spent) }
 {}
