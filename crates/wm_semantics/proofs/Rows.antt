@@ -1,12 +1,13 @@
 -- Small bodies, run by the definitions.
 use Rattle.std.proofs.Common.{◌≡◌, ℕ, pos, negsuc, ◌+◌, List, [], ◌∷◌, Option, Some, None, refl}
-use Rattle.std.specs.Prelude.{replicate, cond, nat_lt, length, option_map}
+use Rattle.std.specs.Prelude.{replicate, cond, nat_lt, length, take, option_map}
 use Rattle.wm_tree.specs.declared.instr.Instr.{Instr}
 use Rattle.wm_tree.specs.declared.instr.Instr.TheVariants as i
 use Rattle.wm_tree.specs.declared.parts.ImportKind.TheVariants as import
 use Rattle.wm_tree.specs.declared.parts.Module.{Module}
 use Rattle.wm_valid.specs.declared.system_api.SystemCall.TheVariants as api
 use Rattle.wm_valid.specs.SystemApi.{row_of}
+use Rattle.wm_pages.specs.Over.{over}
 use Rattle.wm_store.specs.Lists.{Lists}
 use Rattle.wm_semantics.specs.declared.trap.Trap.TheVariants as trap
 use Rattle.wm_semantics.specs.declared.target.Target.{Target}
@@ -187,3 +188,49 @@ reads_past = refl
 reads_last : reads_at 65532 ≡ Some (Returned, 3)
 unfolding reads_at
 reads_last = refl
+
+-- ---- sign extension, copy and fill
+
+-- the first bytes of memory behind a run on those bytes, how it ends and what it uses
+bytes_after : List ℕ → List Instr → ℕ → Option (List ℕ × Ended × ℕ)
+bytes_after memory body limit =
+    option_map (λ o. (take 8 o.store.memory, o.ended, o.used)) (invoked counting (small body) limit 0 (store memory) 0 (Function 1))
+
+extended : bytes_after (replicate 8 0) (i.I32Const (pos 0) ∷ i.I32Const (pos 128) ∷ i.I32Extend8S ∷ i.I32Store (record { align = 2; offset = 0 }) ∷ []) 4
+    ≡ Some (0x80 ∷ 0xFF ∷ 0xFF ∷ 0xFF ∷ 0 ∷ 0 ∷ 0 ∷ 0 ∷ [], Returned, 4)
+unfolding bytes_after over
+extended = refl
+
+filled_and_copied :
+    bytes_after (replicate 8 0) (i.I32Const (pos 0) ∷ i.I32Const (pos 171) ∷ i.I32Const (pos 4) ∷ i.MemoryFill ∷ i.I32Const (pos 2) ∷ i.I32Const (pos 0) ∷ i.I32Const (pos 4) ∷ i.MemoryCopy ∷ []) 16
+    ≡ Some (171 ∷ 171 ∷ 171 ∷ 171 ∷ 171 ∷ 171 ∷ 0 ∷ 0 ∷ [], Returned, 16)
+unfolding bytes_after over
+filled_and_copied = refl
+
+overlapping : bytes_after (1 ∷ 2 ∷ 3 ∷ 4 ∷ []) (i.I32Const (pos 1) ∷ i.I32Const (pos 0) ∷ i.I32Const (pos 3) ∷ i.MemoryCopy ∷ []) 7
+    ≡ Some (1 ∷ 1 ∷ 2 ∷ 3 ∷ [], Returned, 7)
+unfolding bytes_after over
+overlapping = refl
+
+-- a fill at that place, of so many bytes, in a page
+fills : ℕ → ℕ → ℕ → Option (Ended × ℕ)
+fills at size limit =
+    option_map (λ o. (o.ended, o.used))
+    (invoked counting (small (i.I32Const (pos at) ∷ i.I32Const (pos 7) ∷ i.I32Const (pos size) ∷ i.MemoryFill ∷ [])) limit 0 (store (replicate 65536 0)) 0 (Function 1))
+
+nothing_past_the_end : fills 65537 0 100 ≡ Some (Trapped trap.MemoryBounds, 4)
+unfolding fills
+nothing_past_the_end = refl
+
+nothing_at_the_end : fills 65536 0 100 ≡ Some (Returned, 4)
+unfolding fills
+nothing_at_the_end = refl
+
+fills_past_the_end : fills 65535 2 100 ≡ Some (Trapped trap.MemoryBounds, 6)
+unfolding fills
+fills_past_the_end = refl
+
+-- the size is charged before the end is looked at
+fill_not_paid : fills 65535 2 5 ≡ Some (Trapped trap.Limit, 3)
+unfolding fills
+fill_not_paid = refl
