@@ -16,6 +16,7 @@ pub data Form : Type 0 where
   by_type : (ℕ → Instr) → Form
   by_memory : (MemArg → Instr) → Form
   by_reserved : Instr → Form
+  by_prefix : List (ℕ × (ℕ × Instr)) → Form
   by_32 : (ℤ → Instr) → Form
   by_64 : (ℤ → Instr) → Form
 
@@ -90,6 +91,11 @@ plain_rows =
     (0xA7, op.I32WrapI64) ∷
     (0xAC, op.I64ExtendI32S) ∷
     (0xAD, op.I64ExtendI32U) ∷
+    (0xC0, op.I32Extend8S) ∷
+    (0xC1, op.I32Extend16S) ∷
+    (0xC2, op.I64Extend8S) ∷
+    (0xC3, op.I64Extend16S) ∷
+    (0xC4, op.I64Extend32S) ∷
     []
 
 -- loads and stores
@@ -116,6 +122,10 @@ memory_rows =
     (0x3E, op.I64Store32) ∷
     []
 
+-- behind the prefix FC: a number, the number of bytes 00 behind it, and the instruction
+abbrev pub prefix_rows : List (ℕ × (ℕ × Instr))
+prefix_rows = (10, (2, op.MemoryCopy)) ∷ (11, (1, op.MemoryFill)) ∷ []
+
 -- the others
 abbrev pub other_rows : List (ℕ × Form)
 other_rows =
@@ -136,6 +146,7 @@ other_rows =
     (0x40, by_reserved op.MemoryGrow) ∷
     (0x41, by_32 op.I32Const) ∷
     (0x42, by_64 op.I64Const) ∷
+    (0xFC, by_prefix prefix_rows) ∷
     []
 
 -- the first of two that is there

@@ -1,21 +1,30 @@
--- Instructions and expressions (WebAssembly Core 1.0, 5.4), by the table `row_of` of `wm_tree`.
-use Rattle.std.specs.Prelude.{◌≡◌, ℕ, Bool, true, List, [], ◌∷◌, ◌++◌, length, Option, Some, None, nat_eq, nat_le, ◌&&◌, ◌||◌, cond, ◌⊎◌}
+-- Instructions and expressions (WebAssembly Core 1.0, 5.4; Core 2.0, 5.4), by the table `row_of` of
+-- `wm_tree`.
+use Rattle.std.specs.Prelude.{◌≡◌, ℕ, Bool, true, List, [], ◌∷◌, ◌++◌, length, replicate, Option, Some, None, nat_eq, nat_le, ◌&&◌, ◌||◌, cond, ◌⊎◌}
 use Rattle.ic_base.specs.Spelling.{Spelling, SpellsMany}
 use Rattle.ic_leb.specs.declared.width.Width.TheVariants.{Wasm32, Wasm64}
 use Rattle.ic_leb.specs.Spells.{SpellsSigned}
 use Rattle.wm_tree.specs.declared.types.MemArg.{MemArg}
 use Rattle.wm_tree.specs.declared.instr.Instr.{Instr}
 use Rattle.wm_tree.specs.declared.instr.Instr.TheVariants as op
-use Rattle.wm_tree.specs.Row.{Operands, none, block, index, labels, type_index, memory, reserved, number32, number64, row_of}
+use Rattle.wm_tree.specs.Row.{Operands, none, block, index, labels, type_index, memory, reserved, prefixed, number32, number64, row_of}
 use Rattle.wm_tree.specs.Seq.{IsFlat}
 use Rattle.wm_decode.specs.declared.floats.FloatOperands.{FloatOperands}
 use Rattle.wm_decode.specs.declared.floats.FloatOperands.TheVariants as floating
 use Rattle.wm_decode.specs.Values.{SpellsU32, SpellsList, SpellsPair, After}
 use Rattle.wm_decode.specs.Types.{SpellsBlockType}
 
--- the byte 00, where later versions of the standard have an index
+-- the byte 00, where later versions of the standard have the memory's index
 abbrev pub SpellsZero : Spelling ℕ
 SpellsZero n bytes = (n ≡ 0) × (bytes ≡ 0x00 ∷ [])
+
+-- so many bytes 00
+abbrev pub SpellsZeros : Spelling ℕ
+SpellsZeros n bytes = bytes ≡ replicate n 0x00
+
+-- the index of the one table
+abbrev pub SpellsTable : Spelling ℕ
+SpellsTable n bytes = (n ≡ 0) × SpellsU32 n bytes
 
 -- an alignment and an offset
 abbrev pub SpellsMemArg : Spelling MemArg
@@ -27,9 +36,10 @@ SpellsOperands float none bytes = bytes ≡ []
 SpellsOperands float (block t) bytes = SpellsBlockType float t bytes
 SpellsOperands float (index n) bytes = SpellsU32 n bytes
 SpellsOperands float (labels ls l) bytes = SpellsPair (SpellsList SpellsU32) SpellsU32 (ls, l) bytes
-SpellsOperands float (type_index n) bytes = SpellsPair SpellsU32 SpellsZero (n, 0) bytes
+SpellsOperands float (type_index n) bytes = SpellsPair SpellsU32 SpellsTable (n, 0) bytes
 SpellsOperands float (memory m) bytes = SpellsMemArg m bytes
 SpellsOperands float reserved bytes = SpellsZero 0 bytes
+SpellsOperands float (prefixed n zeros) bytes = SpellsPair SpellsU32 SpellsZeros (n, zeros) bytes
 SpellsOperands float (number32 z) bytes = SpellsSigned Wasm32 z bytes
 SpellsOperands float (number64 z) bytes = SpellsSigned Wasm64 z bytes
 

@@ -1,5 +1,5 @@
--- Modules (WebAssembly Core 1.0, 5.5.2 to 5.5.15).
-use Rattle.std.specs.Prelude.{◌≡◌, ℕ, ◌<◌, Bool, List, [], ◌∷◌, ◌++◌, length, Option, Some, None, nat_eq, cond, ◌⊎◌}
+-- Modules (WebAssembly Core 1.0, 5.5.2 to 5.5.15; the data count section is that of Core 2.0, 5.5.16).
+use Rattle.std.specs.Prelude.{◌≡◌, ℕ, ◌<◌, Bool, List, [], ◌∷◌, ◌++◌, length, Option, Some, None, nat_eq, nat_le, cond, ◌⊎◌}
 use Rattle.ic_base.specs.Spelling.{Spelling, SpellsMany}
 use Rattle.wm_tree.specs.declared.parts.Module.{Module}
 use Rattle.wm_decode.specs.Values.{SpellsU32, SpellsList, SpellsBytes, SpellsName, After}
@@ -27,11 +27,16 @@ pub record IsCustom (s : Section) : Type 0 where
   pub whole : s.content ≡ front ++ rest
   pub named : SpellsName name front
 
--- custom sections anywhere, the ids of the others above the last one and below 12
+-- the place of the section of that id: 1 to 9, then 12 the data count, 10 the code, 11 the data; no
+-- other section has one
+abbrev pub place_of : ℕ → ℕ
+place_of id = cond (nat_le id 9) id (cond (nat_eq id 12) 10 (cond (nat_eq id 10) 11 (cond (nat_eq id 11) 12 0)))
+
+-- custom sections anywhere, the places of the others above the last one
 abbrev pub InOrder : ℕ → List Section → Type 0
 InOrder last [] = Unit {0}
 InOrder last (s ∷ sections) =
-    (IsCustom s × InOrder last sections) ⊎ ((last < s.id) × (s.id < 12) × InOrder s.id sections)
+    (IsCustom s × InOrder last sections) ⊎ ((last < place_of s.id) × InOrder (place_of s.id) sections)
 
 -- the content of the section of that id
 abbrev pub content_of : ℕ → List Section → Option (List ℕ)
@@ -47,6 +52,11 @@ Lists P items (Some content) = SpellsList P items content
 abbrev pub Starts : Option ℕ → Option (List ℕ) → Type 0
 Starts start None = start ≡ None
 Starts start (Some content) = (f : ℕ) × (start ≡ Some f) × SpellsU32 f content
+
+-- the data count section's content is the number of data segments
+abbrev pub Counts : ℕ → Option (List ℕ) → Type 0
+Counts n None = Unit {0}
+Counts n (Some content) = SpellsU32 n content
 
 -- the bytes are those of the module
 pub record Mod (float : Bool) (m : Module) (bytes : List ℕ) : Type 0 where
@@ -64,6 +74,7 @@ pub record Mod (float : Bool) (m : Module) (bytes : List ℕ) : Type 0 where
   pub exports : Lists SpellsExport m.exports (content_of 7 sections)
   pub start : Starts m.start (content_of 8 sections)
   pub elements : Lists (SpellsElement float) m.elements (content_of 9 sections)
+  pub count : Counts (length m.segments) (content_of 12 sections)
   pub codes : Lists (SpellsCode float) m.codes (content_of 10 sections)
   pub segments : Lists (SpellsSegment float) m.segments (content_of 11 sections)
   pub counts : length m.functions ≡ length m.codes

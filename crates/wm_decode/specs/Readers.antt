@@ -3,7 +3,7 @@ use Rattle.std.specs.Prelude.{ℕ, suc, zero, ◌^◌, Bool, true, false, List, 
 use Rattle.std.specs.List.{sum_by}
 use Rattle.std.specs.Str.{is_utf8}
 use Rattle.std.specs.Cmp.Lexicographic.{pointwise}
-use Rattle.ic_base.specs.Reader.{Reader, ◌>>=◌, byte_at, bytes_at, both_at, map_at, filter_map_at, filter_at, vec_at, whole, sized_at}
+use Rattle.ic_base.specs.Reader.{Reader, ◌>>=◌, empty_at, byte_at, bytes_at, both_at, map_at, filter_map_at, filter_at, vec_at, whole, sized_at}
 use Rattle.ic_leb.specs.declared.width.Width.TheVariants.{Wasm32, Wasm64}
 use Rattle.ic_leb.specs.Reading.{unsigned_reader, signed_reader}
 use Rattle.wm_tree.specs.declared.types.ValType.{ValType}
@@ -35,8 +35,8 @@ use Rattle.wm_decode.specs.declared.floats.FloatOperands.TheVariants as floating
 use Rattle.wm_decode.specs.Values.{lookup}
 use Rattle.wm_decode.specs.Types.{val_types, block_types, mutabilities}
 use Rattle.wm_decode.specs.Instructions.{float_operands}
-use Rattle.wm_decode.specs.Forms.{Form, plain, by_block, by_index, by_labels, by_type, by_memory, by_reserved, by_32, by_64, memory_rows, in_some, row_form}
-use Rattle.wm_decode.specs.Mod.{Section, magic, content_of}
+use Rattle.wm_decode.specs.Forms.{Form, plain, by_block, by_index, by_labels, by_type, by_memory, by_reserved, by_prefix, by_32, by_64, memory_rows, in_some, row_form}
+use Rattle.wm_decode.specs.Mod.{Section, magic, content_of, place_of}
 
 -- ---- values
 
@@ -101,8 +101,20 @@ global_type_at float = map_at (λ p. record { kind = p.0; mutable = p.1 }) (pair
 unfoldable pub zero_at : Reader ℕ
 zero_at = filter_at (λ b. nat_eq b 0) byte_at
 
+-- so many bytes 00
+abbrev pub zeros_at : ℕ → Reader ℕ
+zeros_at zero = empty_at 0
+zeros_at (suc n) = map_at (λ p. suc p.1) (pair_at zero_at (zeros_at n))
+
+unfoldable pub table_at : Reader ℕ
+table_at = filter_at (λ n. nat_eq n 0) u32_at
+
 unfoldable pub mem_arg_at : Reader MemArg
 mem_arg_at = map_at (λ p. record { align = p.0; offset = p.1 }) (pair_at u32_at u32_at)
+
+-- a number, and the bytes 00 that its row has behind it
+abbrev pub prefixed_at : List (ℕ × (ℕ × Instr)) → Reader Instr
+prefixed_at rows = map_at (λ p. p.0.1) (both_at (filter_map_at (λ n. lookup n rows) u32_at) (λ row. zeros_at row.0))
 
 -- an instruction of that form, behind its opcode
 abbrev pub instr_at : Bool → Form → Reader Instr
@@ -110,9 +122,10 @@ instr_at float (plain i) = λ bytes. Some (i, bytes)
 instr_at float (by_block f) = map_at f (block_type_at float)
 instr_at float (by_index f) = map_at f u32_at
 instr_at float (by_labels f) = map_at (λ p. f p.0 p.1) (pair_at (list_at u32_at) u32_at)
-instr_at float (by_type f) = map_at (λ p. f p.0) (pair_at u32_at zero_at)
+instr_at float (by_type f) = map_at (λ p. f p.0) (pair_at u32_at table_at)
 instr_at float (by_memory f) = map_at f mem_arg_at
 instr_at float (by_reserved i) = map_at (λ _. i) zero_at
+instr_at float (by_prefix rows) = prefixed_at rows
 instr_at float (by_32 f) = map_at f (signed_reader Wasm32)
 instr_at float (by_64 f) = map_at f (signed_reader Wasm64)
 
@@ -248,7 +261,7 @@ section_at = map_at (λ p. record { id = p.0; content = p.1 }) (pair_at byte_at 
 abbrev pub placed : (ℕ → List ℕ → Option (List Section)) → ℕ → Section → List ℕ → Option (List Section)
 placed more last s rest =
     cond (nat_eq s.id 0) (cond (is_some (name_at s.content)) (more last rest) None)
-    (cond (nat_lt last s.id && nat_lt s.id 12) (more s.id rest >>= λ sections. Some (s ∷ sections)) None)
+    (cond (nat_lt last (place_of s.id)) (more (place_of s.id) rest >>= λ sections. Some (s ∷ sections)) None)
 
 -- the sections that all of the bytes are, but the custom ones; at most n of them
 unfoldable pub sections_at : ℕ → ℕ → List ℕ → Option (List Section)
@@ -261,10 +274,15 @@ abbrev pub list_in : {A : Type 0} → Reader A → Option (List ℕ) → Option 
 list_in read None = Some []
 list_in read (Some content) = whole (list_at read) content
 
--- the start function that a content is
-abbrev pub start_in : Option (List ℕ) → Option (Option ℕ)
-start_in None = Some None
-start_in (Some content) = whole u32_at content >>= λ f. Some (Some f)
+-- the number that a content is, where there is one
+abbrev pub number_in : Option (List ℕ) → Option (Option ℕ)
+number_in None = Some None
+number_in (Some content) = whole u32_at content >>= λ n. Some (Some n)
+
+-- a number of data segments, where it is written, is theirs
+abbrev pub agrees : Option ℕ → ℕ → Bool
+agrees None n = true
+agrees (Some count) n = nat_eq count n
 
 -- the module of these sections
 unfoldable pub module_in : Bool → List Section → Option Module
@@ -276,11 +294,12 @@ module_in float sections = do
   memories ← list_in limits_at (content_of 5 sections)
   globals ← list_in (global_at float) (content_of 6 sections)
   exports ← list_in export_at (content_of 7 sections)
-  start ← start_in (content_of 8 sections)
+  start ← number_in (content_of 8 sections)
   elements ← list_in (element_at float) (content_of 9 sections)
+  count ← number_in (content_of 12 sections)
   codes ← list_in (code_at float) (content_of 10 sections)
   segments ← list_in (segment_at float) (content_of 11 sections)
-  cond (nat_eq (length functions) (length codes)) (Some (record {
+  cond (nat_eq (length functions) (length codes) && agrees count (length segments)) (Some (record {
     types = types;
     imports = imports;
     functions = functions;

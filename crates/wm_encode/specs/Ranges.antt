@@ -6,7 +6,7 @@ use Rattle.wm_tree.specs.declared.types.FuncType.{FuncType}
 use Rattle.wm_tree.specs.declared.types.Limits.{Limits}
 use Rattle.wm_tree.specs.declared.types.MemArg.{MemArg}
 use Rattle.wm_tree.specs.declared.instr.Instr.{Instr}
-use Rattle.wm_tree.specs.Row.{Operands, none, block, index, labels, type_index, memory, reserved, number32, number64, row_of}
+use Rattle.wm_tree.specs.Row.{Operands, none, block, index, labels, type_index, memory, reserved, prefixed, number32, number64, row_of}
 use Rattle.wm_tree.specs.declared.parts.ImportKind.{ImportKind}
 use Rattle.wm_tree.specs.declared.parts.ImportKind.TheVariants as imported
 use Rattle.wm_tree.specs.declared.parts.Import.{Import}
@@ -45,6 +45,7 @@ RangedOperands (labels ls l) = All Is32 ls × Is32 l
 RangedOperands (type_index n) = Is32 n
 RangedOperands (memory m) = RangedMemArg m
 RangedOperands reserved = Unit {0}
+RangedOperands (prefixed n zeros) = Is32 n
 RangedOperands (number32 z) = FitsSigned w32 z
 RangedOperands (number64 z) = FitsSigned w64 z
 

@@ -1,5 +1,5 @@
--- How modules are written (WebAssembly Core 1.0, 5.5.2 and 5.5.15): no custom section, no empty
--- section, each number in its shortest spelling.
+-- How modules are written (WebAssembly Core 1.0, 5.5.2 and 5.5.15): no custom section, no data count
+-- section, no empty section, each number in its shortest spelling.
 use Rattle.std.specs.Prelude.{ℕ, List, [], ◌∷◌, ◌++◌, Option, Some, None}
 use Rattle.std.specs.List.{flat_map}
 use Rattle.ic_leb.specs.Spelling.{unsigned_spelling}
