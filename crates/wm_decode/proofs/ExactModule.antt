@@ -12,8 +12,8 @@ use Rattle.wm_tree.specs.declared.parts.Module.{Module}
 use Rattle.wm_decode.specs.Values.{SpellsU32, SpellsPair, SpellsList, SpellsBytes, SpellsName}
 use Rattle.wm_decode.specs.Types.{SpellsFuncType, SpellsLimits, SpellsTableType}
 use Rattle.wm_decode.specs.Parts.{SpellsImport, SpellsGlobal, SpellsExport, SpellsElement, SpellsCode, SpellsSegment}
-use Rattle.wm_decode.specs.Mod.{magic, Section, SpellsSection, IsCustom, InOrder, content_of, Lists, Starts, Mod}
-use Rattle.wm_decode.specs.Readers.{u32_at, list_at, vec_bytes_at, name_at, pair_at, func_type_at, limits_at, table_type_at, import_at, global_at, export_at, element_at, code_at, segment_at, section_at, placed, sections_at, list_in, start_in, module_in, magic_at, module_at}
+use Rattle.wm_decode.specs.Mod.{magic, Section, SpellsSection, IsCustom, InOrder, place_of, content_of, Lists, Starts, Counts, Mod}
+use Rattle.wm_decode.specs.Readers.{u32_at, list_at, vec_bytes_at, name_at, pair_at, func_type_at, limits_at, table_type_at, import_at, global_at, export_at, element_at, code_at, segment_at, section_at, placed, sections_at, list_in, number_in, agrees, module_in, magic_at, module_at}
 use Rattle.wm_decode.proofs.ExactValues.{u32_exact, pair_exact, list_exact, carried, tested, vec_bytes_exact, name_exact}
 use Rattle.wm_decode.proofs.ExactTypes.{func_type_exact, limits_exact, table_type_exact}
 use Rattle.wm_decode.proofs.ExactParts.{import_exact, global_exact, export_exact, element_exact, code_exact, segment_exact}
@@ -49,6 +49,10 @@ content_of-kept id (s ∷ sections) above =
 named : (content : List ℕ) (name front rest : List ℕ) → content ≡ front ++ rest → SpellsName name front → is_some (name_at content) ≡ true
 named content name front rest whole_is p = rw (whole_is, name_exact.again name front rest p) refl
 
+-- a section that has a place is no custom one
+no_place : (last id : ℕ) → last < place_of id → id ≡ 0 → ⊥
+no_place last id above same = let below : last < 0 = subst (λ (n : ℕ). last < place_of n) same above in omega arith
+
 -- one section may stand here
 placed_again : (more : ℕ → List ℕ → Option (List Section)) (last : ℕ) (s : Section) (sections : List Section) (rest : List ℕ)
     → InOrder last (s ∷ sections) → ((next : ℕ) → InOrder next sections → more next rest ≡ Some (kept sections))
@@ -57,8 +61,8 @@ placed_again more last s sections rest (inl p) ih =
     let c = p.0 in
     rw (c.zero, named s.content c.name c.front c.rest c.whole c.named) (ih last p.1)
 placed_again more last s sections rest (inr p) ih =
-    let not_custom : nat_eq s.id 0 ≡ false = ne_eqb s.id 0 (λ same. omega arith) in
-    rw (not_custom, lt-ltb last s.id p.0, lt-ltb s.id 12 p.1, ih s.id p.2) refl
+    let not_custom : nat_eq s.id 0 ≡ false = ne_eqb s.id 0 (no_place last s.id p.0) in
+    rw (not_custom, lt-ltb last (place_of s.id) p.0, ih (place_of s.id) p.1) refl
 
 sections_again : (sections : List Section) (n last : ℕ) (bytes : List ℕ) → length sections ≤ n → SpellsMany SpellsSection sections bytes → InOrder last sections
     → sections_at n last bytes ≡ Some (kept sections)
@@ -100,7 +104,7 @@ placed_takes : (more : ℕ → List ℕ → Option (List Section)) (last : ℕ) 
     → placed more last s rest ≡ Some found → Cut last bytes found
 placed_takes more last s front bytes rest found parts p ih e =
     elim (nat_eq s.id 0) as (λ t. nat_eq s.id 0 ≡ t
-    → cond t (cond (is_some (name_at s.content)) (more last rest) None) (cond (nat_lt last s.id && nat_lt s.id 12) (more s.id rest >>= λ sections. Some (s ∷ sections)) None) ≡ Some found
+    → cond t (cond (is_some (name_at s.content)) (more last rest) None) (cond (nat_lt last (place_of s.id)) (more (place_of s.id) rest >>= λ sections. Some (s ∷ sections)) None) ≡ Some found
     → Cut last bytes found) [
       | true ↦ λ zero_id h.
           let g = tested (is_some (name_at s.content)) (more last rest) found h in
@@ -108,13 +112,13 @@ placed_takes more last s front bytes rest found parts p ih e =
           subst (λ t. Cut last bytes (cond t found (s ∷ found))) zero_id
           (cut_more last last s front bytes rest found parts p c (inl (custom s zero_id g.0, c.order)))
       | false ↦ λ other h.
-          let g = tested (nat_lt last s.id && nat_lt s.id 12) (more s.id rest >>= λ sections. Some (s ∷ sections)) found h in
-          let b = bind_some (more s.id rest) (λ sections. Some (s ∷ sections)) found g.1 in
-          let limits = both_true (nat_lt last s.id) (nat_lt s.id 12) g.0 in
+          let at = place_of s.id in
+          let g = tested (nat_lt last at) (more at rest >>= λ sections. Some (s ∷ sections)) found h in
+          let b = bind_some (more at rest) (λ sections. Some (s ∷ sections)) found g.1 in
           let found_is : s ∷ b.0 ≡ found = cc in
-          let c = ih s.id b.0 b.1 in
+          let c = ih at b.0 b.1 in
           subst (Cut last bytes) found_is (subst (λ t. Cut last bytes (cond t b.0 (s ∷ b.0))) other
-          (cut_more last s.id s front bytes rest b.0 parts p c (inr (ltb-true last s.id limits.0, ltb-true s.id 12 limits.1, c.order))))
+          (cut_more last at s front bytes rest b.0 parts p c (inr (ltb-true last at g.0, c.order))))
     ] refl e
 
 sections_takes : (n last : ℕ) (bytes : List ℕ) (found : List Section) → sections_at n last bytes ≡ Some found → Cut last bytes found
@@ -143,15 +147,26 @@ lists_takes : {A : Type 0} (P : Spelling A) (read : Reader A) → Exact P read �
 lists_takes {A} P read exact items None e = let items_are : items ≡ [] = cc in items_are
 lists_takes P read exact items (Some content) e = whole_takes (SpellsList P) (list_at read) (list_exact P read exact) items content e
 
-starts_again : (start : Option ℕ) (content : Option (List ℕ)) → Starts start content → start_in content ≡ Some start
+starts_again : (start : Option ℕ) (content : Option (List ℕ)) → Starts start content → number_in content ≡ Some start
 starts_again start None p = rw p refl
 starts_again start (Some content) p = rw (whole_again SpellsU32 u32_at u32_exact p.0 content p.2, p.1) refl
 
-starts_takes : (start : Option ℕ) (content : Option (List ℕ)) → start_in content ≡ Some start → Starts start content
+starts_takes : (start : Option ℕ) (content : Option (List ℕ)) → number_in content ≡ Some start → Starts start content
 starts_takes start None e = cc
 starts_takes start (Some content) e =
     let b = bind_some (whole u32_at content) (λ f. Some (Some f)) start e in
     (b.0, cc, whole_takes SpellsU32 u32_at u32_exact b.0 content b.1)
+
+counts_again : (n : ℕ) (content : Option (List ℕ)) → Counts n content → (count : Option ℕ) × (number_in content ≡ Some count) × (agrees count n ≡ true)
+counts_again n None p = (None, refl, refl)
+counts_again n (Some content) p = (Some n, rw (whole_again SpellsU32 u32_at u32_exact n content p) refl, eq-eqb n n refl)
+
+counts_takes : (n : ℕ) (content : Option (List ℕ)) (count : Option ℕ) → number_in content ≡ Some count → agrees count n ≡ true → Counts n content
+counts_takes n None count e same = tt
+counts_takes n (Some content) count e same =
+    let s = starts_takes count (Some content) e in
+    let n_is : s.0 ≡ n = eqb-true s.0 n (subst (λ (c : Option ℕ). agrees c n ≡ true) s.1 same) in
+    subst (λ (k : ℕ). SpellsU32 k content) n_is s.2
 
 -- ---- the module of the sections
 
@@ -166,26 +181,30 @@ pub record Contents (float : Bool) (m : Module) (sections : List Section) : Type
   pub exports : Lists SpellsExport m.exports (content_of 7 sections)
   pub start : Starts m.start (content_of 8 sections)
   pub elements : Lists (SpellsElement float) m.elements (content_of 9 sections)
+  pub count : Counts (length m.segments) (content_of 12 sections)
   pub codes : Lists (SpellsCode float) m.codes (content_of 10 sections)
   pub segments : Lists (SpellsSegment float) m.segments (content_of 11 sections)
   pub counts : length m.functions ≡ length m.codes
 
 contents_again : (float : Bool) (m : Module) (sections : List Section) → Contents float m sections → module_in float sections ≡ Some m
 unfolding module_in
-contents_again float m sections p = rw (
-  lists_again (SpellsFuncType float) (func_type_at float) (func_type_exact float) m.types (content_of 1 sections) p.types,
-  lists_again (SpellsImport float) (import_at float) (import_exact float) m.imports (content_of 2 sections) p.imports,
-  lists_again SpellsU32 u32_at u32_exact m.functions (content_of 3 sections) p.functions,
-  lists_again SpellsTableType table_type_at table_type_exact m.tables (content_of 4 sections) p.tables,
-  lists_again SpellsLimits limits_at limits_exact m.memories (content_of 5 sections) p.memories,
-  lists_again (SpellsGlobal float) (global_at float) (global_exact float) m.globals (content_of 6 sections) p.globals,
-  lists_again SpellsExport export_at export_exact m.exports (content_of 7 sections) p.exports,
-  starts_again m.start (content_of 8 sections) p.start,
-  lists_again (SpellsElement float) (element_at float) (element_exact float) m.elements (content_of 9 sections) p.elements,
-  lists_again (SpellsCode float) (code_at float) (code_exact float) m.codes (content_of 10 sections) p.codes,
-  lists_again (SpellsSegment float) (segment_at float) (segment_exact float) m.segments (content_of 11 sections) p.segments,
-  eq-eqb (length m.functions) (length m.codes) p.counts,
-) refl
+contents_again float m sections p =
+    let count = counts_again (length m.segments) (content_of 12 sections) p.count in rw (
+      lists_again (SpellsFuncType float) (func_type_at float) (func_type_exact float) m.types (content_of 1 sections) p.types,
+      lists_again (SpellsImport float) (import_at float) (import_exact float) m.imports (content_of 2 sections) p.imports,
+      lists_again SpellsU32 u32_at u32_exact m.functions (content_of 3 sections) p.functions,
+      lists_again SpellsTableType table_type_at table_type_exact m.tables (content_of 4 sections) p.tables,
+      lists_again SpellsLimits limits_at limits_exact m.memories (content_of 5 sections) p.memories,
+      lists_again (SpellsGlobal float) (global_at float) (global_exact float) m.globals (content_of 6 sections) p.globals,
+      lists_again SpellsExport export_at export_exact m.exports (content_of 7 sections) p.exports,
+      starts_again m.start (content_of 8 sections) p.start,
+      lists_again (SpellsElement float) (element_at float) (element_exact float) m.elements (content_of 9 sections) p.elements,
+      count.1,
+      lists_again (SpellsCode float) (code_at float) (code_exact float) m.codes (content_of 10 sections) p.codes,
+      lists_again (SpellsSegment float) (segment_at float) (segment_exact float) m.segments (content_of 11 sections) p.segments,
+      eq-eqb (length m.functions) (length m.codes) p.counts,
+      count.2,
+    ) refl
 
 contents_takes : (float : Bool) (m : Module) (sections : List Section) → module_in float sections ≡ Some m → Contents float m sections
 unfolding module_in
@@ -197,11 +216,13 @@ contents_takes float m sections e =
     let f = bind_some (list_in limits_at (content_of 5 sections)) _ m d.2 in
     let g = bind_some (list_in (global_at float) (content_of 6 sections)) _ m f.2 in
     let h = bind_some (list_in export_at (content_of 7 sections)) _ m g.2 in
-    let i = bind_some (start_in (content_of 8 sections)) _ m h.2 in
+    let i = bind_some (number_in (content_of 8 sections)) _ m h.2 in
     let j = bind_some (list_in (element_at float) (content_of 9 sections)) _ m i.2 in
-    let k = bind_some (list_in (code_at float) (content_of 10 sections)) _ m j.2 in
+    let n = bind_some (number_in (content_of 12 sections)) _ m j.2 in
+    let k = bind_some (list_in (code_at float) (content_of 10 sections)) _ m n.2 in
     let l = bind_some (list_in (segment_at float) (content_of 11 sections)) _ m k.2 in
-    let t = tested (nat_eq (length c.0) (length k.0)) _ m l.2 in
+    let t = tested (nat_eq (length c.0) (length k.0) && agrees n.0 (length l.0)) _ m l.2 in
+    let same = both_true (nat_eq (length c.0) (length k.0)) (agrees n.0 (length l.0)) t.0 in
     let m_is = some_is _ m t.1 in
     subst (λ x. Contents float x sections) m_is (record {
       types = lists_takes (SpellsFuncType float) (func_type_at float) (func_type_exact float) a.0 (content_of 1 sections) a.1;
@@ -213,9 +234,10 @@ contents_takes float m sections e =
       exports = lists_takes SpellsExport export_at export_exact h.0 (content_of 7 sections) h.1;
       start = starts_takes i.0 (content_of 8 sections) i.1;
       elements = lists_takes (SpellsElement float) (element_at float) (element_exact float) j.0 (content_of 9 sections) j.1;
+      count = counts_takes (length l.0) (content_of 12 sections) n.0 n.1 same.1;
       codes = lists_takes (SpellsCode float) (code_at float) (code_exact float) k.0 (content_of 10 sections) k.1;
       segments = lists_takes (SpellsSegment float) (segment_at float) (segment_exact float) l.0 (content_of 11 sections) l.1;
-      counts = eqb-true (length c.0) (length k.0) t.0;
+      counts = eqb-true (length c.0) (length k.0) same.0;
     })
 
 -- the custom sections give nothing
@@ -230,6 +252,7 @@ contents_kept float m sections p = record {
   exports = rw (content_of-kept 7 sections (lit< tt)) p.exports;
   start = rw (content_of-kept 8 sections (lit< tt)) p.start;
   elements = rw (content_of-kept 9 sections (lit< tt)) p.elements;
+  count = rw (content_of-kept 12 sections (lit< tt)) p.count;
   codes = rw (content_of-kept 10 sections (lit< tt)) p.codes;
   segments = rw (content_of-kept 11 sections (lit< tt)) p.segments;
   counts = p.counts;
@@ -261,6 +284,7 @@ module_again float m bytes p =
       exports = p.exports;
       start = p.start;
       elements = p.elements;
+      count = p.count;
       codes = p.codes;
       segments = p.segments;
       counts = p.counts;
@@ -295,6 +319,7 @@ module_takes float m bytes e =
       exports = rw (same 7 (lit< tt)) p.exports;
       start = rw (same 8 (lit< tt)) p.start;
       elements = rw (same 9 (lit< tt)) p.elements;
+      count = rw (same 12 (lit< tt)) p.count;
       codes = rw (same 10 (lit< tt)) p.codes;
       segments = rw (same 11 (lit< tt)) p.segments;
       counts = p.counts;

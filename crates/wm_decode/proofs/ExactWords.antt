@@ -1,26 +1,26 @@
 -- Instructions and expressions are read exactly.
-use Rattle.std.proofs.Common.{◌≡◌, ℕ, Bool, true, false, List, [], ◌∷◌, length, Option, Some, None, nat_eq, refl, sym, ap, subst, ◌∙◌, inl, inr}
+use Rattle.std.proofs.Common.{◌≡◌, ℕ, Bool, true, false, List, [], ◌∷◌, ◌++◌, length, replicate, suc, zero, Option, Some, None, nat_eq, refl, sym, ap, subst, ◌∙◌, inl, inr}
 use Rattle.std.specs.List.{AllByRecursion}
 use Rattle.std.proofs.lemmas.Bool.{eqb-true}
-use Rattle.ic_base.specs.Reader.{byte_at, bytes_at}
-use Rattle.ic_base.specs.Spelling.{Spelling}
+use Rattle.ic_base.specs.Reader.{Reader, byte_at, bytes_at, both_at, filter_map_at}
+use Rattle.ic_base.specs.Spelling.{Spelling, SpellsBoth}
 use Rattle.ic_base.specs.Exact.{Exact}
 use Rattle.ic_base.proofs.Steps.{bind_some}
-use Rattle.ic_base.proofs.Exact.{exact_of, taken, reworded, byte_exact, bytes_exact, empty_exact, map_exact, filter_exact}
+use Rattle.ic_base.proofs.Exact.{exact_of, taken, reworded, byte_exact, bytes_exact, empty_exact, both_exact, map_exact, filter_exact, filter_map_exact}
 use Rattle.ic_leb.specs.declared.width.Width.TheVariants.{Wasm32, Wasm64}
 use Rattle.ic_leb.specs.Spells.{SpellsSigned}
 use Rattle.ic_leb.specs.Reading.{signed_reader}
 use Rattle.wm_tree.specs.declared.types.MemArg.{MemArg}
 use Rattle.wm_tree.specs.declared.instr.Instr.{Instr}
 use Rattle.wm_tree.specs.declared.instr.Instr.TheVariants as op
-use Rattle.wm_tree.specs.Row.{Operands, none, block, index, labels, type_index, memory, reserved, number32, number64, row_of}
+use Rattle.wm_tree.specs.Row.{Operands, none, block, index, labels, type_index, memory, reserved, prefixed, number32, number64, row_of}
 use Rattle.wm_decode.specs.declared.floats.FloatOperands.{FloatOperands}
 use Rattle.wm_decode.specs.declared.floats.FloatOperands.TheVariants as floating
 use Rattle.wm_decode.specs.Values.{SpellsU32, SpellsPair, SpellsList, After, lookup}
 use Rattle.wm_decode.specs.Types.{SpellsBlockType}
-use Rattle.wm_decode.specs.Instructions.{SpellsZero, SpellsMemArg, SpellsOperands, float_operands, SpellsFloatOperands, SpellsWord}
-use Rattle.wm_decode.specs.Forms.{Form, plain, by_block, by_index, by_labels, by_type, by_memory, by_reserved, by_32, by_64, plain_rows, memory_rows, other_rows, row_form, operand_form, or_else, in_some}
-use Rattle.wm_decode.specs.Readers.{u32_at, pair_at, list_at, block_type_at, zero_at, mem_arg_at, instr_at, float_at, floats, behind_at, word_at}
+use Rattle.wm_decode.specs.Instructions.{SpellsZero, SpellsZeros, SpellsTable, SpellsMemArg, SpellsOperands, float_operands, SpellsFloatOperands, SpellsWord}
+use Rattle.wm_decode.specs.Forms.{Form, plain, by_block, by_index, by_labels, by_type, by_memory, by_reserved, by_prefix, by_32, by_64, plain_rows, memory_rows, other_rows, row_form, operand_form, or_else, in_some}
+use Rattle.wm_decode.specs.Readers.{u32_at, pair_at, list_at, block_type_at, zero_at, zeros_at, table_at, mem_arg_at, instr_at, float_at, floats, behind_at, word_at}
 use Rattle.ic_leb.proofs.Readers.{signed_exact}
 use Rattle.wm_decode.proofs.ExactValues.{u32_exact, pair_exact, list_exact, carried, found_in, first_byte}
 use Rattle.wm_decode.proofs.ExactTypes.{block_type_exact}
@@ -33,6 +33,34 @@ zero_exact =
     (λ n bytes p. let n_is : n ≡ 0 = eqb-true n 0 p.0 in (n_is, p.1 ∙ ap (λ (b : ℕ). b ∷ []) n_is))
     (filter_exact (λ b bytes. bytes ≡ b ∷ []) byte_at (λ b. nat_eq b 0) byte_exact)
 
+zeros_exact : (n : ℕ) → Exact (λ k bytes. (k ≡ n) × SpellsZeros k bytes) (zeros_at n)
+zeros_exact zero =
+    reworded (λ k bytes. (0 ≡ k) × (bytes ≡ [])) (λ k bytes. (k ≡ 0) × SpellsZeros k bytes) (zeros_at 0)
+    (λ k bytes p. (sym p.0, p.1 ∙ ap (λ (m : ℕ). replicate m 0x00) p.0))
+    (λ k bytes p. (sym p.0, p.1 ∙ ap (λ (m : ℕ). replicate m 0x00) p.0))
+    (empty_exact 0)
+zeros_exact (suc n) =
+    let Before : Spelling ℕ = λ k bytes. (k ≡ n) × SpellsZeros k bytes in
+    reworded (λ k bytes. (p : ℕ × ℕ) × (suc p.1 ≡ k) × SpellsPair SpellsZero Before p bytes) (λ k bytes. (k ≡ suc n) × SpellsZeros k bytes) (zeros_at (suc n))
+    (λ k bytes p. (
+      (0, n),
+      sym p.0,
+      record { front = 0x00 ∷ []; rest = replicate n 0x00; whole = p.1 ∙ ap (λ (m : ℕ). replicate m 0x00) p.0; first = (refl, refl); second = (refl, refl) },
+    ))
+    (λ k bytes p. (
+      sym p.1 ∙ ap suc p.2.second.0,
+      p.2.whole ∙ ap (λ (f : List ℕ). f ++ p.2.rest) p.2.first.1 ∙ ap (λ (r : List ℕ). 0x00 ∷ r) p.2.second.1 ∙ ap (λ (m : ℕ). replicate m 0x00) p.1,
+    ))
+    (map_exact (SpellsPair SpellsZero Before) (pair_at zero_at (zeros_at n)) (λ p. suc p.1) (pair_exact SpellsZero Before zero_at (zeros_at n) zero_exact (zeros_exact n)))
+
+table_exact : Exact SpellsTable table_at
+unfolding table_at
+table_exact =
+    reworded (λ n bytes. (nat_eq n 0 ≡ true) × SpellsU32 n bytes) SpellsTable table_at
+    (λ n bytes p. (rw p.0 refl, p.1))
+    (λ n bytes p. (eqb-true n 0 p.0, p.1))
+    (filter_exact SpellsU32 u32_at (λ n. nat_eq n 0) u32_exact)
+
 pub mem_arg_exact : Exact SpellsMemArg mem_arg_at
 unfolding mem_arg_at
 mem_arg_exact =
@@ -41,15 +69,23 @@ mem_arg_exact =
 
 -- ---- forms
 
+-- a number that has a row, and the bytes 00 behind it
+abbrev SpellsRow : List (ℕ × (ℕ × Instr)) → Spelling (ℕ × Instr)
+SpellsRow rows row bytes = (n : ℕ) × (lookup n rows ≡ Some row) × SpellsU32 n bytes
+
+abbrev ZerosOf : ℕ × Instr → Spelling ℕ
+ZerosOf row n bytes = (n ≡ row.0) × SpellsZeros n bytes
+
 -- the bytes behind the opcode spell the instruction, by its form
 abbrev pub Formed : Bool → Form → Spelling Instr
 Formed float (plain j) i bytes = (j ≡ i) × (bytes ≡ [])
 Formed float (by_block f) i bytes = (t : _) × (f t ≡ i) × SpellsBlockType float t bytes
 Formed float (by_index f) i bytes = (n : ℕ) × (f n ≡ i) × SpellsU32 n bytes
 Formed float (by_labels f) i bytes = (p : List ℕ × ℕ) × (f p.0 p.1 ≡ i) × SpellsPair (SpellsList SpellsU32) SpellsU32 p bytes
-Formed float (by_type f) i bytes = (p : ℕ × ℕ) × (f p.0 ≡ i) × SpellsPair SpellsU32 SpellsZero p bytes
+Formed float (by_type f) i bytes = (p : ℕ × ℕ) × (f p.0 ≡ i) × SpellsPair SpellsU32 SpellsTable p bytes
 Formed float (by_memory f) i bytes = (m : MemArg) × (f m ≡ i) × SpellsMemArg m bytes
 Formed float (by_reserved j) i bytes = (n : ℕ) × (j ≡ i) × SpellsZero n bytes
+Formed float (by_prefix rows) i bytes = (p : (ℕ × Instr) × ℕ) × (p.0.1 ≡ i) × SpellsBoth (SpellsRow rows) ZerosOf p bytes
 Formed float (by_32 f) i bytes = (z : _) × (f z ≡ i) × SpellsSigned Wasm32 z bytes
 Formed float (by_64 f) i bytes = (z : _) × (f z ≡ i) × SpellsSigned Wasm64 z bytes
 
@@ -61,9 +97,14 @@ formed_exact float (by_labels f) =
     map_exact (SpellsPair (SpellsList SpellsU32) SpellsU32) (pair_at (list_at u32_at) u32_at) (λ p. f p.0 p.1)
     (pair_exact (SpellsList SpellsU32) SpellsU32 (list_at u32_at) u32_at (list_exact SpellsU32 u32_at u32_exact) u32_exact)
 formed_exact float (by_type f) =
-    map_exact (SpellsPair SpellsU32 SpellsZero) (pair_at u32_at zero_at) (λ p. f p.0) (pair_exact SpellsU32 SpellsZero u32_at zero_at u32_exact zero_exact)
+    map_exact (SpellsPair SpellsU32 SpellsTable) (pair_at u32_at table_at) (λ p. f p.0) (pair_exact SpellsU32 SpellsTable u32_at table_at u32_exact table_exact)
 formed_exact float (by_memory f) = map_exact SpellsMemArg mem_arg_at f mem_arg_exact
 formed_exact float (by_reserved i) = map_exact SpellsZero zero_at (λ _. i) zero_exact
+formed_exact float (by_prefix rows) =
+    let read_row : Reader (ℕ × Instr) = filter_map_at (λ n. lookup n rows) u32_at in
+    map_exact (SpellsBoth (SpellsRow rows) ZerosOf) (both_at read_row (λ row. zeros_at row.0)) (λ p. p.0.1)
+    (both_exact (SpellsRow rows) ZerosOf read_row (λ row. zeros_at row.0)
+    (filter_map_exact SpellsU32 u32_at (λ n. lookup n rows) u32_exact) (λ row. zeros_exact row.0))
 formed_exact float (by_32 f) = map_exact (SpellsSigned Wasm32) (signed_reader Wasm32) f (signed_exact Wasm32)
 formed_exact float (by_64 f) = map_exact (SpellsSigned Wasm64) (signed_reader Wasm64) f (signed_exact Wasm64)
 
@@ -78,6 +119,7 @@ Makes (by_labels f) (labels ls l) i = f ls l ≡ i
 Makes (by_type f) (type_index n) i = f n ≡ i
 Makes (by_memory f) (memory m) i = f m ≡ i
 Makes (by_reserved j) reserved i = j ≡ i
+Makes (by_prefix rows) (prefixed n zeros) i = lookup n rows ≡ Some (zeros, i)
 Makes (by_32 f) (number32 z) i = f z ≡ i
 Makes (by_64 f) (number64 z) i = f z ≡ i
 Makes _ _ i = ⊥
@@ -100,9 +142,15 @@ formed_of float (by_labels f) (labels ls l) i bytes m s = ((ls, l), m, s)
 formed_of float (by_type f) (type_index n) i bytes m s = ((n, 0), m, s)
 formed_of float (by_memory f) (memory x) i bytes m s = (x, m, s)
 formed_of float (by_reserved j) reserved i bytes m s = (0, m, s)
+formed_of float (by_prefix rows) (prefixed n zeros) i bytes m s =
+    (((zeros, i), zeros), refl, record { front = s.front; rest = s.rest; whole = s.whole; first = (n, m, s.first); second = (refl, s.second) })
 formed_of float (by_32 f) (number32 z) i bytes m s = (z, m, s)
 formed_of float (by_64 f) (number64 z) i bytes m s = (z, m, s)
 formed_of float _ _ i bytes m s = absurd m
+
+-- a row behind the prefix is that of its instruction
+abbrev PrefixFits : ℕ → ℕ → ℕ × Instr → Type 0
+PrefixFits o n row = ((row_of row.1).opcode ≡ o) × ((row_of row.1).operands ≡ prefixed n row.0)
 
 -- a row of the forms is the row of the instruction that is made
 abbrev RowFits : ℕ → Form → Type 0
@@ -113,6 +161,7 @@ RowFits o (by_labels f) = (ls : List ℕ) (l : ℕ) → ((row_of (f ls l)).opcod
 RowFits o (by_type f) = (n : ℕ) → ((row_of (f n)).opcode ≡ o) × ((row_of (f n)).operands ≡ type_index n)
 RowFits o (by_memory f) = (m : MemArg) → ((row_of (f m)).opcode ≡ o) × ((row_of (f m)).operands ≡ memory m)
 RowFits o (by_reserved i) = ((row_of i).opcode ≡ o) × ((row_of i).operands ≡ reserved)
+RowFits o (by_prefix rows) = AllByRecursion (λ r. PrefixFits o r.0 r.1) rows
 RowFits o (by_32 f) = (z : _) → ((row_of (f z)).opcode ≡ o) × ((row_of (f z)).operands ≡ number32 z)
 RowFits o (by_64 f) = (z : _) → ((row_of (f z)).opcode ≡ o) × ((row_of (f z)).operands ≡ number64 z)
 
@@ -150,10 +199,15 @@ word_of float o (by_index f) i bytes fit p = rw (sym p.1) ((fit p.0).0, rw ((fit
 word_of float o (by_labels f) i bytes fit p = rw (sym p.1) ((fit p.0.0 p.0.1).0, rw ((fit p.0.0 p.0.1).1) p.2)
 word_of float o (by_type f) i bytes fit p = rw (sym p.1) ((fit p.0.0).0, rw ((fit p.0.0).1) (zero_second p.0.0 p.0.1 bytes p.2))
   where
-    zero_second : (n z : ℕ) (bytes : List ℕ) → SpellsPair SpellsU32 SpellsZero (n, z) bytes → SpellsPair SpellsU32 SpellsZero (n, 0) bytes
-    zero_second n z bytes q = subst (λ (k : ℕ). SpellsPair SpellsU32 SpellsZero (n, k) bytes) q.second.0 q
+    zero_second : (n z : ℕ) (bytes : List ℕ) → SpellsPair SpellsU32 SpellsTable (n, z) bytes → SpellsPair SpellsU32 SpellsTable (n, 0) bytes
+    zero_second n z bytes q = subst (λ (k : ℕ). SpellsPair SpellsU32 SpellsTable (n, k) bytes) q.second.0 q
 word_of float o (by_memory f) i bytes fit p = rw (sym p.1) ((fit p.0).0, rw ((fit p.0).1) p.2)
 word_of float o (by_reserved j) i bytes fit p = rw (sym p.1) (fit.0, rw fit.1 (refl, p.2.1))
+word_of float o (by_prefix rows) i bytes fit p =
+    let s = p.2 in
+    let found = found_in (PrefixFits o) rows fit s.first.0 p.0.0 s.first.1 in
+    let zeros : SpellsZeros p.0.0.0 s.rest = s.second.1 ∙ ap (λ (m : ℕ). replicate m 0x00) s.second.0 in
+    rw (sym p.1) (found.0, rw found.1 (record { front = s.front; rest = s.rest; whole = s.whole; first = s.first.2; second = zeros }))
 word_of float o (by_32 f) i bytes fit p = rw (sym p.1) ((fit p.0).0, rw ((fit p.0).1) p.2)
 word_of float o (by_64 f) i bytes fit p = rw (sym p.1) ((fit p.0).0, rw ((fit p.0).1) p.2)
 

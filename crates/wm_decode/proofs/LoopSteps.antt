@@ -1,5 +1,5 @@
 -- What a turn of a loop does to what is still to be read.
-use Rattle.std.proofs.Common.{◌≡◌, ℕ, suc, ◌+◌, ◌-◌, ◌<◌, ◌≤◌, Bool, true, false, List, [], ◌∷◌, ◌++◌, length, Option, Some, None, nat_eq, nat_lt, ◌&&◌, refl, sym, ap, ◌∙◌, ◌⊎◌, inl, inr, append_assoc, arith, eq-eqb}
+use Rattle.std.proofs.Common.{◌≡◌, ℕ, suc, ◌+◌, ◌-◌, ◌<◌, ◌≤◌, Bool, true, false, List, [], ◌∷◌, ◌++◌, length, Option, Some, None, nat_eq, refl, sym, ap, ◌∙◌, append_assoc, arith, eq-eqb}
 use Rattle.std.proofs.lemmas.Bool.{eqb-true, ne_eqb, lt-ltb, le-ltb}
 use Rattle.std.proofs.lemmas.List.{append-nil}
 use Rattle.ic_base.specs.declared.read_error.ReadError.{ReadError}
@@ -9,7 +9,7 @@ use Rattle.ic_base.specs.Gives.{Fails}
 use Rattle.ic_base.proofs.Loops.{with_front}
 use Rattle.wm_tree.specs.declared.instr.Instr.{Instr}
 use Rattle.wm_tree.specs.Row.{row_of}
-use Rattle.wm_decode.specs.Mod.{Section}
+use Rattle.wm_decode.specs.Mod.{Section, place_of}
 use Rattle.wm_decode.specs.Readers.{name_at, section_at, placed, sections_at, word_at, done, on, wrong, follow, onward, words_at}
 
 -- ---- sections
@@ -79,21 +79,17 @@ regrouped front s (Some sections) = ap (λ (all : List Section). Some all) (sym 
 regrouped front s None = refl
 
 pub one_section : (front : List Section) (count i last : ℕ) (rest : List ℕ) (total : Option (List Section)) (s : Section) (after : List ℕ) → i < count → nat_eq (length rest) 0 ≡ false
-    → section_at rest ≡ Some (s, after) → last < s.id → s.id < 12 → and_sections front (sections_at (count - i) last rest) ≡ total
-    → and_sections (front ++ s ∷ []) (sections_at (count - (i + 1)) s.id after) ≡ total
-one_section front count i last rest total s after below some read above small so_far =
-    let step : placed (sections_at (count - (i + 1))) last s after ≡ (sections_at (count - (i + 1)) s.id after >>= λ sections. Some (s ∷ sections)) =
-    rw (ne_eqb s.id 0 (λ same. omega arith), lt-ltb last s.id above, lt-ltb s.id 12 small) refl in
-    sym (regrouped front s (sections_at (count - (i + 1)) s.id after)) ∙ ap (and_sections front) (sym step) ∙ behind front count i last rest total s after below some read so_far
-
-out_of_order : (last id : ℕ) → (id ≤ last) ⊎ (12 ≤ id) → (nat_lt last id && nat_lt id 12) ≡ false
-out_of_order last id (inl low) = rw (le-ltb last id low) refl
-out_of_order last id (inr high) = elim (nat_lt last id) as (λ b. (b && nat_lt id 12) ≡ false) [ true ↦ le-ltb id 12 high | false ↦ refl ]
+    → section_at rest ≡ Some (s, after) → (s.id ≡ 0 → ⊥) → last < place_of s.id → and_sections front (sections_at (count - i) last rest) ≡ total
+    → and_sections (front ++ s ∷ []) (sections_at (count - (i + 1)) (place_of s.id) after) ≡ total
+one_section front count i last rest total s after below some read no_custom above so_far =
+    let step : placed (sections_at (count - (i + 1))) last s after ≡ (sections_at (count - (i + 1)) (place_of s.id) after >>= λ sections. Some (s ∷ sections)) =
+    rw (ne_eqb s.id 0 no_custom, lt-ltb last (place_of s.id) above) refl in
+    sym (regrouped front s (sections_at (count - (i + 1)) (place_of s.id) after)) ∙ ap (and_sections front) (sym step) ∙ behind front count i last rest total s after below some read so_far
 
 pub misplaced : (front : List Section) (count i last : ℕ) (rest : List ℕ) (total : Option (List Section)) (s : Section) (after : List ℕ) → i < count → nat_eq (length rest) 0 ≡ false
-    → section_at rest ≡ Some (s, after) → (s.id ≡ 0 → ⊥) → (s.id ≤ last) ⊎ (12 ≤ s.id) → and_sections front (sections_at (count - i) last rest) ≡ total → total ≡ None
-misplaced front count i last rest total s after below some read no_custom wrong_id so_far =
-    let step : and_sections front (placed (sections_at (count - (i + 1))) last s after) ≡ None = rw (ne_eqb s.id 0 no_custom, out_of_order last s.id wrong_id) refl in
+    → section_at rest ≡ Some (s, after) → (s.id ≡ 0 → ⊥) → place_of s.id ≤ last → and_sections front (sections_at (count - i) last rest) ≡ total → total ≡ None
+misplaced front count i last rest total s after below some read no_custom low so_far =
+    let step : and_sections front (placed (sections_at (count - (i + 1))) last s after) ≡ None = rw (ne_eqb s.id 0 no_custom, le-ltb last (place_of s.id) low) refl in
     sym (behind front count i last rest total s after below some read so_far) ∙ step
 
 -- ---- words

@@ -4,11 +4,11 @@ ghost use Rattle.wm_tree.specs.IsModule.{IsModule};
 ghost use Rattle.wm_tree.specs.declared.parts.Module.{Module as AModule};
 ghost use Rattle.wm_decode.specs.Answer.{IsPlain, IsCompressed, RefusedAs, Comes};
 ghost use Rattle.wm_decode.specs.Mod.{Mod};
-ghost use Rattle.wm_decode.specs.Readers.{module_in, module_at};
+ghost use Rattle.wm_decode.specs.Readers.{agrees, module_in, module_at};
 
 use crate::fault::ModuleFault;
 use crate::profile::Profile;
-use crate::sections::{Section, after_magic, list_of, sections, start_of};
+use crate::sections::{Section, after_magic, list_of, number_of, sections};
 use crate::types::InTable;
 use ic_base::ReadError;
 use std::alloc::Global;
@@ -19,6 +19,16 @@ use wm_tree::{
 
 /// The largest number of bytes of a module.
 const LARGEST: usize = 2_097_152;
+
+/// Whether the number of data segments, where it is written, is theirs.
+fn is_counted(count: Option<u32>, segments: usize) -> bool
+    ensures { result ≡ agrees count segments }
+{
+    match count {
+        Some(count) => count as usize == segments,
+        None => true,
+    }
+}
 
 /// Reads the module of these sections.
 #[tactic(auto, unfolding(crate::specs::Readers::module_in))]
@@ -32,11 +42,12 @@ fn module_of(alloc: Global, profile: Profile, sections: &[Section]) -> Result<Mo
     let memories = list_of(alloc, &profile, sections, 5)?;
     let globals = list_of(alloc, &profile, sections, 6)?;
     let exports = list_of(alloc, &profile, sections, 7)?;
-    let start = start_of(sections)?;
+    let start = number_of(sections, 8)?;
     let elements = list_of(alloc, &profile, sections, 9)?;
+    let count = number_of(sections, 12)?;
     let codes = list_of(alloc, &profile, sections, 10)?;
     let segments = list_of(alloc, &profile, sections, 11)?;
-    if functions.len() != codes.len() {
+    if functions.len() != codes.len() || !is_counted(count, segments.len()) {
         return Err(ReadError::Refused);
     }
     Ok(Module {
@@ -85,8 +96,9 @@ fn refusal(alloc: Global, bytes: &[u8]) -> ModuleFault
     }
 }
 
-/// Reads a WebAssembly module (Core 1.0, chapter 5) of at most 2,097,152 bytes. Names are UTF-8,
-/// numbers may be padded, and custom sections are not kept. The faults are tried in the order of
+/// Reads a WebAssembly module (Core 1.0, chapter 5) of at most 2,097,152 bytes, with the sign
+/// extensions, `memory.copy`, `memory.fill` and the data count section of Core 2.0. Names are UTF-8,
+/// numbers may be padded, and neither custom sections nor the data count are kept. The faults are tried in the order of
 /// `ModuleFault`. Time and memory grow with the bytes, whatever counts and sizes they claim, and
 /// blocks may nest to any depth.
 pub fn decode(alloc: Global, bytes: &[u8]) -> Result<Module, ModuleFault>

@@ -1,4 +1,5 @@
-//! Reading WebAssembly modules (Core 1.0, chapter 5).
+//! Reading WebAssembly modules (Core 1.0, chapter 5; of Core 2.0 the sign extensions, `memory.copy`,
+//! `memory.fill` and the data count section).
 //!
 //! `decode` accepts exactly the binary grammar (`specs/Mod`), in a profile without floats: each
 //! module has one reading, and a module with floats is told from bytes that are no module. What is

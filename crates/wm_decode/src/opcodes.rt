@@ -78,6 +78,11 @@ pub(crate) fn plain(opcode: u8) -> Option<Instr>
         0xA7 => Some(Instr::I32WrapI64),
         0xAC => Some(Instr::I64ExtendI32S),
         0xAD => Some(Instr::I64ExtendI32U),
+        0xC0 => Some(Instr::I32Extend8S),
+        0xC1 => Some(Instr::I32Extend16S),
+        0xC2 => Some(Instr::I64Extend8S),
+        0xC3 => Some(Instr::I64Extend16S),
+        0xC4 => Some(Instr::I64Extend32S),
         _ => None,
     }
 }

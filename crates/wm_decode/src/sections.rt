@@ -1,7 +1,7 @@
 ghost use Rattle.std.specs.Prelude.{◌≡◌, length, None, Some, MatchOption};
 ghost use Rattle.ic_base.specs.Gives.{Gives};
-ghost use Rattle.wm_decode.specs.Mod.{content_of};
-ghost use Rattle.wm_decode.specs.Readers.{list_in, start_in, section_at, sections_at, magic_at};
+ghost use Rattle.wm_decode.specs.Mod.{content_of, place_of};
+ghost use Rattle.wm_decode.specs.Readers.{list_in, number_in, section_at, sections_at, magic_at};
 
 use crate::profile::Profile;
 use crate::values::{byte, list, number, text, vec_bytes};
@@ -45,6 +45,19 @@ fn read_section(bytes: &[u8]) -> Result<(Section, &[u8]), ReadError>
     Ok((Section { id, content }, rest))
 }
 
+/// The place of the section of that id, 0 where none has it (Core 2.0, 5.5.16).
+fn place(id: u8) -> u8
+    ensures { result ≡ place_of id }
+{
+    match id {
+        0..=9 => id,
+        12 => 10,
+        10 => 11,
+        11 => 12,
+        _ => 0,
+    }
+}
+
 /// The sections that the bytes are, but the custom ones, whose names alone are looked at.
 pub(crate) fn sections(alloc: Global, bytes: &[u8]) -> Result<Vec<Section>, ReadError>
     ensures { Gives (λ found. found.items) result (sections_at (length bytes.now) 0 bytes.now) }
@@ -58,10 +71,11 @@ pub(crate) fn sections(alloc: Global, bytes: &[u8]) -> Result<Vec<Section>, Read
         }
         let (section, after) = read_section(rest)?;
         rest = after;
+        let at = place(section.id);
         if section.id == 0 {
             text(section.content)?;
-        } else if last < section.id && section.id < 12 {
-            last = section.id;
+        } else if last < at {
+            last = at;
             found.push(section)?;
         } else {
             return Err(ReadError::Refused);
@@ -108,16 +122,16 @@ pub(crate) fn list_of<C, T: Item<C>>(
     }
 }
 
-/// Reads the start function.
-pub(crate) fn start_of(sections: &[Section]) -> Result<Option<u32>, ReadError>
-    ensures { Gives (λ start. start) result (start_in (content_of 8 sections.now)) }
+/// Reads the number that is the section of that id, where there is one.
+pub(crate) fn number_of(sections: &[Section], id: u8) -> Result<Option<u32>, ReadError>
+    ensures { Gives (λ n. n) result (number_in (content_of id sections.now)) }
 {
-    match content(sections, 8) {
+    match content(sections, id) {
         None => Ok(None),
         Some(content) => {
-            let (function, rest) = number(content)?;
+            let (n, rest) = number(content)?;
             if rest.is_empty() {
-                Ok(Some(function))
+                Ok(Some(n))
             } else {
                 Err(ReadError::Refused)
             }

@@ -2,8 +2,8 @@ ghost use Rattle.std.specs.Prelude.{ℕ, None};
 ghost use Rattle.ic_base.specs.Gives.{Gives};
 ghost use Rattle.ic_leb.specs.declared.width.Width.TheVariants as width;
 ghost use Rattle.ic_leb.specs.Reading.{signed_reader};
-ghost use Rattle.wm_decode.specs.Forms.{operand_form};
-ghost use Rattle.wm_decode.specs.Readers.{zero_at, mem_arg_at, memory_at, behind_at, float_at, word_at};
+ghost use Rattle.wm_decode.specs.Forms.{operand_form, prefix_rows};
+ghost use Rattle.wm_decode.specs.Readers.{zero_at, table_at, prefixed_at, mem_arg_at, memory_at, behind_at, float_at, word_at};
 
 use crate::floats::{FloatOperands, admitted};
 use crate::opcodes::{access, plain};
@@ -23,6 +23,19 @@ fn zero(bytes: &[u8]) -> Result<(u8, &[u8]), ReadError>
     let (code, rest) = byte(bytes)?;
     if code == 0x00 {
         Ok((code, rest))
+    } else {
+        Err(ReadError::Refused)
+    }
+}
+
+/// Reads the index of the one table.
+#[tactic(auto, unfolding(crate::specs::Readers::table_at))]
+fn table(bytes: &[u8]) -> Result<(u32, &[u8]), ReadError>
+    ensures { Gives (λ x. (x.0, x.1.now)) result (table_at bytes.now) }
+{
+    let (index, rest) = number(bytes)?;
+    if index == 0 {
+        Ok((index, rest))
     } else {
         Err(ReadError::Refused)
     }
@@ -75,6 +88,25 @@ fn accessed(opcode: u8, bytes: &[u8]) -> Result<(Instr, &[u8]), ReadError>
     }
 }
 
+/// Reads what follows the prefix FC.
+fn prefixed(bytes: &[u8]) -> Result<(Instr, &[u8]), ReadError>
+    ensures { Gives (λ x. (x.0, x.1.now)) result (prefixed_at prefix_rows bytes.now) }
+{
+    let (opcode, rest) = number(bytes)?;
+    match opcode {
+        10 => {
+            let (_to, rest) = zero(rest)?;
+            let (_from, rest) = zero(rest)?;
+            Ok((Instr::MemoryCopy, rest))
+        }
+        11 => {
+            let (_zero, rest) = zero(rest)?;
+            Ok((Instr::MemoryFill, rest))
+        }
+        _ => Err(ReadError::Refused),
+    }
+}
+
 /// Reads what follows an opcode that has operands.
 fn with_operands(
     alloc: Global,
@@ -112,7 +144,7 @@ fn with_operands(
         }
         0x11 => {
             let (kind, rest) = number(bytes)?;
-            let (_zero, rest) = zero(rest)?;
+            let (_table, rest) = table(rest)?;
             Ok((Instr::CallIndirect(kind), rest))
         }
         0x20 => {
@@ -151,6 +183,7 @@ fn with_operands(
             let (n, rest) = signed_64(bytes)?;
             Ok((Instr::I64Const(n), rest))
         }
+        0xFC => prefixed(bytes),
         _ => accessed(opcode, bytes),
     }
 }

@@ -1,10 +1,10 @@
-use Rattle.std.proofs.Common.{◌≡◌, ℕ, ◌+◌, ◌-◌, ◌<◌, ◌≤◌, ◌⊎◌, inl, inr, ◌∙◌, sym, ap, subst, length, [], ◌∷◌, ◌++◌}
+use Rattle.std.proofs.Common.{◌≡◌, ℕ, ◌+◌, ◌-◌, ◌<◌, ◌≤◌, ◌∙◌, sym, ap, subst, length, [], ◌∷◌, ◌++◌}
 use Rattle.std.proofs.lemmas.Result.{err_from_is_err_and}
 use Rattle.ic_base.specs.Gives.{Fails}
-use Rattle.wm_decode.specs.Mod.{Section}
+use Rattle.wm_decode.specs.Mod.{Section, place_of}
 use Rattle.wm_decode.specs.Readers.{name_at, sections_at}
 use Rattle.wm_decode.proofs.LoopSteps.{and_sections, no_more, too_many, no_section, unnamed, passed_over, one_section, misplaced}
-use Rattle.wm_decode.proofs.sections.sections.Goals.{then-section-eq0+in_ok-text, else-section-eq0+then-last-section+then-section-lt12+in_ok-push, else-last-section-via-then-last-section+else-section-lt12, else-last-section-via-else-last-section}
+use Rattle.wm_decode.proofs.sections.sections.Goals.{then-section-eq0+in_ok-text, else-section-eq0+then-last-at+in_ok-push}
 use Rattle.wm_decode.proofs.sections.sections.Goals as goal
 
 pub returns-then-is_empty : goal.returns-then-is_empty
@@ -25,17 +25,13 @@ returns-in_err-text c =
     (sym c.is_empty.ensures ∙ c.if-is_empty.false) c.in_ok-section.ensures custom
     (subst (λ (x : Section). Fails c.in_err-text.field-0.0 (name_at x.content)) c.section.view_is c.in_err-text.ensures) c.loop.invariant)
 
-pub returns-else-last-section : goal.returns-else-last-section
-returns-else-last-section c =
+pub returns-else-last-at : goal.returns-else-last-at
+returns-else-last-at c =
     let s = c.in_ok-section.section in
     let same : c.section.inside.id ≡ s.id = ap (λ (x : Section). x.id) c.section.view_is in
-    let wrong_id : (s.id ≤ c.loop.last) ⊎ (12 ≤ s.id) =
-    elim c.else-last-section.branch [
-      | else-last-section-via-then-last-section+else-section-lt12 w ↦ inr (subst (λ (n : ℕ). 12 ≤ n) same w.if-section-lt12.false)
-      | else-last-section-via-else-last-section w ↦ inl (subst (λ (n : ℕ). n ≤ c.loop.last) same w.if-last-section.false)
-    ] in
+    let low = subst (λ (n : ℕ). n ≤ c.loop.last) (c.place-at.ensures ∙ ap place_of same) c.if-last-at.false in
     misplaced c.loop.found.items (length c.args.bytes.now) c.loop.counter c.loop.last c.loop.rest.now _ s c.in_ok-section.after.now c.loop-test.true
-    (sym c.is_empty.ensures ∙ c.if-is_empty.false) c.in_ok-section.ensures (λ zero. c.if-section-eq0.false (same ∙ zero)) wrong_id c.loop.invariant
+    (sym c.is_empty.ensures ∙ c.if-is_empty.false) c.in_ok-section.ensures (λ zero. c.if-section-eq0.false (same ∙ zero)) low c.loop.invariant
 
 pub loop-preserved : goal.loop-preserved
 loop-preserved c =
@@ -47,12 +43,13 @@ loop-preserved c =
           rw (w.found-is, w.last-is)
           (passed_over c.loop.found.items (length c.args.bytes.now) c.loop.counter c.loop.last c.loop.rest.now _ s c.in_ok-section.after.now _ c.loop-test.true some
           c.in_ok-section.ensures (sym same ∙ w.if-section-eq0.true) (sym (ap (λ (x : Section). name_at x.content) c.section.view_is) ∙ w.in_ok-text.ensures) c.loop.invariant)
-      | else-section-eq0+then-last-section+then-section-lt12+in_ok-push w ↦
+      | else-section-eq0+then-last-at+in_ok-push w ↦
+          let at_is = c.place-at.ensures ∙ ap place_of same in
           rw (w.found-is, w.last-is, w.in_ok-push.ensures.items)
           (subst (λ (n : ℕ). and_sections (c.loop.found.items ++ s ∷ []) (sections_at (length c.args.bytes.now - (c.loop.counter + 1)) n c.in_ok-section.after.now)
-          ≡ sections_at (length c.args.bytes.now) 0 c.args.bytes.now) (sym same)
+          ≡ sections_at (length c.args.bytes.now) 0 c.args.bytes.now) (sym at_is)
           (one_section c.loop.found.items (length c.args.bytes.now) c.loop.counter c.loop.last c.loop.rest.now _ s c.in_ok-section.after.now c.loop-test.true some
-          c.in_ok-section.ensures (subst (λ (n : ℕ). c.loop.last < n) same w.if-last-section.true) (subst (λ (n : ℕ). n < 12) same w.if-section-lt12.true) c.loop.invariant))
+          c.in_ok-section.ensures (λ zero. w.if-section-eq0.false (same ∙ zero)) (subst (λ (n : ℕ). c.loop.last < n) at_is w.if-last-at.true) c.loop.invariant))
     ]
 
 pub returns-then-is_empty-2 : goal.returns-then-is_empty-2
