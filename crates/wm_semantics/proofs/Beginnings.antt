@@ -42,7 +42,7 @@ abbrev pub call_body : Module → ℕ → FuncType → Body
 call_body m f t = record {
   context = context_with m None [];
   words = op.Call f ∷ [];
-  code = record { ops = []; entries = []; arms = []; frame = frame_of (context_with m None []) (room_of t) };
+  code = record { ops = []; constants = []; entries = []; arms = []; frame = frame_of (context_with m None []) (room_of t) };
 }
 
 type_out : (m : Module) (f : ℕ) (t : FuncType) → type_of m f ≡ Some t → typing.type_of (context_with m None []) f ≡ Some t
