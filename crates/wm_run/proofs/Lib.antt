@@ -4,6 +4,8 @@ mod Frames
 mod Paying
 mod Advance
 mod Words
+mod OpsAt
+mod Topmost
 mod RowArms
 mod ControlArms
 mod BlockArms
@@ -18,6 +20,7 @@ mod Calling
 mod Leaving
 mod Asking
 mod Growing
+mod Ranging
 mod Hosting
 mod Looking
 mod Loop

@@ -1,5 +1,6 @@
 pub mod Words
 pub mod Turns
+pub mod Ranges
 pub mod Stacks
 pub mod Agree
 pub mod Activations

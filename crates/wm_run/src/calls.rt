@@ -3,12 +3,14 @@ ghost use Rattle.wm_typing.specs.declared.op.Op.TheVariants as op;
 ghost use Rattle.wm_typing.specs.FlatCode.{FlatCode as Flat};
 ghost use Rattle.wm_store.specs.Lists.{Lists};
 ghost use Rattle.wm_semantics.specs.Configs.{Config};
+ghost use Rattle.wm_semantics.specs.Reduce.{trap_of};
 ghost use Rattle.wm_run.specs.Agree.{none_answers, alone_at};
 ghost use Rattle.wm_run.specs.Activations.{CanEnter, Entered, IsRoom, Stopped, Follows, Pays, trapped_by};
 
 use crate::activation::{Activation, Next};
 use crate::stack::lay;
 use ic_base::NoMemory;
+use wm_numeric::Failure;
 use wm_semantics::{Ended, Meter, Trap};
 use wm_typing::{FlatCode, Frame};
 use wm_valid::Valid;
@@ -37,6 +39,17 @@ pub(crate) fn trapped(trap: Trap) -> Next
     ensures { result ≡ trapped_by trap }
 {
     Next::Over(Ended::Trapped(trap))
+}
+
+/// The trap of an instruction that fails.
+pub(crate) fn trap_of(failure: Failure) -> Trap
+    ensures { result ≡ trap_of failure }
+{
+    match failure {
+        Failure::DivideByZero => Trap::DivideByZero,
+        Failure::Overflow => Trap::Overflow,
+        Failure::MemoryBounds => Trap::MemoryBounds,
+    }
 }
 
 /// Enters a defined function, whose arguments are the topmost operands.

@@ -1,7 +1,7 @@
 ghost use Rattle.std.specs.Prelude.{◌≡◌, ◌+◌, ◌≤◌, ◌<◌, ◌^◌, List, nat_le, cond, IfOk};
 ghost use Rattle.wm_typing.specs.declared.op.Op.TheVariants as op;
 ghost use Rattle.wm_store.specs.Lists.{page_limit, grown};
-ghost use Rattle.wm_store.specs.Fits.{maximum_of};
+ghost use Rattle.wm_valid.specs.IsValid.{Validated};
 ghost use Rattle.wm_semantics.specs.Configs.{Config};
 ghost use Rattle.wm_run.specs.declared.activation.Activation.{Activation as Active};
 ghost use Rattle.wm_run.specs.Agree.{none_answers, alone_at};
@@ -13,30 +13,6 @@ use crate::stack::{replace_topmost, topmost};
 use ic_base::NoMemory;
 use wm_semantics::{Meter, Trap};
 use wm_store::Store;
-use wm_tree::Limits;
-use wm_valid::Valid;
-
-/// The most pages of a memory, whatever maximum is declared.
-const MOST_PAGES: u32 = 256;
-
-/// The most pages of the memory.
-fn page_limit(memories: &[Limits]) -> u32
-    ensures { result ≡ page_limit (maximum_of memories.now) }
-{
-    match memories {
-        [] => MOST_PAGES,
-        [first, ..] => match first.max {
-            Some(most) => most.min(MOST_PAGES),
-            None => MOST_PAGES,
-        },
-    }
-}
-
-fn most_pages(valid: &Valid) -> u32
-    ensures { result ≡ page_limit (maximum_of valid.now.«module».memories) }
-{
-    page_limit(&valid.module().memories.items)
-}
 
 /// What it costs to let a memory grow: 1 a page, where it may grow so far, and 1.
 fn growth_cost(pages: u32, most: u32, more: u32) -> u128
@@ -63,23 +39,22 @@ fn grow_memory(store: &mut Store, more: u32) -> Result<u64, NoMemory>
 
 /// Does what `memory.grow` does. Where there is no memory for it, the charge is made already.
 pub(crate) fn grow(
-    valid: &Valid,
     stack: &mut Vec<u64>,
     store: &mut Store,
     meter: &mut Meter,
     here: Activation,
 ) -> Result<Next, NoMemory>
-    requires stopped { (callers : List Active) × (c : Config) × Stopped valid.now here callers stack.old.items store.old.lists meter.old.used c op.MemoryGrow }
+    requires stopped { (v : Validated) × (callers : List Active) × (c : Config) × Stopped v here callers stack.old.items store.old.lists meter.old.used c op.MemoryGrow }
     requires short { here.place < 2 ^ 63 }
-    ensures follows { IfOk result (λ next. (callers : List Active) (c : Config) → Stopped valid.now here callers stack.old.items store.old.lists meter.old.used c op.MemoryGrow
-        → Follows none_answers valid.now meter.old.limit (alone_at store.old.lists meter.old.used c) next callers stack.new.items tt store.new.lists meter.new.used) }
+    ensures follows { IfOk result (λ next. (v : Validated) (callers : List Active) (c : Config) → Stopped v here callers stack.old.items store.old.lists meter.old.used c op.MemoryGrow
+        → Follows none_answers v meter.old.limit (alone_at store.old.lists meter.old.used c) next callers stack.new.items tt store.new.lists meter.new.used) }
     ensures begun { store.new.begun ≡ store.old.begun }
     ensures limit { meter.new.limit ≡ meter.old.limit }
     ensures paid { IfOk result (λ next. Pays next meter.old.used meter.new.used) }
     ensures rises { meter.old.used ≤ meter.new.used }
 {
     let more = topmost(stack.as_slice(), here.top) as u32;
-    if !meter.charge(growth_cost(store.pages(), most_pages(valid), more)) {
+    if !meter.charge(growth_cost(store.pages(), store.page_limit(), more)) {
         return Ok(trapped(Trap::Limit));
     }
     let number = grow_memory(store, more)?;

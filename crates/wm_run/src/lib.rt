@@ -11,6 +11,7 @@ mod hosts;
 mod indirect;
 mod invocation;
 mod machine;
+mod ranges;
 mod returns;
 mod spot;
 mod stack;
@@ -18,7 +19,7 @@ mod table;
 mod turn;
 mod word;
 
-pub use entry::entry_target;
+pub use entry::{entry_target, start_target};
 pub use invocation::invoke;
 pub use wm_instance::{InstanceFault, instantiate};
 pub use wm_semantics::{Ended, Host, HostAnswer, Meter, Target, Trap};
