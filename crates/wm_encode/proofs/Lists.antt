@@ -1,5 +1,5 @@
 -- Lists whose items are spelled one after the other.
-use Rattle.std.proofs.Common.{◌≡◌, ℕ, ◌+◌, ◌<◌, ◌≤◌, ◌^◌, List, [], ◌∷◌, ◌++◌, length, refl, length-append, arith}
+use Rattle.std.proofs.Common.{ℕ, ◌<◌, ◌≤◌, ◌^◌, List, [], ◌∷◌, ◌++◌, length, refl, length-append, arith}
 use Rattle.std.specs.List.{AllByRecursion, flat_map}
 use Rattle.ic_base.specs.Spelling.{Spelling, SpellsMany}
 use Rattle.ic_leb.specs.declared.width.Width.TheVariants.{Wasm32}

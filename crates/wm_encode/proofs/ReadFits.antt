@@ -1,6 +1,6 @@
 -- What was read can be written.
-use Rattle.std.proofs.Common.{◌≡◌, ℕ, ◌+◌, ◌<◌, ◌≤◌, ◌^◌, Bool, true, false, List, [], ◌∷◌, ◌++◌, length, Option, Some, None, refl, sym, subst, ◌∙◌, arith, cond, nat_eq}
-use Rattle.std.specs.List.{All, AllByRecursion, sum_by}
+use Rattle.std.proofs.Common.{◌≡◌, ℕ, ◌<◌, ◌^◌, Bool, true, false, List, [], ◌∷◌, ◌++◌, Option, Some, None, refl, sym, subst, arith, cond, nat_eq}
+use Rattle.std.specs.List.{AllByRecursion, sum_by}
 use Rattle.std.proofs.lemmas.List.Elements.{All-from_recursion}
 use Rattle.ic_base.specs.Spelling.{Spelling, SpellsMany}
 use Rattle.ic_leb.specs.Spelling.{unsigned_spelling}
@@ -13,7 +13,6 @@ use Rattle.wm_decode.specs.Values.{SpellsU32}
 use Rattle.wm_decode.specs.Types.{SpellsFuncType, SpellsLimits, SpellsTableType}
 use Rattle.wm_decode.specs.Parts.{SpellsImport, SpellsGlobal, SpellsExport, SpellsElement, SpellsCode, SpellsSegment}
 use Rattle.wm_decode.specs.Mod.{Mod, Section, SpellsSection, content_of, Lists, Starts}
-use Rattle.wm_encode.specs.Values.{vec}
 use Rattle.wm_encode.specs.Types.{func_type, table_type, limits}
 use Rattle.wm_encode.specs.Parts.{import, global, export, element, code, segment}
 use Rattle.wm_encode.specs.Whole.{part, start_part, sections}

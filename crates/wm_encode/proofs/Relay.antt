@@ -1,16 +1,16 @@
 -- The relay module meets what is asked of a module that is written.
-use Rattle.std.proofs.Common.{◌≡◌, ℕ, ◌+◌, ◌<◌, ◌≤◌, ◌^◌, List, [], ◌∷◌, ◌++◌, length, refl, lit<, lit≤}
+use Rattle.std.proofs.Common.{◌<◌, ◌≤◌, ◌^◌, [], ◌∷◌, ◌++◌, length, refl, lit<, lit≤}
 use Rattle.std.specs.Prelude.{pos}
-use Rattle.std.specs.List.{All, AllByRecursion, sum_by}
+use Rattle.std.specs.List.{sum_by}
 use Rattle.std.proofs.lemmas.List.Elements.{All-from_recursion}
 use Rattle.ic_leb.specs.Spelling.{seven_bits_each, unsigned_spelling, signed_spelling}
 use Rattle.wm_tree.specs.Relay.{counts, replies, passes_on, returns_reply, returns_reject, relay}
 use Rattle.wm_tree.specs.declared.instr.Instr.TheVariants as op
-use Rattle.wm_tree.specs.Seq.{IsFlat, IsProper}
+use Rattle.wm_tree.specs.Seq.{IsFlat}
 use Rattle.wm_tree.specs.TreeOf.{tree_of}
 use Rattle.wm_decode.specs.Answer.{largest}
 use Rattle.wm_encode.specs.Whole.{sections, whole}
-use Rattle.wm_encode.specs.Fits.{Fits, Short}
+use Rattle.wm_encode.specs.Fits.{Fits}
 
 method_flat : IsFlat (counts ++ (replies ++ passes_on))
 method_flat = record { tree = tree_of (counts ++ (replies ++ passes_on)); proper = (refl, (refl, (refl, (refl, (refl, (refl, (refl, (refl, (refl, (refl, (refl, (refl, ((refl, (refl, (refl, (refl, tt)))), (refl, (refl, (refl, (refl, (refl, (refl, (refl, (refl, (refl, (refl, (refl, (refl, (refl, (refl, (refl, (refl, (refl, (refl, (refl, (refl, (refl, (refl, tt)))))))))))))))))))))), tt))))))))))))); whole = refl }

@@ -1,13 +1,13 @@
 -- The sections that are written: in order, and each found by its id.
-use Rattle.std.proofs.Common.{◌≡◌, ◌≢◌, ℕ, ◌+◌, ◌<◌, ◌≤◌, ◌^◌, Bool, true, false, List, [], ◌∷◌, ◌++◌, length, Option, Some, None, refl, sym, ap, subst, ◌∙◌, arith, inl, inr, cond, nat_eq, eqb, eq-eqb}
-use Rattle.std.specs.List.{All, AllByRecursion, flat_map}
-use Rattle.std.proofs.lemmas.Bool.{ne_eqb}
+use Rattle.std.proofs.Common.{◌≡◌, ℕ, ◌<◌, ◌≤◌, suc, List, [], ◌∷◌, ◌++◌, length, Option, Some, None, refl, sym, subst, arith, inl, inr, eq-eqb}
+use Rattle.std.specs.List.{AllByRecursion, flat_map}
+use Rattle.std.proofs.lemmas.Bool.{ne_eqb, le-leb, cases_lt}
 use Rattle.ic_base.specs.Spelling.{Spelling, SpellsMany}
 use Rattle.ic_leb.specs.Spelling.{unsigned_spelling}
-use Rattle.wm_decode.specs.Values.{SpellsU32, SpellsList}
-use Rattle.wm_decode.specs.Mod.{Section, SpellsSection, InOrder, content_of, Lists, Starts}
+use Rattle.wm_decode.specs.Values.{SpellsList}
+use Rattle.wm_decode.specs.Mod.{Section, SpellsSection, InOrder, place_of, content_of, Lists, Starts}
 use Rattle.wm_encode.specs.Values.{vec}
-use Rattle.wm_encode.specs.Whole.{part, start_part, section, with_id}
+use Rattle.wm_encode.specs.Whole.{part, start_part, section}
 use Rattle.wm_encode.specs.Ranges.{IsMaybe32}
 use Rattle.wm_encode.specs.Fits.{Short}
 use Rattle.wm_encode.proofs.Lists.{u32_spelled, many_spelled}
@@ -26,9 +26,28 @@ abbrev pub Rises : ℕ → List Section → Type 0
 Rises last [] = Unit {0}
 Rises last (s ∷ ss) = (last < s.id) × (s.id < 12) × Rises s.id ss
 
-pub in_order : (last : ℕ) (ss : List Section) → Rises last ss → InOrder last ss
+-- the code and the data stand one place further, since the data count stands before them
+low_place : (id : ℕ) → id < 10 → place_of id ≡ id
+low_place id h = rw (le-leb id 9 (omega arith)) refl
+
+high_place : (id : ℕ) → 10 ≤ id → id < 12 → place_of id ≡ suc id
+high_place id h k = elim (cases_lt id 11) [
+  | inl below ↦ let id_is : 10 ≡ id = omega arith in subst (λ (n : ℕ). place_of n ≡ suc n) id_is refl
+  | inr above ↦ let id_is : 11 ≡ id = omega arith in subst (λ (n : ℕ). place_of n ≡ suc n) id_is refl
+]
+
+places_rise : (last id : ℕ) → last < id → id < 12 → place_of last < place_of id
+places_rise last id h k = elim (cases_lt id 10) [
+  | inl low ↦ omega (arith, low_place last (omega arith), low_place id low)
+  | inr high ↦ elim (cases_lt last 10) [
+    | inl below ↦ omega (arith, low_place last below, high_place id high k)
+    | inr above ↦ omega (arith, high_place last above (omega arith), high_place id high k)
+  ]
+]
+
+pub in_order : (last : ℕ) (ss : List Section) → Rises last ss → InOrder (place_of last) ss
 in_order last [] rises = tt
-in_order last (s ∷ ss) rises = inr (rises.0, rises.1, in_order s.id ss rises.2)
+in_order last (s ∷ ss) rises = inr (places_rise last s.id rises.0 rises.1, in_order s.id ss rises.2)
 
 later : (last id : ℕ) (ss : List Section) → last ≤ id → Rises id ss → Rises last ss
 later last id [] h rises = tt

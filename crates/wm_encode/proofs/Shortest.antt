@@ -1,5 +1,5 @@
 -- No spelling is shorter than what is written.
-use Rattle.std.proofs.Common.{◌≡◌, ℕ, ◌+◌, ◌<◌, ◌≤◌, ◌^◌, Bool, true, false, List, [], ◌∷◌, ◌++◌, length, Option, Some, None, refl, sym, ap, ◌∙◌, length-append, arith, inl, inr}
+use Rattle.std.proofs.Common.{◌≡◌, ℕ, ◌≤◌, Bool, true, false, List, [], ◌∷◌, ◌++◌, length, replicate, Option, Some, None, refl, ap, length-append, arith, inl, inr}
 use Rattle.std.specs.List.{flat_map}
 use Rattle.ic_base.specs.Spelling.{Spelling, SpellsMany}
 use Rattle.ic_leb.specs.declared.width.Width.TheVariants.{Wasm32, Wasm64}
@@ -7,32 +7,18 @@ use Rattle.ic_leb.specs.Spelling.{unsigned_spelling}
 use Rattle.ic_leb.proofs.Shortest.{unsigned_shortest, signed_shortest}
 use Rattle.wm_tree.specs.declared.types.ValType.{ValType}
 use Rattle.wm_tree.specs.declared.types.ValType.TheVariants.{I32, I64}
-use Rattle.wm_tree.specs.declared.types.FuncType.{FuncType}
-use Rattle.wm_tree.specs.declared.types.Limits.{Limits}
-use Rattle.wm_tree.specs.declared.types.GlobalType.{GlobalType}
-use Rattle.wm_tree.specs.declared.types.MemArg.{MemArg}
-use Rattle.wm_tree.specs.declared.instr.Instr.{Instr}
-use Rattle.wm_tree.specs.Row.{Operands, none, block, index, labels, type_index, memory, reserved, number32, number64, row_of}
-use Rattle.wm_tree.specs.declared.parts.ImportKind.{ImportKind}
+use Rattle.wm_tree.specs.Row.{none, block, index, labels, type_index, memory, reserved, prefixed, number32, number64, row_of}
 use Rattle.wm_tree.specs.declared.parts.ImportKind.TheVariants as imported
-use Rattle.wm_tree.specs.declared.parts.Import.{Import}
-use Rattle.wm_tree.specs.declared.parts.GlobalDef.{GlobalDef}
-use Rattle.wm_tree.specs.declared.parts.ExportKind.{ExportKind}
 use Rattle.wm_tree.specs.declared.parts.ExportKind.TheVariants as exported
-use Rattle.wm_tree.specs.declared.parts.Export.{Export}
-use Rattle.wm_tree.specs.declared.parts.Element.{Element}
-use Rattle.wm_tree.specs.declared.parts.Run.{Run}
-use Rattle.wm_tree.specs.declared.parts.FuncCode.{FuncCode}
-use Rattle.wm_tree.specs.declared.parts.Segment.{Segment}
 use Rattle.wm_decode.specs.Values.{SpellsU32, SpellsList, SpellsPair, SpellsBytes, SpellsName, Coded}
 use Rattle.wm_decode.specs.Types.{SpellsValType, SpellsBlockType, SpellsFuncType, SpellsLimits, SpellsTableType, SpellsGlobalType, mutabilities}
-use Rattle.wm_decode.specs.Instructions.{SpellsMemArg, SpellsOperands, SpellsWord, SpellsExpr, SpellsZero}
+use Rattle.wm_decode.specs.Instructions.{SpellsMemArg, SpellsOperands, SpellsWord, SpellsExpr, SpellsZero, SpellsZeros, SpellsTable}
 use Rattle.wm_decode.specs.Parts.{SpellsImportKind, SpellsImport, SpellsGlobal, SpellsExportKind, SpellsExport, SpellsElement, SpellsRun, SpellsFunc, SpellsCode, SpellsSegment}
 use Rattle.wm_encode.specs.Values.{vec, sized}
 use Rattle.wm_encode.specs.Types.{val_type, block_type, func_type, limits, table_type, mutability, global_type}
 use Rattle.wm_encode.specs.Instructions.{mem_arg, operands, word, expr}
 use Rattle.wm_encode.specs.Parts.{import_kind, import, global, export_kind, export, element, run, func, code, segment}
-use Rattle.wm_encode.proofs.Sizes.{unsigned_rises}
+use Rattle.wm_encode.proofs.Sizes.{unsigned_some, unsigned_rises}
 
 -- what is written is at most as long as any spelling
 abbrev pub Least : {A : Type 0} → Spelling A → (A → List ℕ) → Type 0
@@ -117,15 +103,22 @@ mem_arg_least m bytes s = pair_least SpellsU32 SpellsU32 unsigned_spelling unsig
 zero_least : Least SpellsZero (λ _. 0x00 ∷ [])
 zero_least n bytes s = omega (arith, ap length s.1)
 
+zeros_least : Least SpellsZeros (λ n. replicate n 0x00)
+zeros_least n bytes s = omega (arith, ap length s)
+
+table_least : Least SpellsTable (λ _. 0x00 ∷ [])
+table_least n bytes s = omega (arith, u32_least n bytes s.1, unsigned_some n)
+
 operands_least : Least (SpellsOperands false) operands
 operands_least none bytes s = omega arith
 operands_least (block t) bytes s = block_type_least t bytes s
 operands_least (index n) bytes s = u32_least n bytes s
 operands_least (labels ls l) bytes s =
     pair_least (SpellsList SpellsU32) SpellsU32 (vec unsigned_spelling) unsigned_spelling (vec_least SpellsU32 unsigned_spelling u32_least) u32_least ls l bytes s
-operands_least (type_index n) bytes s = pair_least SpellsU32 SpellsZero unsigned_spelling (λ _. 0x00 ∷ []) u32_least zero_least n 0 bytes s
+operands_least (type_index n) bytes s = pair_least SpellsU32 SpellsTable unsigned_spelling (λ _. 0x00 ∷ []) u32_least table_least n 0 bytes s
 operands_least (memory m) bytes s = mem_arg_least m bytes s
 operands_least reserved bytes s = zero_least 0 bytes s
+operands_least (prefixed n zeros) bytes s = pair_least SpellsU32 SpellsZeros unsigned_spelling (λ k. replicate k 0x00) u32_least zeros_least n zeros bytes s
 operands_least (number32 z) bytes s = signed_shortest Wasm32 z bytes s
 operands_least (number64 z) bytes s = signed_shortest Wasm64 z bytes s
 

@@ -1,11 +1,10 @@
 -- What is written is in the grammar: types, instructions and the items of the sections.
-use Rattle.std.proofs.Common.{◌≡◌, ℕ, ◌+◌, ◌<◌, ◌≤◌, ◌^◌, Bool, true, false, List, [], ◌∷◌, ◌++◌, length, Option, Some, None, refl, length-append, arith, inl, inr}
+use Rattle.std.proofs.Common.{ℕ, ◌<◌, ◌^◌, Bool, true, false, List, [], ◌∷◌, ◌++◌, length, replicate, Option, Some, None, refl, arith, lit<, inl}
 use Rattle.std.specs.Prelude.{IsUtf8}
 use Rattle.std.specs.List.{All, AllByRecursion, flat_map, sum_by}
 use Rattle.std.proofs.lemmas.List.Elements.{recursion_from_All}
-use Rattle.ic_base.specs.Spelling.{Spelling}
 use Rattle.ic_leb.specs.declared.width.Width.TheVariants.{Wasm32, Wasm64}
-use Rattle.ic_leb.specs.Spelling.{unsigned_spelling}
+use Rattle.ic_leb.specs.Spelling.{seven_bits_each, unsigned_spelling}
 use Rattle.ic_leb.proofs.Shortest.{signed_spelled}
 use Rattle.wm_tree.specs.declared.types.ValType.{ValType}
 use Rattle.wm_tree.specs.declared.types.ValType.TheVariants.{I32, I64}
@@ -14,7 +13,7 @@ use Rattle.wm_tree.specs.declared.types.Limits.{Limits}
 use Rattle.wm_tree.specs.declared.types.GlobalType.{GlobalType}
 use Rattle.wm_tree.specs.declared.types.MemArg.{MemArg}
 use Rattle.wm_tree.specs.declared.instr.Instr.{Instr}
-use Rattle.wm_tree.specs.Row.{Operands, none, block, index, labels, type_index, memory, reserved, number32, number64, row_of}
+use Rattle.wm_tree.specs.Row.{Operands, none, block, index, labels, type_index, memory, reserved, prefixed, number32, number64, row_of}
 use Rattle.wm_tree.specs.Seq.{IsFlat}
 use Rattle.wm_tree.specs.declared.parts.ImportKind.{ImportKind}
 use Rattle.wm_tree.specs.declared.parts.ImportKind.TheVariants as imported
@@ -29,7 +28,7 @@ use Rattle.wm_tree.specs.declared.parts.FuncCode.{FuncCode}
 use Rattle.wm_tree.specs.declared.parts.Segment.{Segment}
 use Rattle.wm_decode.specs.Values.{SpellsU32, SpellsList, SpellsPair, SpellsBytes, SpellsName, Coded}
 use Rattle.wm_decode.specs.Types.{SpellsValType, SpellsBlockType, SpellsFuncType, SpellsLimits, SpellsTableType, SpellsGlobalType, mutabilities}
-use Rattle.wm_decode.specs.Instructions.{SpellsMemArg, SpellsOperands, SpellsWord, SpellsExpr, SpellsZero}
+use Rattle.wm_decode.specs.Instructions.{SpellsMemArg, SpellsOperands, SpellsWord, SpellsExpr, SpellsZeros, SpellsTable}
 use Rattle.wm_decode.specs.Parts.{SpellsImportKind, SpellsImport, SpellsGlobal, SpellsExportKind, SpellsExport, SpellsElement, SpellsRun, SpellsFunc, SpellsCode, SpellsSegment}
 use Rattle.wm_encode.specs.Values.{vec, sized}
 use Rattle.wm_encode.specs.Types.{val_type, block_type, func_type, range, limits, table_type, mutability, global_type}
@@ -106,6 +105,10 @@ global_type_spelled g = pair_spelled (SpellsValType false) (Coded mutabilities) 
 mem_arg_spelled : (m : MemArg) → RangedMemArg m → SpellsMemArg m (mem_arg m)
 mem_arg_spelled m h = pair_spelled SpellsU32 SpellsU32 m.align m.offset (unsigned_spelling m.align) (unsigned_spelling m.offset) (u32_spelled m.align h.align) (u32_spelled m.offset h.offset)
 
+zero_spelled : SpellsU32 0 (0x00 ∷ [])
+unfolding unsigned_spelling seven_bits_each
+zero_spelled = u32_spelled 0 (lit< tt)
+
 operands_spelled : (o : Operands) → RangedOperands o → Short (operands o) → SpellsOperands false o (operands o)
 operands_spelled none h short = refl
 operands_spelled (block t) h short = block_type_spelled t
@@ -113,9 +116,10 @@ operands_spelled (index n) h short = u32_spelled n h
 operands_spelled (labels ls l) h short =
     pair_spelled (SpellsList SpellsU32) SpellsU32 ls l (vec unsigned_spelling ls) (unsigned_spelling l)
     (indices_spelled ls h.0 (short_front (vec unsigned_spelling ls) (unsigned_spelling l) short)) (u32_spelled l h.1)
-operands_spelled (type_index n) h short = pair_spelled SpellsU32 SpellsZero n 0 (unsigned_spelling n) (0x00 ∷ []) (u32_spelled n h) (refl, refl)
+operands_spelled (type_index n) h short = pair_spelled SpellsU32 SpellsTable n 0 (unsigned_spelling n) (0x00 ∷ []) (u32_spelled n h) (refl, zero_spelled)
 operands_spelled (memory m) h short = mem_arg_spelled m h
 operands_spelled reserved h short = (refl, refl)
+operands_spelled (prefixed n zeros) h short = pair_spelled SpellsU32 SpellsZeros n zeros (unsigned_spelling n) (replicate zeros 0x00) (u32_spelled n h) refl
 operands_spelled (number32 z) h short = signed_spelled Wasm32 z h
 operands_spelled (number64 z) h short = signed_spelled Wasm64 z h
 

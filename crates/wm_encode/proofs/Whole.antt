@@ -1,17 +1,16 @@
 -- What is written is in the grammar: modules.
-use Rattle.std.proofs.Common.{◌≡◌, ℕ, ◌+◌, ◌<◌, ◌≤◌, ◌^◌, false, List, [], ◌∷◌, ◌++◌, length, Option, Some, None, refl, sym, subst, ◌∙◌, arith, lit<}
-use Rattle.std.specs.List.{All, AllByRecursion, flat_map, sum_by}
+use Rattle.std.proofs.Common.{◌≡◌, ℕ, ◌<◌, ◌^◌, false, List, [], ◌∷◌, ◌++◌, length, Option, Some, None, refl, sym, subst, ◌∙◌, arith, lit<}
+use Rattle.std.specs.List.{AllByRecursion, flat_map, sum_by}
 use Rattle.std.proofs.lemmas.List.Elements.{recursion_from_All}
 use Rattle.ic_base.specs.Spelling.{Spelling}
 use Rattle.ic_leb.specs.Spelling.{unsigned_spelling, seven_bits_each}
-use Rattle.wm_tree.specs.IsModule.{IsModule}
 use Rattle.wm_tree.specs.Seq.{IsFlat}
 use Rattle.wm_tree.specs.declared.parts.FuncCode.{FuncCode}
 use Rattle.wm_tree.specs.declared.parts.Module.{Module}
 use Rattle.wm_decode.specs.Values.{SpellsU32, SpellsList}
 use Rattle.wm_decode.specs.Types.{SpellsFuncType, SpellsLimits, SpellsTableType}
 use Rattle.wm_decode.specs.Parts.{SpellsImport, SpellsGlobal, SpellsExport, SpellsElement, SpellsCode, SpellsSegment}
-use Rattle.wm_decode.specs.Mod.{Mod, Section, content_of, Lists, Starts}
+use Rattle.wm_decode.specs.Mod.{Mod, Section, content_of, Lists, Starts, Counts}
 use Rattle.wm_encode.specs.Values.{vec}
 use Rattle.wm_encode.specs.Types.{func_type, table_type, limits}
 use Rattle.wm_encode.specs.Parts.{import, global, export, element, code, segment}
@@ -171,5 +170,6 @@ mod_spelled m h fits =
       elements = placed (SpellsElement false) element m.elements 9 t1 t10 (p9 9 (omega arith)) r10 lists.elements;
       codes = placed (SpellsCode false) code m.codes 10 t1 t11 (p10 10 (omega arith)) r11 lists.codes;
       segments = placed (SpellsSegment false) segment m.segments 11 t1 [] (p11 11 (omega arith)) tt lists.segments;
+      count = subst (Counts (length m.segments)) (sym (p11 12 (omega arith) ∙ passed segment m.segments 11 [] 12 (omega arith))) tt;
       counts = fits.parts.counts;
     }

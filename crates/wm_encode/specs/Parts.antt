@@ -1,5 +1,5 @@
 -- How the items of the sections are written (WebAssembly Core 1.0, 5.5).
-use Rattle.std.specs.Prelude.{ℕ, List, [], ◌∷◌, ◌++◌}
+use Rattle.std.specs.Prelude.{ℕ, List, ◌∷◌, ◌++◌}
 use Rattle.ic_leb.specs.Spelling.{unsigned_spelling}
 use Rattle.wm_tree.specs.declared.parts.ImportKind.{ImportKind}
 use Rattle.wm_tree.specs.declared.parts.ImportKind.TheVariants as imported

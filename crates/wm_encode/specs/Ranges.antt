@@ -1,8 +1,6 @@
 -- What the types of its numbers and names say of a part of a module.
 use Rattle.std.specs.Prelude.{ℕ, ◌<◌, ◌^◌, Option, Some, None, All, FitsSigned, IsUtf8}
 use Rattle.std.specs.Int.{w32, w64}
-use Rattle.wm_tree.specs.declared.types.ValType.{ValType}
-use Rattle.wm_tree.specs.declared.types.FuncType.{FuncType}
 use Rattle.wm_tree.specs.declared.types.Limits.{Limits}
 use Rattle.wm_tree.specs.declared.types.MemArg.{MemArg}
 use Rattle.wm_tree.specs.declared.instr.Instr.{Instr}

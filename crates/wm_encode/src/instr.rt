@@ -9,6 +9,11 @@ use ic_base::NoMemory;
 use ic_leb::{size_s, write_s};
 use wm_tree::{Instr, MemArg, opcode_of};
 
+/// The numbers of `memory.copy` and `memory.fill` behind the prefix FC.
+const COPY: u32 = 10;
+
+const FILL: u32 = 11;
+
 impl Encode<()> for MemArg {
     ghost bytes = { written.mem_arg };
 
@@ -62,6 +67,8 @@ fn operands_size(instr: &Instr) -> usize
         | Instr::I64Store16(m)
         | Instr::I64Store32(m) => m.size(),
         Instr::MemorySize | Instr::MemoryGrow => 1,
+        Instr::MemoryCopy => COPY.size() + 2,
+        Instr::MemoryFill => FILL.size() + 1,
         Instr::I32Const(z) => size_s(*z as i128),
         Instr::I64Const(z) => size_s(*z as i128),
         _ => 0,
@@ -112,6 +119,15 @@ fn write_operands(instr: &Instr, out: &mut Vec<u8>) -> Result<(), NoMemory>
         | Instr::I64Store16(m)
         | Instr::I64Store32(m) => m.write(out)?,
         Instr::MemorySize | Instr::MemoryGrow => out.push(0x00)?,
+        Instr::MemoryCopy => {
+            COPY.write(out)?;
+            out.push(0x00)?;
+            out.push(0x00)?;
+        }
+        Instr::MemoryFill => {
+            FILL.write(out)?;
+            out.push(0x00)?;
+        }
         Instr::I32Const(z) => write_s(*z as i128, out)?,
         Instr::I64Const(z) => write_s(*z as i128, out)?,
         _ => {}

@@ -117,7 +117,7 @@ fn write_sections(module: &Module, out: &mut Vec<u8>) -> Result<(), NoMemory>
 /// for them alone.
 pub fn encode(alloc: Global, module: &Module) -> Result<Bytes, NoMemory>
     requires { Fits «module».now }
-    // The bytes: no custom section, no empty section, each number in its shortest spelling.
+    // The bytes: no custom section, no data count, no empty section, each number in its shortest spelling.
     ensures bytes { IfOk result (λ out. out ≡ whole «module».now) }
     ensures grammar { IfOk result (λ out. Mod false «module».now out) }
 {
