@@ -1,6 +1,6 @@
--- In a valid module an entry point is exported exactly where its name is.
-use Rattle.std.proofs.Common.{◌≡◌, ℕ, ◌+◌, Bool, true, false, cond, List, [], ◌∷◌, take, Option, Some, None, refl, ap, ◌∙◌}
-use Rattle.std.specs.Prelude.{◌&&◌, ◌||◌, not, nat_eq, bytes_eq, codes, find}
+-- In a valid module an entry point is exported exactly where its name is, and is a function () -> ().
+use Rattle.std.proofs.Common.{◌≡◌, ℕ, ◌+◌, Bool, true, false, cond, List, [], ◌∷◌, take, Option, Some, None, refl, ap, subst, ◌∙◌}
+use Rattle.std.specs.Prelude.{◌&&◌, ◌||◌, not, nat_eq, bytes_eq, codes, find, IfSome}
 use Rattle.std.specs.List.{starts_with}
 use Rattle.std.proofs.lemmas.Slice.Eq.{bytes_eq-Decides}
 use Rattle.wm_tree.specs.declared.parts.ExportKind.{ExportKind}
@@ -9,11 +9,15 @@ use Rattle.wm_tree.specs.declared.parts.Export.{Export}
 use Rattle.wm_tree.specs.declared.parts.Module.{Module}
 use Rattle.wm_valid.specs.declared.entry.EntryName.{EntryName}
 use Rattle.wm_valid.specs.declared.entry.EntryName.TheVariants.{Init, PreUpgrade, PostUpgrade, Inspect, Update, Query}
+use Rattle.wm_valid.specs.Space.{type_of}
+use Rattle.wm_valid.specs.Indices.{is_procedure}
+use Rattle.wm_valid.specs.Checked.{checked}
+use Rattle.wm_valid.proofs.EveryCheck.{passes_of_checked}
 use Rattle.wm_valid.specs.Entries.{name_of, is_entry_name, is_entry_kind, is_misnamed, is_wrong, is_bad_export, least_bad, exports_name, exported_function, entry_of}
 
 -- ---- names of entry points
 
-begins : (kind : EntryName) (method : List ℕ) → starts_with nat_eq (name_of kind method) (codes "canister_") ≡ true
+pub begins : (kind : EntryName) (method : List ℕ) → starts_with nat_eq (name_of kind method) (codes "canister_") ≡ true
 begins Init method = refl
 begins PreUpgrade method = refl
 begins PostUpgrade method = refl
@@ -67,18 +71,24 @@ found_in m name place (x ∷ exports) e =
     let right = (or_false (exports_name (take place m.exports) x.name) (is_wrong m x) parts.0).1 in
     at_first m name x (bytes_eq x.name name) _ _ refl right (found_in m name (place + 1) exports parts.1)
 
-is_function : (m : Module) (kind : EntryName) (method : List ℕ) (e : Export) → e.name ≡ name_of kind method → is_wrong m e ≡ false → exported_function e.kind ≡ None → ⊥
-is_function m kind method e same right none =
+entry_kind : (m : Module) (kind : EntryName) (method : List ℕ) (e : Export) → e.name ≡ name_of kind method → is_wrong m e ≡ false → is_entry_kind m e.kind ≡ true
+entry_kind m kind method e same right =
     let named = (or_false (is_misnamed m e) _ right).0 in
     let starts : starts_with nat_eq e.name (codes "canister_") ≡ true = ap (λ n. starts_with nat_eq n (codes "canister_")) same ∙ begins kind method in
     let name : is_entry_name e.name ≡ true = ap is_entry_name same ∙ is_name kind method in
-    function_kind m e.kind (misnamed_false _ _ _ named starts name) none
+    misnamed_false _ _ _ named starts name
+
+procedure_of : (m : Module) (kind : ExportKind) (f : ℕ) → exported_function kind ≡ Some f → is_entry_kind m kind ≡ true → is_procedure (type_of m f) ≡ true
+procedure_of m (export.Function i) f e is = let same : i ≡ f = cc in subst (λ (x : ℕ). is_procedure (type_of m x) ≡ true) same is
+procedure_of m (export.Table i) f e is = absurd cc
+procedure_of m (export.Memory i) f e is = absurd cc
+procedure_of m (export.Global i) f e is = absurd cc
 
 module _ (m : Module) (kind : EntryName) (method : List ℕ) where
   none_of_found : Found m (name_of kind method) (find (λ e. bytes_eq e.name (name_of kind method)) m.exports) (exports_name m.exports (name_of kind method)) → entry_of m kind method ≡ None → exports_name m.exports (name_of kind method) ≡ false
   none_of_found (nowhere found has) e = has
   none_of_found (there x found has same right) e =
-      absurd (is_function m kind method x same right (rw found at e))
+      absurd (function_kind m x.kind (entry_kind m kind method x same right) (rw found at e))
 
   found_of_none : Found m (name_of kind method) (find (λ e. bytes_eq e.name (name_of kind method)) m.exports) (exports_name m.exports (name_of kind method)) → exports_name m.exports (name_of kind method) ≡ false → entry_of m kind method ≡ None
   found_of_none (nowhere found has) e = rw found refl
@@ -89,3 +99,15 @@ module _ (m : Module) (kind : EntryName) (method : List ℕ) where
 
   pub no_name : least_bad m 0 m.exports ≡ None → exports_name m.exports (name_of kind method) ≡ false → entry_of m kind method ≡ None
   no_name passes e = found_of_none (found_in m (name_of kind method) 0 m.exports passes) e
+
+  procedure_found : Found m (name_of kind method) (find (λ e. bytes_eq e.name (name_of kind method)) m.exports) (exports_name m.exports (name_of kind method)) → (f : ℕ) → entry_of m kind method ≡ Some f → is_procedure (type_of m f) ≡ true
+  procedure_found (nowhere found has) f e = let none : ◌≡◌ {A = Option ℕ} None (Some f) = rw found at e in absurd cc
+  procedure_found (there x found has same right) f e =
+      procedure_of m x.kind f (rw found at e) (entry_kind m kind method x same right)
+
+  pub entry_is_procedure : (f : ℕ) → checked m ≡ None → entry_of m kind method ≡ Some f → is_procedure (type_of m f) ≡ true
+  entry_is_procedure f passes e = procedure_found (found_in m (name_of kind method) 0 m.exports (passes_of_checked m passes).entries) f e
+
+  pub entry_procedure : (o : Option ℕ) → checked m ≡ None → entry_of m kind method ≡ o → IfSome o (λ f. is_procedure (type_of m f) ≡ true)
+  entry_procedure (Some f) passes e = entry_is_procedure f passes e
+  entry_procedure None passes e = tt

@@ -12,13 +12,13 @@ use Rattle.wm_valid.specs.Bodies.{least_deep, least_untyped, nesting_fault, typi
 use Rattle.wm_valid.specs.Checked.{checked}
 use Rattle.wm_valid.specs.Passes.{Passes}
 
-none_of_or : {A : Type 0} (a b : Option A) → option_or a b ≡ None → (a ≡ None) × (b ≡ None)
-none_of_or None b e = (refl, e)
-none_of_or (Some x) b e = absurd cc
+pub or_none : {A : Type 0} (a b : Option A) → option_or a b ≡ None → (a ≡ None) × (b ≡ None)
+or_none None b e = (refl, e)
+or_none (Some x) b e = absurd cc
 
-none_of_map : {A B : Type 0} (f : A → B) (a : Option A) → option_map f a ≡ None → a ≡ None
-none_of_map f None e = refl
-none_of_map f (Some x) e = absurd cc
+pub map_none : {A B : Type 0} (f : A → B) (a : Option A) → option_map f a ≡ None → a ≡ None
+map_none f None e = refl
+map_none f (Some x) e = absurd cc
 
 passes_first : (s : ℕ) (passes : Bool) (rest : List (ℕ × Bool)) → first_failing ((s, passes) ∷ rest) ≡ None → (passes ≡ true) × (first_failing rest ≡ None)
 passes_first s true rest e = (refl, e)
@@ -63,18 +63,18 @@ module _ (m : Module) where
 
   -- the checks of indices and limits
   index_checks : index_fault m ≡ None → first_failing indices0 ≡ None
-  index_checks e = none_of_map (λ s. fault.Index s) (first_failing indices0) e
+  index_checks e = map_none (λ s. fault.Index s) (first_failing indices0) e
 
   size_checks : size_fault m ≡ None → first_failing sizes0 ≡ None
-  size_checks e = none_of_map (λ s. fault.Size s) (first_failing sizes0) e
+  size_checks e = map_none (λ s. fault.Size s) (first_failing sizes0) e
 
   pub passes_of_checked : checked m ≡ None → Passes m
   passes_of_checked e =
-      let e1 = none_of_or (import_fault m) _ e in
-      let e2 = none_of_or (index_fault m) _ e1.1 in
-      let e3 = none_of_or (size_fault m) _ e2.1 in
-      let e4 = none_of_or (entry_fault m) _ e3.1 in
-      let e5 = none_of_or (nesting_fault m) (typing_fault m) e4.1 in
+      let e1 = or_none (import_fault m) _ e in
+      let e2 = or_none (index_fault m) _ e1.1 in
+      let e3 = or_none (size_fault m) _ e2.1 in
+      let e4 = or_none (entry_fault m) _ e3.1 in
+      let e5 = or_none (nesting_fault m) (typing_fault m) e4.1 in
       let i0 = passes_first 1 (types_in_range m) indices1 (index_checks e2.0) in
       let i1 = passes_first 3 (functions_in_range m) indices2 (i0.1) in
       let i2 = passes_first 4 (tables_in_range m) indices3 (i1.1) in
@@ -88,7 +88,7 @@ module _ (m : Module) where
       let s1 = passes_first 5 (memories_fit m) sizes2 (s0.1) in
       let s2 = passes_first 10 (frames_fit m) [] (s1.1) in
       record {
-        imports = none_of_map (λ n. fault.Import n) (least_other m.types m.imports) e1.0;
+        imports = map_none (λ n. fault.Import n) (least_other m.types m.imports) e1.0;
         types = i0.0;
         functions = i1.0;
         tables = i2.0;
@@ -101,9 +101,9 @@ module _ (m : Module) where
         table_sizes = s0.0;
         memory_sizes = s1.0;
         frame_sizes = s2.0;
-        entries = none_of_map (λ n. fault.Entry n) (least_bad m 0 m.exports) e4.0;
-        nesting = none_of_map (λ n. fault.Nesting n) (least_deep m) e5.0;
-        typing = none_of_map (λ n. fault.Untyped n) (least_untyped m) e5.1;
+        entries = map_none (λ n. fault.Entry n) (least_bad m 0 m.exports) e4.0;
+        nesting = map_none (λ n. fault.Nesting n) (least_deep m) e5.0;
+        typing = map_none (λ n. fault.Untyped n) (least_untyped m) e5.1;
       }
 
   pub checked_of_passes : Passes m → checked m ≡ None

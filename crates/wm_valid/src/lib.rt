@@ -1,4 +1,5 @@
-//! Validation of WebAssembly modules (Core 1.0, chapter 3) that canisters install.
+//! Validation of WebAssembly modules (Core 1.0, chapter 3; the sign extensions, `memory.copy` and
+//! `memory.fill` are those of Core 2.0) that canisters install.
 //!
 //! `validate` tries the checks in the order of `Invalid` and answers the first that fails
 //! (`specs/Checked`): imports are calls of the System API, indices and limits are in range, sizes

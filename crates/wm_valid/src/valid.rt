@@ -1,4 +1,4 @@
-ghost use Rattle.std.specs.Prelude.{◌≡◌, ◌↔◌, IsNone, false, slice_get};
+ghost use Rattle.std.specs.Prelude.{◌≡◌, ◌↔◌, IsNone, IfSome, false, true, slice_get};
 
 use crate::entry::EntryName;
 use crate::methods::Entries;
@@ -32,7 +32,9 @@ impl Valid {
     ghost use Rattle.std.specs.Option.{option_copied};
     ghost use Rattle.wm_valid.specs.Entries.{entry_of, exports_name, name_of};
     ghost use Rattle.wm_valid.specs.IsValid.{validated, IsValid};
+    ghost use Rattle.wm_valid.specs.Indices.{is_procedure};
     ghost use Rattle.wm_valid.specs.Methods.{HasEntries};
+    ghost use Rattle.wm_valid.specs.Space.{type_of};
 
     /// A module with what its validation found out.
     pub(crate) fn new(
@@ -85,6 +87,8 @@ impl Valid {
         // There is one exactly where something has its name.
         ensures none { IsNone result
             ↔ (exports_name self.now.module.exports (name_of kind name.now) ≡ false) }
+        // It takes nothing and gives nothing.
+        ensures procedure { IfSome result (λ f. is_procedure (type_of self.now.module f) ≡ true) }
     {
         self.entries.get(kind, name.as_bytes())
     }
