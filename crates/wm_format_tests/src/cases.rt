@@ -1,6 +1,6 @@
 // Tables of bytes. A test that wrote one out would be long to prove, so each stands behind a function.
 
-static MODULES: [&'static [u8]; 4] = [
+static MODULES: [&'static [u8]; 9] = [
     // the empty module
     b"",
     // a custom section
@@ -9,6 +9,14 @@ static MODULES: [&'static [u8]; 4] = [
     b"\x01\x84\x80\x80\x80\x00\x01\x60\x00\x00",
     // custom sections between
     b"\x01\x01\x00\x00\x02\x01a\x03\x01\x00\x00\x02\x01b",
+    // no data segments are counted, and again in two bytes
+    b"\x0C\x01\x00",
+    b"\x0C\x02\x80\x00",
+    // one is counted
+    b"\x0C\x01\x01\x0B\x07\x01\x00\x41\x00\x0B\x01x",
+    // behind the elements, and before the codes
+    b"\x09\x01\x00\x0C\x01\x00",
+    b"\x0C\x01\x00\x00\x02\x01a\x0A\x01\x00\x0B\x01\x00",
 ];
 
 pub fn modules() -> &'static [&'static [u8]] {
@@ -31,7 +39,7 @@ pub fn float_modules() -> &'static [&'static [u8]] {
 }
 
 // Sections, their order and their sizes.
-static NO_SECTIONS: [&'static [u8]; 15] = [
+static NO_SECTIONS: [&'static [u8]; 25] = [
     // a size past the end, and the largest
     b"\x01\x05\x01\x60\x00\x00",
     b"\x01\xFF\xFF\xFF\xFF\x0F\x01\x60\x00\x00",
@@ -50,7 +58,22 @@ static NO_SECTIONS: [&'static [u8]; 15] = [
     // a section twice
     b"\x01\x01\x00\x01\x01\x00",
     // no section id
-    b"\x0C\x01\x00",
+    b"\x0D\x01\x00",
+    // a data segment is counted where there is none
+    b"\x0C\x01\x01",
+    // one data segment is counted as none, and as two
+    b"\x0C\x01\x00\x0B\x07\x01\x00\x41\x00\x0B\x01x",
+    b"\x0C\x01\x02\x0B\x07\x01\x00\x41\x00\x0B\x01x",
+    // a data count twice, before the elements, behind the codes, behind the data
+    b"\x0C\x01\x00\x0C\x01\x00",
+    b"\x0C\x01\x00\x09\x01\x00",
+    b"\x0A\x01\x00\x0C\x01\x00",
+    b"\x0B\x01\x00\x0C\x01\x00",
+    // no count, and one with a byte too many
+    b"\x0C\x00",
+    b"\x0C\x02\x00\x00",
+    // data before the codes
+    b"\x0B\x01\x00\x0A\x01\x00",
     // a custom section without a name
     b"\x00\x00",
     // a name that is no UTF-8
@@ -101,11 +124,11 @@ pub fn no_items() -> &'static [&'static [u8]] {
     &NO_ITEMS
 }
 
-// Instructions in the order of their opcodes (WebAssembly Core 1.0, 5.4): the first opcode, the
+// Instructions in the order of their opcodes (WebAssembly Core 2.0, 5.4): the first opcode, the
 // names from there on, what follows each opcode, and how that is shown.
 pub type Row = (u8, &'static str, &'static [u8], &'static str);
 
-static WITH_OPERANDS: [Row; 11] = [
+static WITH_OPERANDS: [Row; 13] = [
     (0x02, "Block Loop If", b"\x7F\x0B", "(Some(I32))"),
     (0x0C, "Br BrIf", b"\x05", "(5)"),
     (
@@ -142,13 +165,15 @@ static WITH_OPERANDS: [Row; 11] = [
     ),
     (0x3F, "MemorySize MemoryGrow", b"\x00", ""),
     (0x41, "I32Const I64Const", b"\x40", "(-64)"),
+    (0xFC, "MemoryCopy", b"\x0A\x00\x00", ""),
+    (0xFC, "MemoryFill", b"\x0B\x00", ""),
 ];
 
 pub fn with_operands() -> &'static [Row] {
     &WITH_OPERANDS
 }
 
-static WITHOUT_OPERANDS: [(u8, &'static str); 9] = [
+static WITHOUT_OPERANDS: [(u8, &'static str); 10] = [
     (0x00, "Unreachable Nop"),
     (0x0F, "Return"),
     (0x1A, "Drop Select"),
@@ -170,6 +195,10 @@ static WITHOUT_OPERANDS: [(u8, &'static str); 9] = [
     ),
     (0xA7, "I32WrapI64"),
     (0xAC, "I64ExtendI32S I64ExtendI32U"),
+    (
+        0xC0,
+        "I32Extend8S I32Extend16S I64Extend8S I64Extend16S I64Extend32S",
+    ),
 ];
 
 pub fn without_operands() -> &'static [(u8, &'static str)] {
@@ -193,20 +222,25 @@ pub fn float_rows() -> &'static [(u8, u8, &'static [u8])] {
 }
 
 // Codes behind their size.
-static SOME_CODES: [&'static [u8]; 3] = [
+static SOME_CODES: [&'static [u8]; 6] = [
     // 4,294,967,295 locals
     b"\x01\xFF\xFF\xFF\xFF\x0F\x7F\x0B",
     // an if with an else
     b"\x00\x41\x00\x04\x40\x01\x05\x01\x0B\x0B",
     // a padded number
     b"\x00\x41\xFF\xFF\xFF\xFF\x7F\x1A\x0B",
+    // a padded table
+    b"\x00\x11\x00\x80\x80\x80\x80\x00\x0B",
+    // copy and fill by padded numbers
+    b"\x00\xFC\x8A\x00\x00\x00\x0B",
+    b"\x00\xFC\x8B\x80\x80\x80\x00\x00\x0B",
 ];
 
 pub fn some_codes() -> &'static [&'static [u8]] {
     &SOME_CODES
 }
 
-static NO_CODES: [&'static [u8]; 11] = [
+static NO_CODES: [&'static [u8]; 24] = [
     // twice as many locals
     b"\x02\xFF\xFF\xFF\xFF\x0F\x7F\xFF\xFF\xFF\xFF\x0F\x7F\x0B",
     // one more
@@ -217,12 +251,28 @@ static NO_CODES: [&'static [u8]; 11] = [
     b"\xFF\xFF\xFF\xFF\x0F\x0B",
     // a number with an unused bit
     b"\x00\x41\xFF\xFF\xFF\xFF\x4F\x1A\x0B",
-    // bytes that are to be 00
+    // bytes that are to be 00: of size and grow, and of copy and fill
     b"\x00\x3F\x01\x1A\x0B",
+    b"\x00\x3F\x80\x00\x1A\x0B",
+    b"\x00\x40\x80\x00\x0B",
+    b"\x00\xFC\x0A\x01\x00\x0B",
+    b"\x00\xFC\x0A\x80\x00\x00\x0B",
+    b"\x00\xFC\x0A\x00\x80\x00\x0B",
+    b"\x00\xFC\x0B\x80\x00\x0B",
+    // another table, a table by six bytes, and one past 32 bits
     b"\x00\x11\x00\x01\x0B",
-    b"\x00\x11\x00\x80\x00\x0B",
+    b"\x00\x11\x00\x80\x80\x80\x80\x80\x00\x0B",
+    b"\x00\x11\x00\x80\x80\x80\x80\x10\x0B",
     // no instruction
-    b"\x00\xC0\x0B",
+    b"\x00\xC5\x0B",
+    // behind the prefix 0, 9 and 12, no number, and one of six bytes
+    b"\x00\xFC\x00\x0B",
+    b"\x00\xFC\x09\x00\x0B",
+    b"\x00\xFC\x0C\x00\x00\x0B",
+    b"\x00\xFC",
+    b"\x00\xFC\x8B\x80\x80\x80\x80\x00\x00\x0B",
+    // a float instruction, and 9 behind the prefix
+    b"\x00\x43\x00\x00\x00\x00\x1A\xFC\x09\x00\x0B",
     // a float instruction, and a byte behind the end
     b"\x00\x43\x00\x00\x00\x00\x1A\x0B\x0B",
     // a float instruction that is cut short
@@ -234,7 +284,7 @@ pub fn no_codes() -> &'static [&'static [u8]] {
 }
 
 // A module with every section.
-static PARTS: [&'static [u8]; 11] = [
+static PARTS: [&'static [u8]; 12] = [
     b"\x01\x07\x01\x60\x02\x7F\x7E\x01\x7F",
     b"\x02\x1E\x04\x01m\x01f\x00\x00\x01m\x01t\x01\x70\x01\x02\x03\x01m\x01m\x02\x00\x05\x01m\x01g\x03\x7E\x01",
     b"\x03\x02\x01\x00",
@@ -244,6 +294,7 @@ static PARTS: [&'static [u8]; 11] = [
     b"\x07\x11\x04\x01a\x00\x01\x01b\x01\x01\x01c\x02\x01\x01d\x03\x01",
     b"\x08\x01\x01",
     b"\x09\x08\x01\x00\x41\x00\x0B\x02\x01\x00",
+    b"\x0C\x01\x01",
     b"\x0A\x10\x01\x0E\x02\x01\x7F\x03\x7E\x02\x40\x20\x00\x1A\x0B\x41\x7F\x0B",
     b"\x0B\x09\x01\x00\x41\x7F\x0B\x03abc",
 ];
@@ -278,7 +329,7 @@ segments: Segments { items: [Segment { memory: 0, offset: Instrs { items: [I32Co
 }
 
 // What is not in shortest form, and its shortest form.
-static PADDED: [(&'static [u8], &'static [u8]); 7] = [
+static PADDED: [(&'static [u8], &'static [u8]); 10] = [
     // a custom section, a padded size, an empty section
     (b"\x00\x03\x01a\x00", b""),
     (
@@ -286,6 +337,17 @@ static PADDED: [(&'static [u8], &'static [u8]); 7] = [
         b"\x01\x04\x01\x60\x00\x00",
     ),
     (b"\x01\x01\x00", b""),
+    // a data count
+    (b"\x0C\x01\x00", b""),
+    // a padded table, and a padded number behind the prefix
+    (
+        b"\x03\x02\x01\x00\x0A\x0B\x01\x09\x00\x11\x00\x80\x80\x80\x80\x00\x0B",
+        b"\x03\x02\x01\x00\x0A\x07\x01\x05\x00\x11\x00\x00\x0B",
+    ),
+    (
+        b"\x03\x02\x01\x00\x0A\x09\x01\x07\x00\xFC\x8A\x00\x00\x00\x0B",
+        b"\x03\x02\x01\x00\x0A\x08\x01\x06\x00\xFC\x0A\x00\x00\x0B",
+    ),
     // a padded count and limit
     (b"\x05\x06\x81\x00\x00\x81\x80\x00", b"\x05\x03\x01\x00\x01"),
     // a padded length of a name
@@ -333,7 +395,7 @@ pub fn sections() -> &'static [&'static [u8]] {
 }
 
 // Instructions with operands.
-static INSTRUCTIONS: [&'static [u8]; 42] = [
+static INSTRUCTIONS: [&'static [u8]; 44] = [
     b"\x02\x40\x0B",
     b"\x03\x7F\x0B",
     b"\x04\x7E\x0B",
@@ -369,6 +431,8 @@ static INSTRUCTIONS: [&'static [u8]; 42] = [
     b"\x3E\x02\x80\x01",
     b"\x3F\x00",
     b"\x40\x00",
+    b"\xFC\x0A\x00\x00",
+    b"\xFC\x0B\x00",
     // 63, 64, -64, -65
     b"\x41\x3F",
     b"\x41\xC0\x00",
@@ -385,7 +449,7 @@ pub fn instructions() -> &'static [&'static [u8]] {
 }
 
 // The opcodes of instructions without operands, from and to.
-static OPCODES: [(u8, u8); 8] = [
+static OPCODES: [(u8, u8); 9] = [
     (0x00, 0x01),
     (0x0F, 0x0F),
     (0x1A, 0x1B),
@@ -394,6 +458,7 @@ static OPCODES: [(u8, u8); 8] = [
     (0x79, 0x8A),
     (0xA7, 0xA7),
     (0xAC, 0xAD),
+    (0xC0, 0xC4),
 ];
 
 pub fn opcodes() -> &'static [(u8, u8)] {

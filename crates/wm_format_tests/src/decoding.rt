@@ -74,7 +74,7 @@ fn instructions_with_operands(rt: HostRuntime) -> Result<(), Fail> {
         count = count.wrapping_add(names.split(' ').count());
     }
     // Without `else` and `end`.
-    assert_eq!(rt; count, 36);
+    assert_eq!(rt; count, 38);
     Ok(())
 }
 
@@ -85,7 +85,7 @@ fn instructions_without_operands(rt: HostRuntime) -> Result<(), Fail> {
         assert_eq!(rt; name_not(rt.alloc(), *first, names, b"", "")?, None);
         count = count.wrapping_add(names.split(' ').count());
     }
-    assert_eq!(rt; count, 66);
+    assert_eq!(rt; count, 71);
     Ok(())
 }
 
