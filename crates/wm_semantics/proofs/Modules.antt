@@ -1,11 +1,11 @@
 -- What a valid module has: types with one result at most, and a function behind each index.
-use Rattle.std.proofs.Common.{◌≡◌, ℕ, zero, suc, ◌+◌, ◌-◌, ◌<◌, ◌≤◌, Bool, true, false, cond, ◌&&◌, List, [], ◌∷◌, ◌++◌, length, map, Option, Some, None, refl, sym, ap, subst, ◌∙◌, arith}
+use Rattle.std.proofs.Common.{◌≡◌, ℕ, zero, suc, ◌+◌, ◌-◌, ◌<◌, ◌≤◌, Bool, true, cond, ◌&&◌, List, [], ◌∷◌, ◌++◌, length, map, Option, Some, None, refl, sym, ap, subst, ◌∙◌, arith}
 use Rattle.std.proofs.lemmas.Bool.{leb-true, ltb-true}
 use Rattle.std.proofs.lemmas.List.{length-map}
 use Rattle.std.proofs.lemmas.Option.{slice_get-map}
 use Rattle.std.proofs.lemmas.List.Sums.{sum_by-cons}
-use Rattle.std.specs.Prelude.{slice_get, reverse, nat_le, nat_lt, option_map, option_and_then, filter_map, zip, count_by, codes, bytes_eq, if◌then◌else◌}
-use Rattle.std.specs.Option.{option_or, option_to_list}
+use Rattle.std.specs.Prelude.{slice_get, reverse, nat_le, nat_lt, option_map, option_and_then, filter_map, zip, count_by, codes, bytes_eq}
+use Rattle.std.specs.Option.{option_to_list}
 use Rattle.std.specs.List.{AllZip, list_all, cons_option}
 use Rattle.ic_base.specs.Reader.{◌>>=◌}
 use Rattle.ic_base.proofs.Steps.{bind_some, passed}
@@ -24,35 +24,17 @@ use Rattle.wm_valid.specs.declared.system_api.SystemCall.TheVariants as call
 use Rattle.wm_valid.specs.SystemApi.{row_of, calls, call_named, number_of}
 use Rattle.wm_valid.specs.Types.{same_type, same_types}
 use Rattle.wm_valid.specs.Space.{imported_type, function_types, type_of}
-use Rattle.wm_valid.specs.Imports.{has_signature, call_of, import_fault}
-use Rattle.wm_valid.specs.Indices.{types_in_range, functions_in_range, index_fault}
+use Rattle.wm_valid.specs.Imports.{has_signature, call_of}
 use Rattle.wm_valid.specs.Bodies.{hosts_of, result_of, context_with}
-use Rattle.wm_valid.specs.Checked.{checked}
+use Rattle.wm_valid.specs.Passes.{Passes}
 use Rattle.wm_valid.specs.IsValid.{Validated, Calls, Suits, IsValid}
 use Rattle.wm_valid.proofs.Steps.{filter_map_found}
+use Rattle.wm_valid.proofs.EveryCheck.{passes_of_checked}
 use Rattle.wm_store.specs.Fits.{function_count, is_function}
 use Rattle.wm_semantics.specs.Functions.{of_host, of_module, function_at, function_of}
 use Rattle.wm_semantics.proofs.Operands.{same_type_is}
 
 -- ---- checks that passed
-
-pub or_none : {A : Type 0} (a b : Option A) → option_or a b ≡ None → (a ≡ None) × (b ≡ None)
-or_none None b e = (refl, e)
-or_none (Some x) b e = absurd cc
-
-pub map_none : {A B : Type 0} (f : A → B) (o : Option A) → option_map f o ≡ None → o ≡ None
-map_none f None e = refl
-map_none f (Some x) e = absurd cc
-
-not_failing : (b : Bool) (k : ℕ) (others : Option ℕ) → (if b then others else Some k) ≡ None → (b ≡ true) × (others ≡ None)
-not_failing true k others e = (refl, e)
-not_failing false k others e = absurd cc
-
-module _ (m : Module) (passes : checked m ≡ None) where
-  indices_pass : index_fault m ≡ None
-  indices_pass =
-      let after = or_none (import_fault m) (option_or (index_fault m) _) passes in
-      (or_none (index_fault m) _ after.1).0
 
 list_all_at : {A : Type 0} (p : A → Bool) (xs : List A) (n : ℕ) (x : A) → list_all p xs ≡ true → slice_get xs n ≡ Some x → p x ≡ true
 list_all_at p [] n x all e = absurd cc
@@ -69,20 +51,8 @@ few_results (t ∷ u ∷ ts) e =
     let long : suc (suc (length ts)) ≤ 1 = leb-true (suc (suc (length ts))) 1 e in
     absurd (omega arith)
 
--- what the checks of types and functions say
-pub record InRange (m : Module) : Type 0 where
-  pub types : types_in_range m ≡ true
-  pub functions : functions_in_range m ≡ true
-
-pub in_range : (m : Module) → checked m ≡ None → InRange m
-in_range m passes =
-    let none = map_none _ _ (indices_pass m passes) in
-    let first = not_failing (types_in_range m) 1 _ none in
-    let second = not_failing (functions_in_range m) 3 _ first.1 in
-    record { types = first.0; functions = second.0 }
-
 -- a type of the module has one result at most
-pub results_are : (m : Module) (n : ℕ) (t : FuncType) → InRange m → slice_get m.types n ≡ Some t → reverse t.results ≡ types_of (result_of (Some t))
+pub results_are : (m : Module) (n : ℕ) (t : FuncType) → Passes m → slice_get m.types n ≡ Some t → reverse t.results ≡ types_of (result_of (Some t))
 results_are m n t r e = few_results t.results (list_all_at (λ (u : FuncType). nat_le (length u.results) 1) m.types n t r.types e)
 
 -- ---- calls of the System API
@@ -278,6 +248,6 @@ typed_at v f valid lt = by_which (which v.module.types v.module.imports v.module
         let many = counted v.module.types v.module.imports v.calls valid.calls in
         let within : f - length v.calls < length v.module.functions = omega arith in
         let k = got v.module.functions (f - length v.calls) within in
-        let small : nat_lt k.0 (length v.module.types) ≡ true = list_all_at (λ (n : ℕ). nat_lt n (length v.module.types)) v.module.functions (f - length v.calls) k.0 (in_range v.module valid.passes).functions k.1 in
+        let small : nat_lt k.0 (length v.module.types) ≡ true = list_all_at (λ (n : ℕ). nat_lt n (length v.module.types)) v.module.functions (f - length v.calls) k.0 (passes_of_checked v.module valid.passes).functions k.1 in
         let t = got v.module.types k.0 (ltb-true k.0 (length v.module.types) small) in
         (t.0, ap (option_and_then (λ k. slice_get v.module.types k)) (e2 ∙ k.1) ∙ t.1)
