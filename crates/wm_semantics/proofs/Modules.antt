@@ -172,7 +172,7 @@ pub data Reached (v : Validated) (f : ℕ) (t : FuncType) : Type 0 where
   defined : (code : FuncCode) (flat : FlatCode) → function_at v.module f ≡ Some (of_module t code) → slice_get (hosts_of v.module) f ≡ None
       → slice_get v.codes (f - length (hosts_of v.module)) ≡ Some flat → IsSound (body_of v.module t code flat) → Reached v f t
 
-hosts_are : (v : Validated) → IsValid v → hosts_of v.module ≡ map number_of v.calls
+pub hosts_are : (v : Validated) → IsValid v → hosts_of v.module ≡ map number_of v.calls
 hosts_are v valid = ap (map number_of) (sym (filter_map_found (call_of v.module.types) v.module.imports v.calls valid.calls))
 
 record Typed (m : Module) (f : ℕ) (t : FuncType) : Type 0 where

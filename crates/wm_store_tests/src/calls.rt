@@ -43,6 +43,18 @@ pub fn copy_into(store: &mut Store, at: u64, bytes: &[u8]) -> Result<Option<()>,
     store.copy_into(at, bytes)
 }
 
+pub fn copy_within(store: &mut Store, to: u64, from: u64, size: u64) -> Result<Option<()>, NoMemory>
+    ensures { store.new.begun ≡ store.old.begun }
+{
+    store.copy_within(to, from, size)
+}
+
+pub fn fill(store: &mut Store, at: u64, byte: u8, size: u64) -> Result<Option<()>, NoMemory>
+    ensures { store.new.begun ≡ store.old.begun }
+{
+    store.fill(at, byte, size)
+}
+
 pub fn stable_write(store: &mut Store, at: u64, bytes: &[u8]) -> Result<Option<()>, NoMemory>
     ensures { store.new.begun ≡ store.old.begun }
 {

@@ -20,10 +20,19 @@ fn undo(store: &mut Store)
     store.undo();
 }
 
+// A store is the same to its callers behind a message that did nothing.
+fn begin_and_undo(store: &mut Store)
+    requires { store.old.begun ≡ None }
+    ensures { store.new ≡ store.old }
+{
+    store.begin();
+    store.undo();
+}
+
 // ---- undo and keep
 
 /// Makes the last byte of one page of each memory differ from 0.
-fn fill(store: &mut Store) -> Result<(), NoMemory>
+fn write_first(store: &mut Store) -> Result<(), NoMemory>
     ensures { store.new.begun ≡ store.old.begun }
 {
     copy_into(store, PAGE - 1, &[1])?;
@@ -73,7 +82,7 @@ fn check_changed(rt: &impl Abort, store: &Store, saved: u32) {
 fn check_undone(rt: &impl Abort, store: &mut Store) -> Result<(), NoMemory>
     requires { store.old.begun ≡ None }
 {
-    fill(store)?;
+    write_first(store)?;
     check_first(rt, store);
     begin(store);
     change(store)?;
@@ -92,13 +101,12 @@ fn undone(rt: HostRuntime) -> Result<(), NoMemory> {
 fn check_kept(rt: &impl Abort, store: &mut Store) -> Result<(), NoMemory>
     requires { store.old.begun ≡ None }
 {
-    fill(store)?;
+    write_first(store)?;
     begin(store);
     change(store)?;
     store.keep();
     check_changed(rt, store, 0);
-    begin(store);
-    undo(store);
+    begin_and_undo(store);
     check_changed(rt, store, 0);
     Ok(())
 }
@@ -174,4 +182,67 @@ fn check_saved(rt: &impl Abort, store: &mut Store) -> Result<(), NoMemory>
 fn saved_ranges(rt: HostRuntime) -> Result<(), NoMemory> {
     let mut store = made(rt.alloc(), 255, None)?;
     check_saved(&rt, &mut store)
+}
+
+// ---- ranges that copies and fills save
+
+/// Writes two ranges, then one that stands apart, and none.
+fn write_ranges(store: &mut Store) -> Result<(), NoMemory>
+    ensures { store.new.begun ≡ store.old.begun }
+{
+    fill(store, 4_095, 7, 2)?;
+    copy_within(store, 16_384, 4_095, 2)?;
+    copy_within(store, 32_768, 0, 0)?;
+    fill(store, PAGE, 7, 0)?;
+    Ok(())
+}
+
+/// The bytes around the ends of what is written.
+fn around(store: &Store) -> [Option<u64>; 6] {
+    [4_094, 4_095, 4_096, 16_384, 16_385, 16_386].map(|at| byte(store, at))
+}
+
+fn check_ranges(rt: &impl Abort, store: &mut Store) -> Result<(), NoMemory>
+    requires { store.old.begun ≡ None }
+{
+    let (zero, seven) = (Some(0), Some(7));
+    begin(store);
+    write_ranges(store)?;
+    check_sizes(rt, store, [1, 0, 3]);
+    assert_eq!(rt; around(store), [zero, seven, seven, seven, seven, zero]);
+    undo(store);
+    check_sizes(rt, store, [1, 0, 0]);
+    assert_eq!(rt; around(store), [zero; 6]);
+    Ok(())
+}
+
+#[test]
+fn ranges_saved(rt: HostRuntime) -> Result<(), NoMemory> {
+    let mut store = made(rt.alloc(), 1, None)?;
+    check_ranges(&rt, &mut store)
+}
+
+/// The first byte and the last of 256 pages.
+fn outer(store: &Store) -> [Option<u64>; 2] {
+    [byte(store, 0), byte(store, 256 * PAGE - 1)]
+}
+
+fn check_largest(rt: &impl Abort, store: &mut Store) -> Result<(), NoMemory>
+    requires { store.old.begun ≡ None }
+{
+    begin(store);
+    assert_eq!(rt; fill(store, 0, 7, 256 * PAGE)?, Some(()));
+    check_sizes(rt, store, [256, 0, 4_096]);
+    assert_eq!(rt; outer(store), [Some(7); 2]);
+    undo(store);
+    check_sizes(rt, store, [256, 0, 0]);
+    assert_eq!(rt; outer(store), [Some(0); 2]);
+    Ok(())
+}
+
+// All of the largest memory is written, and so is saved.
+#[test]
+fn largest_memory(rt: HostRuntime) -> Result<(), NoMemory> {
+    let mut store = made(rt.alloc(), 256, None)?;
+    check_largest(&rt, &mut store)
 }

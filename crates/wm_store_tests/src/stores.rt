@@ -1,6 +1,6 @@
 ghost use Rattle.std.specs.Prelude.{◌≤◌};
 
-use crate::calls::{PAGE, check_growths, made};
+use crate::calls::{PAGE, check_growths, copy_within, made, save};
 use ic_base::NoMemory;
 use std::process::Abort;
 use std::test::*;
@@ -12,6 +12,7 @@ use wm_store::Store;
 #[test]
 fn growth_to_the_maximum(rt: HostRuntime) -> Result<(), NoMemory> {
     let mut store = made(rt.alloc(), 1, Some(3))?;
+    assert_eq!(rt; store.page_limit(), 3);
     check_growths(&rt, &mut store, [3, 2, 1], [None, Some(1), None])
 }
 
@@ -24,6 +25,7 @@ fn stable_growths(store: &mut Store) -> Result<[Option<u32>; 3], NoMemory> {
 }
 
 fn check_256_pages(rt: &impl Abort, store: &mut Store) -> Result<(), NoMemory> {
+    assert_eq!(rt; store.page_limit(), 256);
     check_growths(rt, store, [2, 1, u32::MAX], [None, Some(255), None])?;
     assert_eq!(rt; stable_growths(store)?, [None, Some(0), None]);
     Ok(())
@@ -37,8 +39,9 @@ fn growth_to_256_pages(rt: HostRuntime) -> Result<(), NoMemory> {
 
 // ---- ends
 
-/// Whether so many bytes at a place can be read and written, in both memories.
-fn fits(store: &mut Store, at: u64, size: u32) -> Result<[bool; 6], NoMemory>
+/// Whether so many bytes at a place can be read and written, in both memories, filled, and copied from
+/// there and to there.
+fn fits(store: &mut Store, at: u64, size: u32) -> Result<[bool; 9], NoMemory>
     requires { size ≤ 8 }
 {
     let mut bytes = [0; 8];
@@ -50,11 +53,14 @@ fn fits(store: &mut Store, at: u64, size: u32) -> Result<[bool; 6], NoMemory>
         store.save(at, size, 0)?.is_some(),
         store.copy_into(at, part)?.is_some(),
         store.stable_write(at, part)?.is_some(),
+        store.fill(at, 0, u64::from(size))?.is_some(),
+        store.copy_within(0, at, u64::from(size))?.is_some(),
+        store.copy_within(at, 0, u64::from(size))?.is_some(),
     ])
 }
 
 /// Both sides of each end, and addresses whose end passes 2^64.
-fn fits_around_ends(store: &mut Store) -> Result<[[bool; 6]; 6], NoMemory> {
+fn fits_around_ends(store: &mut Store) -> Result<[[bool; 9]; 6], NoMemory> {
     Ok([
         fits(store, PAGE - 4, 4)?,
         fits(store, PAGE, 0)?,
@@ -67,7 +73,7 @@ fn fits_around_ends(store: &mut Store) -> Result<[[bool; 6]; 6], NoMemory> {
 
 fn check_ends(rt: &impl Abort, store: &mut Store) -> Result<(), NoMemory> {
     store.stable_grow(1)?;
-    let (yes, no) = ([true; 6], [false; 6]);
+    let (yes, no) = ([true; 9], [false; 9]);
     assert_eq!(rt; fits_around_ends(store)?, [yes, yes, no, no, no, no]);
     Ok(())
 }
@@ -76,6 +82,46 @@ fn check_ends(rt: &impl Abort, store: &mut Store) -> Result<(), NoMemory> {
 fn ends(rt: HostRuntime) -> Result<(), NoMemory> {
     let mut store = made(rt.alloc(), 1, None)?;
     check_ends(&rt, &mut store)
+}
+
+// ---- copies and fills
+
+/// What the bytes 1 to 8 become where three of them are copied.
+fn copied(store: &mut Store, to: u64, from: u64) -> Result<Option<[u8; 8]>, NoMemory> {
+    save(store, 0, 8, 0x0807_0605_0403_0201)?;
+    copy_within(store, to, from, 3)?;
+    Ok(first_bytes(store))
+}
+
+fn first_bytes(store: &Store) -> Option<[u8; 8]> {
+    let mut bytes = [0; 8];
+    bytes.copy_from_slice(store.memory().get(..8)?);
+    Some(bytes)
+}
+
+/// What they become where three of them are filled.
+fn filled(store: &mut Store, value: u64) -> Result<Option<[u8; 8]>, Fail> {
+    save(store, 0, 8, 0x0807_0605_0403_0201)?;
+    store.memory_fill(2, value, 3)??;
+    Ok(first_bytes(store))
+}
+
+fn check_ranges(rt: &impl Abort, store: &mut Store) -> Result<(), Fail> {
+    assert_eq!(rt; copied(store, 1, 0)?, Some([1, 1, 2, 3, 5, 6, 7, 8]));
+    assert_eq!(rt; copied(store, 0, 1)?, Some([2, 3, 4, 4, 5, 6, 7, 8]));
+    assert_eq!(rt; copied(store, 5, 1)?, Some([1, 2, 3, 4, 5, 2, 3, 4]));
+    assert_eq!(rt;
+        filled(store, 0x1AB)?,
+        Some([1, 2, 0xAB, 0xAB, 0xAB, 6, 7, 8])
+    );
+    Ok(())
+}
+
+// Ranges that overlap are read first, and a fill takes the value's lowest byte.
+#[test]
+fn ranges(rt: HostRuntime) -> Result<(), Fail> {
+    let mut store = made(rt.alloc(), 1, None)?;
+    check_ranges(&rt, &mut store)
 }
 
 // ---- numbers
