@@ -71,6 +71,7 @@ impl Pages {
 
     /// Writes the source over the bytes from a place on. Memory for the ranges that this saves is
     /// taken before it.
+    #[tactic(auto, using(crate::proofs::Steps::none_begun))]
     pub fn write(&mut self, at: usize, source: &[u8]) -> Result<(), NoMemory>
         requires { at + length source.now ≤ length self.old.bytes }
         ensures bytes { OnOk result (self.new.bytes ≡ over at source.now self.old.bytes) }
@@ -87,6 +88,7 @@ impl Pages {
 
     /// Copies so many bytes from one place to another, as if they were read first. Memory for the
     /// ranges that this saves is taken before it.
+    #[tactic(auto, using(crate::proofs::Steps::none_begun))]
     pub fn copy_within(&mut self, to: usize, from: usize, size: usize) -> Result<(), NoMemory>
         requires source { from + size ≤ length self.old.bytes }
         requires target { to + size ≤ length self.old.bytes }
@@ -103,6 +105,7 @@ impl Pages {
     }
 
     /// Writes one byte to so many places. Memory for the ranges that this saves is taken before it.
+    #[tactic(auto, using(crate::proofs::Steps::none_begun))]
     pub fn fill(&mut self, at: usize, byte: u8, size: usize) -> Result<(), NoMemory>
         requires { at + size ≤ length self.old.bytes }
         ensures bytes { OnOk result (self.new.bytes ≡ over at (replicate size byte) self.old.bytes) }

@@ -2,13 +2,8 @@ use Rattle.std.proofs.Common.{◌≡◌, ℕ, ◌++◌, List, take, drop, replic
 use Rattle.std.proofs.lemmas.List.{take_at, length-replicate}
 use Rattle.wm_pages.specs.Paged.{Paged}
 use Rattle.wm_pages.specs.Over.{over}
-use Rattle.wm_pages.proofs.Steps.{before_written, none_begun}
+use Rattle.wm_pages.proofs.Steps.{before_written}
 use Rattle.wm_pages.proofs.pages.Pages.fill.Goals as goal
-
-pub returns-in_err-save-clause-idle : goal.returns-in_err-save-clause-idle
-returns-in_err-save-clause-idle c none =
-    let start = none_begun c.self.inside.ranges c.self.inside.bytes.items c.self.invariant (ap (λ (p : Paged). p.before) c.self.view_is ∙ none) in
-    ap length (c.save.ensures.idle start) ∙ ap (λ (p : Paged). p.saved) c.self.view_is
 
 pub returns-clause-before : goal.returns-clause-before
 returns-clause-before c =
@@ -23,8 +18,3 @@ returns-clause-before c =
     let kept = rw c.as_slice.ensures.value at c.in_ok-save.ensures.before in
     rw now (before_written c.save.new.self c.args.at source inside.items sound (omega (arith, size, c.requires, few)) (λ i from below old. c.in_ok-save.ensures.covered i from (omega (arith, size, below)) old)
     ∙ kept ∙ ap (λ (p : Paged). p.before) c.self.view_is)
-
-pub returns-clause-idle : goal.returns-clause-idle
-returns-clause-idle c none =
-    let start = none_begun c.self.inside.ranges c.self.inside.bytes.items c.self.invariant (ap (λ (p : Paged). p.before) c.self.view_is ∙ none) in
-    ap length (c.save.ensures.idle start) ∙ ap (λ (p : Paged). p.saved) c.self.view_is

@@ -2,13 +2,8 @@ use Rattle.std.proofs.Common.{◌≡◌, ◌++◌, take, drop, arith, ◌∙◌,
 use Rattle.std.proofs.lemmas.List.{take_at}
 use Rattle.wm_pages.specs.Paged.{Paged}
 use Rattle.wm_pages.specs.Over.{over}
-use Rattle.wm_pages.proofs.Steps.{before_written, none_begun}
+use Rattle.wm_pages.proofs.Steps.{before_written}
 use Rattle.wm_pages.proofs.pages.Pages.write.Goals as goal
-
-pub returns-in_err-save-clause-idle : goal.returns-in_err-save-clause-idle
-returns-in_err-save-clause-idle c none =
-    let start = none_begun c.self.inside.ranges c.self.inside.bytes.items c.self.invariant (ap (λ (p : Paged). p.before) c.self.view_is ∙ none) in
-    ap length (c.save.ensures.idle start) ∙ ap (λ (p : Paged). p.saved) c.self.view_is
 
 pub returns-clause-before : goal.returns-clause-before
 returns-clause-before c =
@@ -19,8 +14,3 @@ returns-clause-before c =
     let sound = rw c.as_slice.ensures.value at c.in_ok-save.ensures.sound in
     let kept = rw c.as_slice.ensures.value at c.in_ok-save.ensures.before in
     rw now (before_written c.save.new.self c.args.at c.args.source.now inside.items sound (omega (arith, c.requires, ap (λ (p : Paged). length p.bytes) c.self.view_is)) c.in_ok-save.ensures.covered ∙ kept ∙ ap (λ (p : Paged). p.before) c.self.view_is)
-
-pub returns-clause-idle : goal.returns-clause-idle
-returns-clause-idle c none =
-    let start = none_begun c.self.inside.ranges c.self.inside.bytes.items c.self.invariant (ap (λ (p : Paged). p.before) c.self.view_is ∙ none) in
-    ap length (c.save.ensures.idle start) ∙ ap (λ (p : Paged). p.saved) c.self.view_is
