@@ -24,7 +24,6 @@ mod Ranging
 mod Hosting
 mod Looking
 mod Loop
-mod EntryPoints
 mod Going
 mod ByTable
 mod Firsts

@@ -14,7 +14,6 @@ pub fn entry_target(valid: &Valid, kind: EntryName, name: &str) -> Option<Target
     // An entry point takes and gives nothing.
     ensures procedure { IfSome result (IsTarget valid.now.module) }
 {
-    let _module = valid.module();
     match valid.entry(kind, name) {
         Some(function) => Some(Target::Function(function)),
         None => None,
