@@ -43,8 +43,8 @@ fn values_32(x: u64, y: u64) -> [u64; 28]
         int32::shr_u(x, y),
         int32::rotl(x, y),
         int32::rotr(x, y),
-        int32::extend_8_s(x % 0x100),
-        int32::extend_16_s(x % 0x1_0000),
+        int32::extend_8_s(x),
+        int32::extend_16_s(x),
         int64::extend_32_s(x),
     ]
 }
@@ -88,8 +88,8 @@ fn values_64(x: u64, y: u64) -> [u64; 28] {
         int64::shr_u(x, y),
         int64::rotl(x, y),
         int64::rotr(x, y),
-        int64::extend_8_s(x % 0x100),
-        int64::extend_16_s(x % 0x1_0000),
+        int64::extend_8_s(x),
+        int64::extend_16_s(x),
         int32::wrap_64(x),
     ]
 }

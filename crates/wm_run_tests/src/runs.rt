@@ -45,6 +45,33 @@ fn growth(rt: HostRuntime) -> Result<(), Fail> {
     Ok(())
 }
 
+// Sign extension, copies and fills.
+#[test]
+fn ranges(rt: HostRuntime) -> Result<(), Fail> {
+    for (body, limit, text, used, bytes) in rows::ranges() {
+        let found = run(rt.alloc(), body, *limit)?;
+        expect(&rt, body, &found, text, *used);
+        assert_eq!(rt; found.bytes, *bytes, "{body:?}");
+    }
+    Ok(())
+}
+
+/// So many words `nop`.
+fn nops(alloc: Global, count: usize) -> Result<Vec<u8>, NoMemory> {
+    let mut body = Vec::new(alloc);
+    body.resize(count, 1)?;
+    Ok(body)
+}
+
+// A large body is run: that takes no memory that is not there.
+#[test]
+fn large_body(rt: HostRuntime) -> Result<(), Fail> {
+    let body = nops(rt.alloc(), 100_000)?;
+    let found = run(rt.alloc(), &body, 1_000_000)?;
+    expect(&rt, b"100,000 times nop", &found, "returned", 100_000);
+    Ok(())
+}
+
 #[test]
 fn traps(rt: HostRuntime) -> Result<(), Fail> {
     compare(&rt, rows::traps())

@@ -7,9 +7,9 @@ use super::modules::module;
 use std::alloc::Global;
 use std::test::Fail;
 use wm_decode::decode;
-use wm_run::{Ended, Host, Meter, Target, entry_target, instantiate, invoke};
+use wm_run::{Ended, Host, Meter, Target, entry_target, instantiate, invoke, start_target};
 use wm_store::Store;
-use wm_valid::{EntryName, Valid, every_check_passes, validate};
+use wm_valid::{EntryName, Valid, validate};
 
 /// Where a run begins.
 #[derive(Clone, Copy, Debug)]
@@ -28,6 +28,8 @@ pub struct Outcome {
     pub text: String,
     pub used: u64,
     pub pages: u32,
+    /// The first bytes of memory.
+    pub bytes: [u8; 8],
 }
 
 fn text_of(ended: &Ended) -> &str {
@@ -62,12 +64,11 @@ fn method_target(valid: &Valid) -> Result<Target, Fail>
     }
 }
 
-fn start_target(valid: &Valid) -> Result<Target, Fail>
+fn start_of(valid: &Valid) -> Result<Target, Fail>
     ensures { IfOk result (IsTarget valid.now.«module») }
 {
-    every_check_passes();
-    match valid.module().start {
-        Some(function) => Ok(Target::Function(function)),
+    match start_target(valid) {
+        Some(target) => Ok(target),
         None => Err(Fail::new("no start function")),
     }
 }
@@ -77,9 +78,16 @@ fn target_of(valid: &Valid, beginning: Beginning) -> Result<Target, Fail>
 {
     match beginning {
         Beginning::Method => method_target(valid),
-        Beginning::Start => start_target(valid),
+        Beginning::Start => start_of(valid),
         Beginning::Callback(index) => Ok(Target::Element { index, env: 9 }),
     }
+}
+
+/// The first bytes of memory, or zeros where there are not so many.
+fn first_bytes(store: &Store) -> [u8; 8] {
+    let mut bytes = [0; 8];
+    store.copy_out(0, &mut bytes);
+    bytes
 }
 
 /// Runs a target on the store of its module.
@@ -100,6 +108,7 @@ fn run_target<H: Host>(
         text: String::from_str(alloc, text_of(&ended))?,
         used: meter.used(),
         pages: store.pages(),
+        bytes: first_bytes(store),
     })
 }
 

@@ -175,6 +175,168 @@ pub fn traps() -> &'static [Row] {
     &TRAPS
 }
 
+/// A body, the limit, how it ends, what it uses, and the first 8 bytes of memory then.
+pub type Range = (&'static [u8], u64, &'static str, u64, [u8; 8]);
+
+/// What the data segment puts there.
+const SEGMENT: [u8; 8] = [0x80, 0xff, 0x7f, 1, 0xfe, 0, 0, 0x80];
+
+// The places and the size of a copy, or the place, the value and the size of a fill, come before it.
+static RANGES: [Range; 20] = [
+    // i32.const 0, i32.const 128, i32.extend8_s, i32.store
+    (
+        b"\x41\x00\x41\x80\x01\xc0\x36\x02\x00",
+        100,
+        "returned",
+        4,
+        [0x80, 0xff, 0xff, 0xff, 0xfe, 0, 0, 0x80],
+    ),
+    // 4 bytes filled with 171, and copied by 2 bytes
+    (
+        b"\x41\x00\x41\xab\x01\x41\x04\xfc\x0b\x00\x41\x02\x41\x00\x41\x04\xfc\x0a\x00\x00",
+        100,
+        "returned",
+        16,
+        [0xab, 0xab, 0xab, 0xab, 0xab, 0xab, 0, 0x80],
+    ),
+    // the lowest byte of the value alone
+    (
+        b"\x41\x01\x41\xff\x03\x41\x03\xfc\x0b\x00",
+        100,
+        "returned",
+        7,
+        [0x80, 0xff, 0xff, 0xff, 0xfe, 0, 0, 0x80],
+    ),
+    // a copy that overlaps, up and down
+    (
+        b"\x41\x01\x41\x00\x41\x03\xfc\x0a\x00\x00",
+        100,
+        "returned",
+        7,
+        [0x80, 0x80, 0xff, 0x7f, 0xfe, 0, 0, 0x80],
+    ),
+    (
+        b"\x41\x00\x41\x01\x41\x07\xfc\x0a\x00\x00",
+        100,
+        "returned",
+        11,
+        [0xff, 0x7f, 1, 0xfe, 0, 0, 0x80, 0x80],
+    ),
+    // the charge at the limit, and one below
+    (
+        b"\x41\x01\x41\x00\x41\x03\xfc\x0a\x00\x00",
+        7,
+        "returned",
+        7,
+        [0x80, 0x80, 0xff, 0x7f, 0xfe, 0, 0, 0x80],
+    ),
+    (
+        b"\x41\x01\x41\x00\x41\x03\xfc\x0a\x00\x00",
+        6,
+        "instruction limit",
+        3,
+        SEGMENT,
+    ),
+    (
+        b"\x41\x01\x41\x00\x41\x03\xfc\x0b\x00",
+        6,
+        "instruction limit",
+        3,
+        SEGMENT,
+    ),
+    (
+        b"\x41\x00\x41\x00\x41\x7f\xfc\x0a\x00\x00",
+        4_294_967_299,
+        "memory out of bounds",
+        4_294_967_299,
+        SEGMENT,
+    ),
+    (
+        b"\x41\x00\x41\x00\x41\x7f\xfc\x0a\x00\x00",
+        4_294_967_298,
+        "instruction limit",
+        3,
+        SEGMENT,
+    ),
+    (
+        b"\x41\x00\x41\x00\x41\x7f\xfc\x0b\x00",
+        4_294_967_298,
+        "instruction limit",
+        3,
+        SEGMENT,
+    ),
+    // a fill of no byte past the end and at it, and of two bytes
+    (
+        b"\x41\x81\x80\x04\x41\x00\x41\x00\xfc\x0b\x00",
+        100,
+        "memory out of bounds",
+        4,
+        SEGMENT,
+    ),
+    (
+        b"\x41\x80\x80\x04\x41\x00\x41\x00\xfc\x0b\x00",
+        100,
+        "returned",
+        4,
+        SEGMENT,
+    ),
+    (
+        b"\x41\xff\xff\x03\x41\x00\x41\x02\xfc\x0b\x00",
+        100,
+        "memory out of bounds",
+        6,
+        SEGMENT,
+    ),
+    (
+        b"\x41\xfe\xff\x03\x41\x00\x41\x02\xfc\x0b\x00",
+        100,
+        "returned",
+        6,
+        SEGMENT,
+    ),
+    // a copy of no byte from and to the end, and past it
+    (
+        b"\x41\x80\x80\x04\x41\x80\x80\x04\x41\x00\xfc\x0a\x00\x00",
+        100,
+        "returned",
+        4,
+        SEGMENT,
+    ),
+    (
+        b"\x41\x81\x80\x04\x41\x00\x41\x00\xfc\x0a\x00\x00",
+        100,
+        "memory out of bounds",
+        4,
+        SEGMENT,
+    ),
+    (
+        b"\x41\x00\x41\x81\x80\x04\x41\x00\xfc\x0a\x00\x00",
+        100,
+        "memory out of bounds",
+        4,
+        SEGMENT,
+    ),
+    // of the last 4 bytes, and from one byte further
+    (
+        b"\x41\x00\x41\xfc\xff\x03\x41\x04\xfc\x0a\x00\x00",
+        100,
+        "returned",
+        8,
+        [0, 0, 0, 0, 0xfe, 0, 0, 0x80],
+    ),
+    (
+        b"\x41\x00\x41\xfd\xff\x03\x41\x04\xfc\x0a\x00\x00",
+        100,
+        "memory out of bounds",
+        8,
+        SEGMENT,
+    ),
+];
+
+pub fn ranges() -> &'static [Range] {
+    &RANGES
+}
+
 static DEPTHS: [Row; 4] = [
     // call of itself
     (b"\x10\x03", 1000, "call depth", 512),
