@@ -79,6 +79,26 @@ pub fn nested(alloc: Global, blocks: u32, other: &[u8]) -> Result<Vec<u8>, Fail>
     Ok(content)
 }
 
+/// A number, and so many of the item.
+fn repeated(alloc: Global, item: &[u8], count: usize) -> Result<Vec<u8>, NoMemory> {
+    let mut content = Vec::new(alloc);
+    write_u(count as u128, &mut content)?;
+    content.extend_from_slice(&item.repeat(alloc, count)?)?;
+    Ok(content)
+}
+
+/// The bytes of a module with so many functions of so many `nop` each.
+pub fn with_words(alloc: Global, functions: usize, words: usize) -> Result<Vec<u8>, NoMemory> {
+    let kinds = repeated(alloc, b"\x00", functions)?;
+    let mut code = Vec::from_slice(alloc, b"\x00")?;
+    code.extend_from_slice(&b"\x01".repeat(alloc, words)?)?;
+    code.push(0x0B)?;
+    let mut item = Vec::new(alloc);
+    push_sized(&mut item, &code)?;
+    let codes = repeated(alloc, &item, functions)?;
+    bytes_of(alloc, &[PROCEDURE, (3, &kinds)], (10, &codes))
+}
+
 fn push_export(content: &mut Vec<u8>, export: &ExportRow) -> Result<(), NoMemory> {
     let (name, function) = export;
     push_sized(content, name)?;

@@ -306,6 +306,87 @@ pub fn bodies() -> &'static [Row] {
     &BODIES
 }
 
+// Sign extensions, copy and fill, where there is a memory.
+static WITH_MEMORY: [Row; 15] = [
+    // three constants of type i32 for copy, and for fill
+    (
+        b"\x01\x0C\x00\x41\x00\x41\x00\x41\x00\xFC\x0A\x00\x00\x0B",
+        None,
+    ),
+    (
+        b"\x01\x0B\x00\x41\x00\x41\x00\x41\x00\xFC\x0B\x00\x0B",
+        None,
+    ),
+    // one of type i64 among them
+    (
+        b"\x01\x0C\x00\x42\x00\x41\x00\x41\x00\xFC\x0A\x00\x00\x0B",
+        UNTYPED_0,
+    ),
+    (
+        b"\x01\x0C\x00\x41\x00\x42\x00\x41\x00\xFC\x0A\x00\x00\x0B",
+        UNTYPED_0,
+    ),
+    (
+        b"\x01\x0B\x00\x41\x00\x41\x00\x42\x00\xFC\x0B\x00\x0B",
+        UNTYPED_0,
+    ),
+    // two, and four
+    (
+        b"\x01\x0A\x00\x41\x00\x41\x00\xFC\x0A\x00\x00\x0B",
+        UNTYPED_0,
+    ),
+    (
+        b"\x01\x0D\x00\x41\x00\x41\x00\x41\x00\x41\x00\xFC\x0B\x00\x0B",
+        UNTYPED_0,
+    ),
+    // copy gives nothing: drop
+    (
+        b"\x01\x0D\x00\x41\x00\x41\x00\x41\x00\xFC\x0A\x00\x00\x1A\x0B",
+        UNTYPED_0,
+    ),
+    // i32.const 0, i32.extend8_s, i32.extend16_s, drop
+    (b"\x01\x07\x00\x41\x00\xC0\xC1\x1A\x0B", None),
+    // i64.const 0, i64.extend8_s, i64.extend16_s, i64.extend32_s, drop
+    (b"\x01\x08\x00\x42\x00\xC2\xC3\xC4\x1A\x0B", None),
+    // of the other type
+    (b"\x01\x06\x00\x42\x00\xC0\x1A\x0B", UNTYPED_0),
+    (b"\x01\x06\x00\x42\x00\xC1\x1A\x0B", UNTYPED_0),
+    (b"\x01\x06\x00\x41\x00\xC2\x1A\x0B", UNTYPED_0),
+    (b"\x01\x06\x00\x41\x00\xC3\x1A\x0B", UNTYPED_0),
+    (b"\x01\x06\x00\x41\x00\xC4\x1A\x0B", UNTYPED_0),
+];
+
+pub fn with_memory() -> &'static [Row] {
+    &WITH_MEMORY
+}
+
+// Where there is none.
+static WITHOUT_MEMORY: [Row; 4] = [
+    (
+        b"\x01\x0C\x00\x41\x00\x41\x00\x41\x00\xFC\x0A\x00\x00\x0B",
+        UNTYPED_0,
+    ),
+    (
+        b"\x01\x0B\x00\x41\x00\x41\x00\x41\x00\xFC\x0B\x00\x0B",
+        UNTYPED_0,
+    ),
+    // in code that is not reached too
+    (b"\x01\x06\x00\x00\xFC\x0B\x00\x0B", UNTYPED_0),
+    // i64.const 0, i64.extend32_s, drop
+    (b"\x01\x06\x00\x42\x00\xC4\x1A\x0B", None),
+];
+
+pub fn without_memory() -> &'static [Row] {
+    &WITHOUT_MEMORY
+}
+
+// How many functions, and how many words each has.
+static LARGE: [(usize, usize); 2] = [(1, 100_000), (1_000, 100)];
+
+pub fn large() -> &'static [(usize, usize)] {
+    &LARGE
+}
+
 // What a body may name: a parameter of type i64 (function 1, with a result of type i32), locals, a
 // global, and a function of the System API.
 static CONTEXTS: [Row; 6] = [

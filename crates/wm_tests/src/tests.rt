@@ -101,6 +101,22 @@ fn bodies(rt: HostRuntime) -> Result<(), Fail> {
 }
 
 #[test]
+fn sign_extensions_copy_and_fill(rt: HostRuntime) -> Result<(), Fail> {
+    let sections = [PROCEDURE, FUNCTION, MEMORY];
+    compare(&rt, &sections, 10, tables::with_memory())?;
+    compare(&rt, &[PROCEDURE, FUNCTION], 10, tables::without_memory())
+}
+
+#[test]
+fn large_modules(rt: HostRuntime) -> Result<(), Fail> {
+    for (functions, words) in tables::large() {
+        let bytes = with_words(rt.alloc(), *functions, *words)?;
+        assert_eq!(rt; fault_of(rt.alloc(), &bytes)?, None, "{functions}");
+    }
+    Ok(())
+}
+
+#[test]
 fn contexts(rt: HostRuntime) -> Result<(), Fail> {
     let sections: [Section; 4] = [
         (1, b"\x02\x60\x01\x7E\x01\x7F\x60\x00\x01\x7F"),
