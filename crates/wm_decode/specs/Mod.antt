@@ -1,4 +1,5 @@
--- Modules (WebAssembly Core 1.0, 5.5.2 to 5.5.15; the data count section is that of Core 2.0, 5.5.16).
+-- Modules (WebAssembly Core 1.0, 5.5.2 to 5.5.15; the data count section and its place are those of Core
+-- 2.0, 5.5.15 and 5.5.16).
 use Rattle.std.specs.Prelude.{◌≡◌, ℕ, ◌<◌, Bool, List, [], ◌∷◌, ◌++◌, length, Option, Some, None, nat_eq, nat_le, cond, ◌⊎◌}
 use Rattle.ic_base.specs.Spelling.{Spelling, SpellsMany}
 use Rattle.wm_tree.specs.declared.parts.Module.{Module}
