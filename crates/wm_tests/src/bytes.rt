@@ -87,15 +87,20 @@ fn repeated(alloc: Global, item: &[u8], count: usize) -> Result<Vec<u8>, NoMemor
     Ok(content)
 }
 
+/// The code of a function of so many `nop`, behind its size.
+fn code_of(alloc: Global, words: usize) -> Result<Vec<u8>, NoMemory> {
+    let mut content = Vec::new(alloc);
+    write_u((words as u128).wrapping_add(2), &mut content)?;
+    content.push(0x00)?;
+    content.extend_from_slice(&b"\x01".repeat(alloc, words)?)?;
+    content.push(0x0B)?;
+    Ok(content)
+}
+
 /// The bytes of a module with so many functions of so many `nop` each.
 pub fn with_words(alloc: Global, functions: usize, words: usize) -> Result<Vec<u8>, NoMemory> {
     let kinds = repeated(alloc, b"\x00", functions)?;
-    let mut code = Vec::from_slice(alloc, b"\x00")?;
-    code.extend_from_slice(&b"\x01".repeat(alloc, words)?)?;
-    code.push(0x0B)?;
-    let mut item = Vec::new(alloc);
-    push_sized(&mut item, &code)?;
-    let codes = repeated(alloc, &item, functions)?;
+    let codes = repeated(alloc, &code_of(alloc, words)?, functions)?;
     bytes_of(alloc, &[PROCEDURE, (3, &kinds)], (10, &codes))
 }
 
