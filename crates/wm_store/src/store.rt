@@ -312,7 +312,7 @@ impl Store {
     }
 
     /// Copies so many bytes of memory from one place to another, as if they were read first. None where
-    /// either passes its end, with no byte too; then nothing is written.
+    /// either range passes its end, even an empty one; then nothing is written.
     pub fn copy_within(&mut self, to: u64, from: u64, size: u64) -> Result<Option<()>, NoMemory>
         ensures fits { IfOk result (λ done. is_some done ≡ is_some (moved to from size self.old.lists.memory)) }
         ensures lists { IfOk result (λ _. self.new.lists ≡ record self.old.lists { memory = or_stays (moved to from size self.old.lists.memory) self.old.lists.memory }) }
@@ -325,8 +325,8 @@ impl Store {
         copy(&mut self.memory, to, from, size)
     }
 
-    /// Writes one byte to so many places of memory. None where they pass its end, with no byte too; then
-    /// nothing is written.
+    /// Writes one byte to so many places of memory. None where the range passes its end, even an empty
+    /// one; then nothing is written.
     pub fn fill(&mut self, at: u64, byte: u8, size: u64) -> Result<Option<()>, NoMemory>
         ensures fits { IfOk result (λ done. is_some done ≡ is_some (filled at byte size self.old.lists.memory)) }
         ensures lists { IfOk result (λ _. self.new.lists ≡ record self.old.lists { memory = or_stays (filled at byte size self.old.lists.memory) self.old.lists.memory }) }
