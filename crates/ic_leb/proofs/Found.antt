@@ -9,9 +9,9 @@ use Rattle.ic_leb.specs.declared.fault.LebFault.TheVariants.{Wide}
 use Rattle.ic_leb.specs.Width.{bits}
 use Rattle.ic_leb.specs.Value.{unsigned_value, is_negative, signed_value}
 use Rattle.ic_leb.specs.Magnitude.{magnitude_of, up_to}
-use Rattle.ic_leb.specs.Reading.{size_at, value_of, fits_unsigned, fits_signed, moved}
+use Rattle.ic_leb.specs.Reading.{size_at, value_of, fits_unsigned, fits_signed, read_from}
 use Rattle.ic_leb.proofs.Values.{unsigned_magnitude, signed_magnitude}
-use Rattle.ic_leb.proofs.Numbers.{Kind, number_by}
+use Rattle.ic_leb.proofs.Numbers.{Format, number_by}
 
 -- below the power is up to the number before it
 below_is_up_to : (n largest power : ℕ) → largest + 1 ≡ power → nat_lt n power ≡ nat_le n largest
@@ -35,28 +35,28 @@ signed_up_to width largest bytes e =
     ap (fits_signed width) (signed_magnitude bytes) ∙ fits_magnitude width (is_negative bytes) n ∙ below_is_up_to n largest (2 ^ (bits width - 1)) e
 
 -- no size
-pub not_sized : {A : Type 0} (kind : Kind A) (bytes : List ℕ) (at : ℕ) (f : LebFault) → Err f ≡ size_at kind.most bytes → Err f ≡ moved at (number_by kind bytes)
-not_sized kind bytes at f e = ap (λ r. moved at (value_of kind.value kind.fits bytes r)) e
+pub not_sized : {A : Type 0} (format : Format A) (bytes : List ℕ) (at : ℕ) (f : LebFault) → Err f ≡ size_at format.most bytes → Err f ≡ read_from at (number_by format bytes)
+not_sized format bytes at f e = ap (λ r. read_from at (value_of format.value format.fits bytes r)) e
 
-by_size : {A : Type 0} (kind : Kind A) (bytes : List ℕ) (at size : ℕ) (small : Bool) → Ok size ≡ size_at kind.most bytes → kind.fits (kind.value (take size bytes)) ≡ small → moved at (if small then Ok (kind.value (take size bytes), size) else Err Wide) ≡ moved at (number_by kind bytes)
-by_size kind bytes at size small sized fit =
-    ap (λ b. moved at (if b then Ok (kind.value (take size bytes), size) else Err Wide)) (sym fit) ∙ ap (λ r. moved at (value_of kind.value kind.fits bytes r)) sized
+by_size : {A : Type 0} (format : Format A) (bytes : List ℕ) (at size : ℕ) (small : Bool) → Ok size ≡ size_at format.most bytes → format.fits (format.value (take size bytes)) ≡ small → read_from at (if small then Ok (format.value (take size bytes), size) else Err Wide) ≡ read_from at (number_by format bytes)
+by_size format bytes at size small sized fit =
+    ap (λ b. read_from at (if b then Ok (format.value (take size bytes), size) else Err Wide)) (sym fit) ∙ ap (λ r. read_from at (value_of format.value format.fits bytes r)) sized
 
 fault_is : (f : LebFault) → ◌≡◌ {A = Result ℕ LebFault} (Err f) (Err Wide) → f ≡ Wide
 fault_is f e = cc
 
 -- a size, and a magnitude that is too large
-pub too_large : {A : Type 0} (kind : Kind A) (bytes : List ℕ) (at size largest n : ℕ) (f : LebFault) → Ok size ≡ size_at kind.most bytes → kind.fits (kind.value (take size bytes)) ≡ nat_le n largest → Err f ≡ up_to largest n → Err f ≡ moved at (number_by kind bytes)
-too_large kind bytes at size largest n f sized fit e = by_test (nat_le n largest) refl e
+pub too_large : {A : Type 0} (format : Format A) (bytes : List ℕ) (at size largest n : ℕ) (f : LebFault) → Ok size ≡ size_at format.most bytes → format.fits (format.value (take size bytes)) ≡ nat_le n largest → Err f ≡ up_to largest n → Err f ≡ read_from at (number_by format bytes)
+too_large format bytes at size largest n f sized fit e = by_test (nat_le n largest) refl e
   where
-    by_test : (small : Bool) → nat_le n largest ≡ small → Err f ≡ (if small then Ok n else Err Wide) → Err f ≡ moved at (number_by kind bytes)
+    by_test : (small : Bool) → nat_le n largest ≡ small → Err f ≡ (if small then Ok n else Err Wide) → Err f ≡ read_from at (number_by format bytes)
     by_test true h e = cc
-    by_test false h e = ap Err (fault_is f e) ∙ by_size kind bytes at size false sized (fit ∙ h)
+    by_test false h e = ap Err (fault_is f e) ∙ by_size format bytes at size false sized (fit ∙ h)
 
 -- a size, and a magnitude that is not
-pub not_too_large : {A : Type 0} (kind : Kind A) (bytes : List ℕ) (at size largest n m : ℕ) → Ok size ≡ size_at kind.most bytes → kind.fits (kind.value (take size bytes)) ≡ nat_le n largest → Ok m ≡ up_to largest n → (m ≡ n) × (Ok (kind.value (take size bytes), at + size) ≡ moved at (number_by kind bytes))
-not_too_large kind bytes at size largest n m sized fit e = by_test (nat_le n largest) refl e
+pub not_too_large : {A : Type 0} (format : Format A) (bytes : List ℕ) (at size largest n m : ℕ) → Ok size ≡ size_at format.most bytes → format.fits (format.value (take size bytes)) ≡ nat_le n largest → Ok m ≡ up_to largest n → (m ≡ n) × (Ok (format.value (take size bytes), at + size) ≡ read_from at (number_by format bytes))
+not_too_large format bytes at size largest n m sized fit e = by_test (nat_le n largest) refl e
   where
-    by_test : (small : Bool) → nat_le n largest ≡ small → Ok m ≡ (if small then Ok n else Err Wide) → (m ≡ n) × (Ok (kind.value (take size bytes), at + size) ≡ moved at (number_by kind bytes))
-    by_test true h e = (cc, by_size kind bytes at size true sized (fit ∙ h))
+    by_test : (small : Bool) → nat_le n largest ≡ small → Ok m ≡ (if small then Ok n else Err Wide) → (m ≡ n) × (Ok (format.value (take size bytes), at + size) ≡ read_from at (number_by format bytes))
+    by_test true h e = (cc, by_size format bytes at size true sized (fit ∙ h))
     by_test false h e = cc

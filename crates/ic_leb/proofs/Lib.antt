@@ -8,3 +8,4 @@ pub mod Widths
 pub mod Readers
 pub mod Found
 pub mod Shortest
+mod OneByte

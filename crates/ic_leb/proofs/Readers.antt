@@ -9,11 +9,11 @@ use Rattle.ic_leb.specs.Width.{bits, int_width, most_bytes}
 use Rattle.ic_leb.specs.Value.{unsigned_value, signed_value}
 use Rattle.ic_leb.specs.Spells.{SpellsUnsigned, SpellsSigned}
 use Rattle.ic_leb.specs.Reading.{fits_unsigned, fits_signed, and_rest, unsigned_at, signed_at, unsigned_reader, signed_reader}
-use Rattle.ic_leb.proofs.Numbers.{Kind, SpellsBy, number_by, answered, spelled_again}
+use Rattle.ic_leb.proofs.Numbers.{Format, SpellsBy, number_by, answered, spelled_again}
 use Rattle.ic_leb.proofs.Widths.{unsigned_fits, signed_fits}
 
-abbrev pub unsigned_kind : Width → Kind ℕ
-unsigned_kind width = record {
+abbrev pub unsigned_format : Width → Format ℕ
+unsigned_format width = record {
   value = unsigned_value;
   Fits = λ n. n < 2 ^ bits width;
   most = most_bytes width;
@@ -21,8 +21,8 @@ unsigned_kind width = record {
   decides = unsigned_fits width;
 }
 
-abbrev pub signed_kind : Width → Kind ℤ
-signed_kind width = record {
+abbrev pub signed_format : Width → Format ℤ
+signed_format width = record {
   value = signed_value;
   Fits = λ z. FitsSigned (int_width width) z;
   most = most_bytes width;
@@ -36,20 +36,20 @@ rest_read {A} (Ok y) bytes x rest e =
     (y.1, ap (λ q. Ok (q, y.1)) (ap (λ (q : A × List ℕ). q.0) same), sym (ap (λ (q : A × List ℕ). q.1) same))
 rest_read (Err f) bytes x rest e = cc
 
-number_exact : {A : Type 0} (kind : Kind A) → Exact (SpellsBy kind) (λ bytes. and_rest (number_by kind bytes) bytes)
-number_exact kind = record {
+number_exact : {A : Type 0} (format : Format A) → Exact (SpellsBy format) (λ bytes. and_rest (number_by format bytes) bytes)
+number_exact format = record {
   again = λ x front rest spells.
-      ap (λ r. and_rest r (front ++ rest)) (spelled_again kind x front rest spells)
+      ap (λ r. and_rest r (front ++ rest)) (spelled_again format x front rest spells)
       ∙ ap (λ xs. Some (x, xs)) (drop_at front rest (length front) refl);
   takes = λ bytes x rest e.
-      let read = rest_read (number_by kind bytes) bytes x rest e in
-      (take read.0 bytes, sym (take-append-drop read.0 bytes) ∙ ap (λ xs. take read.0 bytes ++ xs) (sym read.2), (answered kind bytes (Ok (x, read.0)) read.1).2);
+      let read = rest_read (number_by format bytes) bytes x rest e in
+      (take read.0 bytes, sym (take-append-drop read.0 bytes) ∙ ap (λ xs. take read.0 bytes ++ xs) (sym read.2), (answered format bytes (Ok (x, read.0)) read.1).2);
 }
 
 pub unsigned_exact : (width : Width) → Exact (SpellsUnsigned width) (unsigned_reader width)
 unfolding unsigned_reader unsigned_at
-unsigned_exact width = number_exact (unsigned_kind width)
+unsigned_exact width = number_exact (unsigned_format width)
 
 pub signed_exact : (width : Width) → Exact (SpellsSigned width) (signed_reader width)
 unfolding signed_reader signed_at
-signed_exact width = number_exact (signed_kind width)
+signed_exact width = number_exact (signed_format width)

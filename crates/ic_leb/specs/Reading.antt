@@ -58,6 +58,6 @@ unfoldable pub signed_reader : Width → Reader ℤ
 signed_reader width bytes = and_rest (signed_at width bytes) bytes
 
 -- the number and the place after it, where it is read from a place on
-abbrev pub moved : {A : Type 0} → ℕ → Result (A × ℕ) LebFault → Result (A × ℕ) LebFault
-moved at (Ok x) = Ok (x.0, at + x.1)
-moved at (Err e) = Err e
+abbrev pub read_from : {A : Type 0} → ℕ → Result (A × ℕ) LebFault → Result (A × ℕ) LebFault
+read_from at (Ok x) = Ok (x.0, at + x.1)
+read_from at (Err e) = Err e

@@ -1,12 +1,12 @@
-ghost use Rattle.std.specs.Prelude.{◌≡◌, ◌↔◌, ℕ, ℤ, ◌+◌, ◌%◌, ◌^◌, ◌<◌, ◌≤◌, length, drop, take, nat_lt, slice_range, IfOk, IfErr, IfSome, MatchResult, FitsSigned};
+ghost use Rattle.std.specs.Prelude.{◌≡◌, ◌↔◌, ℕ, ℤ, [], ◌∷◌, ◌+◌, ◌%◌, ◌^◌, ◌<◌, ◌≤◌, length, drop, take, nat_lt, slice_range, IfOk, IfErr, IfSome, MatchResult, FitsSigned};
 ghost use Rattle.std.specs.Int.{complement_if};
 ghost use Rattle.std.specs.List.{position_from};
 ghost use Rattle.ic_leb.specs.Width.{bits, int_width, most_bytes};
-ghost use Rattle.ic_leb.specs.Value.{is_negative};
+ghost use Rattle.ic_leb.specs.Value.{is_negative, signed_value};
 ghost use Rattle.ic_leb.specs.Spells.{SpellsUnsigned, SpellsSigned};
 ghost use Rattle.ic_leb.specs.Faults.{IsCutShort, RunsOn, IsTooWideUnsigned, IsTooWideSigned};
 ghost use Rattle.ic_leb.specs.Magnitude.{magnitude_of, up_to};
-ghost use Rattle.ic_leb.specs.Reading.{size_at, unsigned_at, signed_at, unsigned_reader, signed_reader, moved};
+ghost use Rattle.ic_leb.specs.Reading.{size_at, unsigned_at, signed_at, unsigned_reader, signed_reader, read_from};
 
 use crate::bits::low_bits;
 use crate::fault::LebFault;
@@ -23,7 +23,7 @@ pub fn read_u(bytes: &[u8], at: usize, width: Width) -> Result<(u128, usize), Le
     ensures wide { (result ≡ Err LebFault.Wide) ↔ IsTooWideUnsigned width (drop at bytes.now) }
 
     // The same as a function, for the readers that are made of this one.
-    ensures exact { result ≡ moved at (unsigned_at width (drop at bytes.now)) }
+    ensures exact { result ≡ read_from at (unsigned_at width (drop at bytes.now)) }
     ensures inside { IfOk result (λ x. (at < x.1) × (x.1 ≤ length bytes.now)) }
     ensures fits { IfOk result (λ x. x.0 < 2 ^ bits width) }
 {
@@ -41,7 +41,7 @@ pub fn read_s(bytes: &[u8], at: usize, width: Width) -> Result<(i128, usize), Le
     ensures wide { (result ≡ Err LebFault.Wide) ↔ IsTooWideSigned width (drop at bytes.now) }
 
     // The same as a function, for the readers that are made of this one.
-    ensures exact { result ≡ moved at (signed_at width (drop at bytes.now)) }
+    ensures exact { result ≡ read_from at (signed_at width (drop at bytes.now)) }
     ensures inside { IfOk result (λ x. (at < x.1) × (x.1 ≤ length bytes.now)) }
     ensures fits { IfOk result (λ x. FitsSigned (int_width width) x.0) }
 {
@@ -70,10 +70,23 @@ pub fn take_s(bytes: &[u8], width: Width) -> Result<(i128, &[u8]), LebFault>
     Ok((z, &bytes[place..]))
 }
 
-// The unsigned number that begins at `at`, and the place after it.
+// The unsigned number that begins at `at`, and the place after it. Most numbers have one byte.
 fn unsigned(bytes: &[u8], at: usize, width: Width) -> Result<(u128, usize), LebFault>
     requires { at ≤ length bytes.now }
-    ensures exact { result ≡ moved at (unsigned_at width (drop at bytes.now)) }
+    ensures exact { result ≡ read_from at (unsigned_at width (drop at bytes.now)) }
+    ensures inside { IfOk result (λ x. (at < x.1) × (x.1 ≤ length bytes.now)) }
+    ensures fits { IfOk result (λ x. x.0 < 2 ^ bits width) }
+{
+    match bytes.get(at) {
+        Some(byte) if *byte < 128 => Ok((u128::from(*byte), at + 1)),
+        _ => unsigned_in_full(bytes, at, width),
+    }
+}
+
+// The same, byte by byte.
+fn unsigned_in_full(bytes: &[u8], at: usize, width: Width) -> Result<(u128, usize), LebFault>
+    requires { at ≤ length bytes.now }
+    ensures exact { result ≡ read_from at (unsigned_at width (drop at bytes.now)) }
     ensures inside { IfOk result (λ x. (at < x.1) × (x.1 ≤ length bytes.now)) }
     ensures fits { IfOk result (λ x. x.0 < 2 ^ bits width) }
 {
@@ -83,10 +96,35 @@ fn unsigned(bytes: &[u8], at: usize, width: Width) -> Result<(u128, usize), LebF
     Ok((n, at + size))
 }
 
-// The signed number that begins at `at`, and the place after it.
+// The signed number that begins at `at`, and the place after it. Most numbers have one byte.
 fn signed(bytes: &[u8], at: usize, width: Width) -> Result<(i128, usize), LebFault>
     requires { at ≤ length bytes.now }
-    ensures exact { result ≡ moved at (signed_at width (drop at bytes.now)) }
+    ensures exact { result ≡ read_from at (signed_at width (drop at bytes.now)) }
+    ensures inside { IfOk result (λ x. (at < x.1) × (x.1 ≤ length bytes.now)) }
+    ensures fits { IfOk result (λ x. FitsSigned (int_width width) x.0) }
+{
+    match bytes.get(at) {
+        Some(byte) if *byte < 128 => Ok((signed_byte(*byte), at + 1)),
+        _ => signed_in_full(bytes, at, width),
+    }
+}
+
+// What a byte stands for that is a number by itself.
+fn signed_byte(byte: u8) -> i128
+    requires { byte < 128 }
+    ensures { result ≡ signed_value (byte ∷ []) }
+{
+    if byte < 64 {
+        i128::from(byte)
+    } else {
+        i128::from(i16::from(byte) - 128)
+    }
+}
+
+// The same, byte by byte.
+fn signed_in_full(bytes: &[u8], at: usize, width: Width) -> Result<(i128, usize), LebFault>
+    requires { at ≤ length bytes.now }
+    ensures exact { result ≡ read_from at (signed_at width (drop at bytes.now)) }
     ensures inside { IfOk result (λ x. (at < x.1) × (x.1 ≤ length bytes.now)) }
     ensures fits { IfOk result (λ x. FitsSigned (int_width width) x.0) }
 {

@@ -53,6 +53,10 @@ fn write(n: u128, negative: bool, end: u128, out: &mut Vec<u8>) -> Result<(), No
     ensures written { OnOk result (out.new.items ≡ out.old.items ++ seven_bits_each end negative (suc n) n) }
     ensures unchanged { OnErr result (out.new.items ≡ out.old.items) }
 {
+    if n < end {
+        out.push(low_bits(negative, n))?;
+        return Ok(());
+    }
     let before = out.len();
     let written = push_each(n, negative, end, out);
     if written.is_err() {
