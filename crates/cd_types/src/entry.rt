@@ -1,3 +1,6 @@
+ghost use Rattle.std.specs.Prelude.{◌≡◌};
+ghost use Rattle.cd_types.specs.IsInside.{is_inside};
+
 use crate::primitive::Prim;
 use ic_principal::{Bytes, Text};
 use std::marker::Model;
@@ -7,6 +10,18 @@ use std::marker::Model;
 pub enum TyRef {
     Prim(Prim),
     Index(u32),
+}
+
+impl TyRef {
+    /// Whether the reference is inside a table of so many entries: a primitive type is inside each.
+    pub fn is_inside(self, count: usize) -> bool
+        ensures { result ≡ is_inside count self }
+    {
+        match self {
+            TyRef::Prim(_) => true,
+            TyRef::Index(index) => (index as usize) < count,
+        }
+    }
 }
 
 /// A list of references. Contracts see the list.

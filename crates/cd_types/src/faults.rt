@@ -13,19 +13,10 @@ use ic_principal::Text;
 /// The number of entries that a table may have.
 const MAX_ENTRIES: usize = 10_000;
 
-fn is_inside(count: usize, ty: TyRef) -> bool
-    ensures { result ≡ is_inside count ty }
-{
-    match ty {
-        TyRef::Prim(_) => true,
-        TyRef::Index(index) => (index as usize) < count,
-    }
-}
-
 fn types_inside(count: usize, types: &[TyRef]) -> bool
     ensures { result ≡ list_all (is_inside count) types.now }
 {
-    types.iter().all(|ty| is_inside(count, *ty))
+    types.iter().all(|ty| ty.is_inside(count))
 }
 
 fn fields_inside(count: usize, fields: &[(u32, TyRef)]) -> bool
@@ -34,7 +25,7 @@ fn fields_inside(count: usize, fields: &[(u32, TyRef)]) -> bool
     fields
         .iter()
         .map(|field| field.1)
-        .all(|ty| is_inside(count, ty))
+        .all(|ty| ty.is_inside(count))
 }
 
 fn methods_inside(count: usize, methods: &[(Text, TyRef)]) -> bool
@@ -43,14 +34,14 @@ fn methods_inside(count: usize, methods: &[(Text, TyRef)]) -> bool
     methods
         .iter()
         .map(|method| method.1)
-        .all(|ty| is_inside(count, ty))
+        .all(|ty| ty.is_inside(count))
 }
 
 fn names_inside(count: usize, entry: &Entry) -> bool
     ensures { result ≡ names_inside count entry.now }
 {
     match entry {
-        Entry::Opt(ty) | Entry::Seq(ty) => is_inside(count, *ty),
+        Entry::Opt(ty) | Entry::Seq(ty) => ty.is_inside(count),
         Entry::Rec(fields) | Entry::Var(fields) => fields_inside(count, &fields.items),
         Entry::Func { args, results, .. } => {
             types_inside(count, &args.items) && types_inside(count, &results.items)

@@ -10,6 +10,6 @@ mod primitive;
 mod table;
 
 pub use entry::{Entry, Fields, Methods, TyRef, TyRefs};
-pub use label::field_id;
+pub use label::{field_id, field_id_of_bytes};
 pub use primitive::{Prim, Primitive};
 pub use table::{TableFault, TypeTable};

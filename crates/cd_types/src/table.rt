@@ -1,9 +1,10 @@
 ghost use Rattle.std.specs.Prelude.{◌≡◌, Some, None, length, slice_get, IfOk, IfErr, IsTrue, OnOk, OnErr, false};
 ghost use Rattle.std.specs.Option.{option_copied};
+ghost use Rattle.cd_types.specs.IsInside.{is_inside};
 ghost use Rattle.cd_types.specs.IsTable.{is_table};
 ghost use Rattle.cd_types.specs.FaultOf.{fault_of};
 
-use crate::entry::Entry;
+use crate::entry::{Entry, TyRef};
 use crate::faults::first_fault;
 use std::marker::Model;
 
@@ -61,6 +62,13 @@ impl TypeTable {
         ensures well_formed { IsTrue (is_table self.now) }
     {
         self.entries.get(index as usize)
+    }
+
+    /// Whether the reference is inside the table.
+    pub fn contains(&self, ty: TyRef) -> bool
+        ensures { result ≡ is_inside (length self.now) ty }
+    {
+        ty.is_inside(self.entries.len())
     }
 
     /// The number of entries, at most 10,000.
