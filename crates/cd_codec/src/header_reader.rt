@@ -1,7 +1,6 @@
 ghost use Rattle.std.specs.Prelude.{◌≡◌, ◌≤◌, ◌++◌, ℕ, List, length, take, true, false, IfOk, IsErrOf};
 ghost use Rattle.std.specs.Option.{option_copied};
 ghost use Rattle.ic_base.specs.Gives.{Gives};
-ghost use Rattle.cd_types.specs.IsInside.{is_inside};
 ghost use Rattle.cd_codec.specs.IsHeader.{are_inside, IsHeader};
 ghost use Rattle.cd_codec.specs.Answers.{BeginsWithHeader, ReadsHeader, IsFault};
 ghost use Rattle.cd_codec.specs.ReadPlain.{counted_at};
@@ -218,32 +217,23 @@ fn table_of<'a>(
     }
 }
 
-fn is_inside(count: u32, ty: TyRef) -> bool
-    ensures { result ≡ is_inside count ty }
+fn are_inside(table: &TypeTable, types: &[TyRef]) -> bool
+    ensures { result ≡ are_inside (length table.now) types.now }
 {
-    match ty {
-        TyRef::Prim(_) => true,
-        TyRef::Index(index) => index < count,
-    }
-}
-
-fn are_inside(count: u32, types: &[TyRef]) -> bool
-    ensures { result ≡ are_inside count types.now }
-{
-    types.iter().all(|ty| is_inside(count, *ty))
+    types.iter().all(|ty| table.contains(*ty))
 }
 
 #[tactic(auto, unfolding(crate::specs::ReadHeader::arguments_at))]
 fn arguments_of<'a>(
     alloc: Global,
     floats: &Floats,
-    count: u32,
+    table: &TypeTable,
     bytes: &'a [u8],
 ) -> Result<(TyRefs, &'a [u8]), ReadError>
-    ensures { Gives (λ x. (x.0, x.1.now)) result (arguments_at floats.now.admitted count bytes.now) }
+    ensures { Gives (λ x. (x.0, x.1.now)) result (arguments_at floats.now.admitted (length table.now) bytes.now) }
 {
     let (items, rest) = short_list_of(alloc, floats, bytes)?;
-    if !are_inside(count, &items) {
+    if !are_inside(table, &items) {
         return Err(ReadError::Refused);
     }
     Ok((TyRefs { items }, rest))
@@ -269,7 +259,7 @@ fn header_of(
         None => Err(ReadError::Refused),
         Some(rest) => {
             let (table, rest) = table_of(alloc, &floats, rest)?;
-            let (types, rest) = arguments_of(alloc, &floats, table.len(), rest)?;
+            let (types, rest) = arguments_of(alloc, &floats, &table, rest)?;
             Ok((table, types, rest))
         }
     }

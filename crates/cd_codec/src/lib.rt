@@ -17,6 +17,7 @@ pub mod laws;
 mod lists;
 mod plain;
 mod reading;
+mod room;
 mod value;
 mod writer;
 

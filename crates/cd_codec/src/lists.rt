@@ -6,6 +6,7 @@ ghost use Rattle.ic_leb.specs.Reading.{unsigned_reader};
 ghost use Rattle.cd_codec.specs.ReadHeader.{few_at};
 
 use crate::plain::unsigned_of;
+use crate::room::room_claimed;
 use ic_base::{Item, ReadError};
 use std::alloc::Global;
 
@@ -26,7 +27,7 @@ fn so_many<'a, T: Item<Floats>>(
 ) -> Result<(Vec<T>, &'a [u8]), ReadError>
     ensures { Gives (λ x. (x.0.items, x.1.now)) result (many_at (T.reading floats.now) count bytes.now) }
 {
-    let mut items = Vec::new(alloc);
+    let mut items = Vec::with_capacity(alloc, room_claimed(count, bytes))?;
     let mut rest = bytes;
     for _ in 0..count {
         let (item, after) = T::read(alloc, floats, rest)?;

@@ -11,10 +11,10 @@ ghost use Rattle.cd_codec.specs.ReadValue.{alone, opt_at, items_at, seq_at, each
 use crate::fault::ValueFault;
 use crate::header::Header;
 use crate::plain::{counted_of, func_of, primitive_of, principal_of, unsigned_of};
-use crate::value::{FieldValues, Value, Values};
+use crate::room::{room_claimed, room_for};
+use crate::value::{Value, Values};
 use cd_types::{Entry, Prim, TyRef, TypeTable};
 use ic_base::ReadError;
-use ic_principal::Bytes;
 use std::alloc::Global;
 
 /// How deep the values of a message may nest: a value has nesting 1, and a part one more.
@@ -77,49 +77,12 @@ fn entry_of<'a>(
     }
 }
 
-#[tactic(auto, using(crate::proofs::Views::layers))]
-fn none_value() -> Value
-    ensures { view result ≡ none }
-{
-    Value::Opt(None)
-}
-
-#[tactic(auto, using(crate::proofs::Views::layers))]
-fn some_value(alloc: Global, part: Value) -> Result<Value, ReadError>
-    ensures { Gives view result (Some (some (view part))) }
-{
-    Ok(Value::Opt(Some(Box::new(alloc, part)?)))
-}
-
-#[tactic(auto, using(crate::proofs::Views::layers))]
-fn variant_value(alloc: Global, position: u32, part: Value) -> Result<Value, ReadError>
-    ensures { Gives view result (Some (variant position (view part))) }
-{
-    let part = Box::new(alloc, part)?;
-    Ok(Value::Var { position, part })
-}
-
-#[tactic(auto, using(crate::proofs::Views::layers))]
-fn list_value(items: Vec<Value>) -> Value
-    ensures { view result ≡ list (contents_of (views items.items)) }
-{
-    Value::Seq(Values { items })
-}
-
-#[tactic(auto, using(crate::proofs::Views::layers))]
-fn record_value(items: Vec<(u32, Value)>) -> Value
-    ensures { view result ≡ record_of (parts_of (views_of_fields items.items)) }
-{
-    Value::Rec(FieldValues { items })
-}
-
-#[tactic(auto, using(crate::proofs::Views::layers))]
 fn blob_of(alloc: Global, left: u32, bytes: &[u8]) -> Result<(Value, u32, &[u8]), ReadError>
     ensures { Gives (λ x. (view x.0, x.1, x.2.now)) result (alone blob counted_at left bytes.now) }
 {
     let (blob, rest) = counted_of(bytes)?;
     let items = Vec::from_slice(alloc, blob)?;
-    Ok((Value::Blob(Bytes { items }), left, rest))
+    Ok((Value::of_bytes(items), left, rest))
 }
 
 #[tactic(auto, using(crate::proofs::Views::layers))]
@@ -156,10 +119,10 @@ fn opt_of<'a>(
 {
     match bytes {
         [] => Err(ReadError::Refused),
-        [0, rest @ ..] => Ok((none_value(), left, rest)),
+        [0, rest @ ..] => Ok((Value::none(), left, rest)),
         [1, rest @ ..] => {
             let (part, left, rest) = value_of(alloc, table, ty, depth, left, rest)?;
-            let value = some_value(alloc, part)?;
+            let value = Value::some(alloc, part)?;
             Ok((value, left, rest))
         }
         [_, ..] => Err(ReadError::Refused),
@@ -180,7 +143,7 @@ fn list_of<'a>(
 {
     let (count, rest) = unsigned_of(bytes)?;
     let (items, left, rest) = items_of(alloc, table, ty, depth, left, count, rest)?;
-    Ok((list_value(items), left, rest))
+    Ok((Value::of_items(items), left, rest))
 }
 
 #[cycle(reader)]
@@ -195,7 +158,7 @@ fn items_of<'a>(
 ) -> Result<(Vec<Value>, u32, &'a [u8]), ReadError>
     ensures { Gives (λ x. (views x.0.items, x.1, x.2.now)) result (items_at (value_at table.now depth ty) count left bytes.now) }
 {
-    let mut items = Vec::new(alloc);
+    let mut items = Vec::with_capacity(alloc, room_claimed(count, bytes))?;
     let mut unread = left;
     let mut rest = bytes;
     for _ in 0..count {
@@ -220,7 +183,7 @@ fn record_of<'a>(
     ensures { Gives (λ x. (view x.0, x.1, x.2.now)) result (record_at (value_at table.now depth) fields.now left bytes.now) }
 {
     let (parts, left, rest) = parts_of(alloc, table, fields, depth, left, bytes)?;
-    Ok((record_value(parts), left, rest))
+    Ok((Value::of_fields(parts), left, rest))
 }
 
 #[cycle(reader)]
@@ -234,7 +197,7 @@ fn parts_of<'a>(
 ) -> Result<(Vec<(u32, Value)>, u32, &'a [u8]), ReadError>
     ensures { Gives (λ x. (views_of_fields x.0.items, x.1, x.2.now)) result (each_at (field_at (value_at table.now depth)) fields.now left bytes.now) }
 {
-    let mut parts = Vec::new(alloc);
+    let mut parts = Vec::with_capacity(alloc, room_for(fields.len()))?;
     let mut unread = left;
     let mut rest = bytes;
     for (id, ty) in fields {
@@ -265,7 +228,7 @@ fn variant_of<'a>(
     }
     let (_, ty) = cases[place as usize];
     let (part, left, rest) = value_of(alloc, table, ty, depth, left, rest)?;
-    let value = variant_value(alloc, place as u32, part)?;
+    let value = Value::of_case(alloc, place as u32, part)?;
     Ok((value, left, rest))
 }
 
@@ -277,7 +240,7 @@ fn each_of<'a>(
 ) -> Result<(Vec<Value>, u32, &'a [u8]), ReadError>
     ensures { Gives (λ x. (views x.0.items, x.1, x.2.now)) result (each_at (value_at table.now 128) types.now 1000000 bytes.now) }
 {
-    let mut values = Vec::new(alloc);
+    let mut values = Vec::with_capacity(alloc, room_for(types.len()))?;
     let mut unread = MAX_VALUES;
     let mut rest = bytes;
     for ty in types {

@@ -1,4 +1,10 @@
+ghost use Rattle.std.specs.Prelude.{◌≡◌, IfOk};
+ghost use Rattle.cd_codec.specs.Content.{blob, none, some, list, record_of, variant, contents_of, parts_of};
+ghost use Rattle.cd_codec.specs.View.{view, views, views_of_fields};
+
+use ic_base::NoMemory;
 use ic_principal::{Bytes, Principal, Text};
+use std::alloc::Global;
 
 /// A Candid value (Candid specification, "Values"). A value of type `vec nat8` is always a
 /// `Blob`.
@@ -45,4 +51,55 @@ pub struct Values {
 #[derive(Drop)]
 pub struct FieldValues {
     pub items: Vec<(u32, Value)>,
+}
+
+impl Value {
+    /// An `opt` without a value.
+    #[tactic(auto, using(crate::proofs::Views::layers))]
+    pub fn none() -> Value
+        ensures { view result ≡ none }
+    {
+        Value::Opt(None)
+    }
+
+    /// An `opt` with a value.
+    #[tactic(auto, using(crate::proofs::Views::layers))]
+    pub fn some(alloc: Global, part: Value) -> Result<Value, NoMemory>
+        ensures { IfOk result (λ value. view value ≡ some (view part)) }
+    {
+        Ok(Value::Opt(Some(Box::new(alloc, part)?)))
+    }
+
+    /// A `vec nat8`.
+    #[tactic(auto, using(crate::proofs::Views::layers))]
+    pub fn of_bytes(items: Vec<u8>) -> Value
+        ensures { view result ≡ blob items.items }
+    {
+        Value::Blob(Bytes { items })
+    }
+
+    /// A `vec` of another type.
+    #[tactic(auto, using(crate::proofs::Views::layers))]
+    pub fn of_items(items: Vec<Value>) -> Value
+        ensures { view result ≡ list (contents_of (views items.items)) }
+    {
+        Value::Seq(Values { items })
+    }
+
+    /// A `record` with these fields.
+    #[tactic(auto, using(crate::proofs::Views::layers))]
+    pub fn of_fields(items: Vec<(u32, Value)>) -> Value
+        ensures { view result ≡ record_of (parts_of (views_of_fields items.items)) }
+    {
+        Value::Rec(FieldValues { items })
+    }
+
+    /// A `variant` with the case at this place.
+    #[tactic(auto, using(crate::proofs::Views::layers))]
+    pub fn of_case(alloc: Global, position: u32, part: Value) -> Result<Value, NoMemory>
+        ensures { IfOk result (λ value. view value ≡ variant position (view part)) }
+    {
+        let part = Box::new(alloc, part)?;
+        Ok(Value::Var { position, part })
+    }
 }

@@ -11,7 +11,7 @@ use Rattle.cd_codec.proofs.reading.+reader.Goals as goal
 
 pub items_of-returns-in_err-value : goal.items_of-returns-in_err-value
 items_of-returns-in_err-value t c =
-    let p = err_from_is_err_and c.from_residual.result c.from_residual.ensures.1 in
+    let p = err_from_is_err_and c.from_residual-in_err-value.result c.from_residual-in_err-value.ensures.1 in
     rw (p.1, p.2) (item_refused c.in_err-value.field-0.0 (value_at c.args.table.now c.args.depth c.args.ty) (views c.loop.items.items) c.args.count c.loop.counter c.loop.unread c.loop.rest.now _ c.loop-test.true c.in_err-value.ensures c.loop.invariant)
 
 pub items_of-loop-preserved : goal.items_of-loop-preserved
@@ -24,7 +24,7 @@ items_of-returns t c = items_done (value_at c.args.table.now c.args.depth c.args
 
 pub parts_of-returns-in_err-value : goal.parts_of-returns-in_err-value
 parts_of-returns-in_err-value t c =
-    let p = err_from_is_err_and c.from_residual.result c.from_residual.ensures.1 in
+    let p = err_from_is_err_and c.from_residual-in_err-value.result c.from_residual-in_err-value.ensures.1 in
     rw (p.1, p.2) (each_refused c.in_err-value.field-0.0 (field_at (value_at c.args.table.now c.args.depth)) (views_of_fields c.loop-id.parts.items) c.args.fields.now c.loop-id.id-index c.loop-id.unread c.loop-id.rest.now _ _ c.loop-id-test.true
     (field_refused _ (value_at c.args.table.now c.args.depth) _ _ _ c.in_err-value.ensures) c.loop-id.invariant)
 

@@ -8,7 +8,7 @@ use Rattle.cd_codec.proofs.reading.each_of.Goals as goal
 
 pub returns-in_err-value : goal.returns-in_err-value
 returns-in_err-value c =
-    let p = err_from_is_err_and c.from_residual.result c.from_residual.ensures.1 in
+    let p = err_from_is_err_and c.from_residual-in_err-value.result c.from_residual-in_err-value.ensures.1 in
     rw (p.1, p.2) (each_refused c.in_err-value.field-0.0 (value_at c.args.table.now 128) (views c.loop-ty.values.items) c.args.types.now c.loop-ty.ty-index c.loop-ty.unread c.loop-ty.rest.now _ _ c.loop-ty-test.true c.in_err-value.ensures c.loop-ty.invariant)
 
 pub loop-ty-preserved : goal.loop-ty-preserved

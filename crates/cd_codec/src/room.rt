@@ -1,0 +1,24 @@
+ghost use Rattle.std.specs.Prelude.{◌≤◌};
+
+/// The most items that room is made for before the first is read. A longer list grows as its items
+/// are read: so a count that is claimed takes little memory by itself, however deep lists nest.
+const MOST_ROOM: usize = 64;
+
+/// For how many of so many items room is made.
+pub(crate) fn room_for(count: usize) -> usize
+    ensures few { result ≤ 64 }
+    ensures needed { result ≤ count }
+{
+    if count < MOST_ROOM { count } else { MOST_ROOM }
+}
+
+/// The same for a list that claims a count, of which each item but a few kinds takes a byte or more.
+pub(crate) fn room_claimed(count: u128, bytes: &[u8]) -> usize
+    ensures { result ≤ 64 }
+{
+    if count < bytes.len() as u128 {
+        room_for(count as usize)
+    } else {
+        room_for(bytes.len())
+    }
+}
