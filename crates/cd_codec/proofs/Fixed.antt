@@ -9,7 +9,7 @@ use Rattle.ic_base.specs.Exact.{Exact}
 use Rattle.ic_base.proofs.Exact.{bytes_exact, filter_exact, map_exact, reworded}
 use Rattle.cd_codec.specs.Basic.{SpellsNatural, SpellsInteger}
 use Rattle.cd_codec.specs.ReadPlain.{are_bytes, natural_at, integer_at}
-use Rattle.cd_codec.proofs.Tables.{both_true}
+use Rattle.cd_types.proofs.FaultLemmas.{both_true}
 
 below_each : (bytes : List ℕ) → are_bytes bytes ≡ true → (i : ℕ) → get_or bytes i 0 < 256
 below_each [] all i = omega arith

@@ -29,7 +29,7 @@ use Rattle.cd_codec.specs.Codes.{primitive_named, primitive_code, reference_numb
 use Rattle.cd_codec.specs.IsHeader.{magic, SpellsReference, SpellsTypes, SpellsField, SpellsMethod, SpellsBody, SpellsKind, SpellsEntry, SpellsFew, are_inside, IsHeader}
 use Rattle.cd_codec.specs.Spelling.{counted}
 use Rattle.cd_codec.specs.HeaderSpelling.{list_spelling, reference_spelling, field_spelling, method_spelling, kind_spelling, body_spelling, entry_spelling, header_spelling}
-use Rattle.cd_codec.proofs.Tables.{both_true}
+use Rattle.cd_types.proofs.FaultLemmas.{both_true}
 
 -- fewer bytes than a count can say
 abbrev pub Few : List ℕ → Type 0

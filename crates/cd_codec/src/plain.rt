@@ -1,12 +1,13 @@
 ghost use Rattle.std.specs.Prelude.{◌≡◌, true, false, MatchOption};
 ghost use Rattle.std.specs.Str.{is_utf8};
 ghost use Rattle.std.specs.Int.{w8, w16, w32, w64};
-ghost use Rattle.ic_base.specs.Reader.{byte_at, both_at, map_at, filter_map_at, filter_at};
+ghost use Rattle.ic_base.specs.Reader.{byte_at, both_at, filter_map_at, filter_at};
 ghost use Rattle.ic_base.specs.Gives.{Gives};
 ghost use Rattle.ic_leb.specs.declared.width.Width.TheVariants.{Candid};
 ghost use Rattle.ic_leb.specs.Reading.{unsigned_reader, signed_reader};
 ghost use Rattle.cd_codec.specs.Content.{plain, func, service};
 ghost use Rattle.cd_codec.specs.View.{view};
+ghost use Rattle.cd_codec.specs.ReadValue.{alone};
 ghost use Rattle.cd_codec.specs.ReadPlain.{is_short, bool_of, natural_at, integer_at, counted_at, text_at, principal_at, func_at, primitive_at};
 
 use crate::value::Value;
@@ -173,70 +174,71 @@ fn bool_of(bytes: &[u8]) -> Result<(bool, &[u8]), ReadError>
     }
 }
 
-/// A value of a primitive type.
+/// A value of a primitive type. `left` is answered as it is.
 #[tactic(auto, using(crate::proofs::Views::layers), unfolding(crate::specs::ReadPlain::primitive_at, crate::specs::ReadPlain::integer_at))]
 pub(crate) fn primitive_of(
     alloc: Global,
     prim: Prim,
+    left: u32,
     bytes: &[u8],
-) -> Result<(Value, &[u8]), ReadError>
-    ensures { Gives (λ x. (view x.0, x.1.now)) result (map_at plain (primitive_at prim) bytes.now) }
+) -> Result<(Value, u32, &[u8]), ReadError>
+    ensures { Gives (λ x. (view x.0, x.1, x.2.now)) result (alone plain (primitive_at prim) left bytes.now) }
 {
     match prim {
-        Prim::Null => Ok((Value::Null, bytes)),
-        Prim::Reserved => Ok((Value::Reserved, bytes)),
+        Prim::Null => Ok((Value::Null, left, bytes)),
+        Prim::Reserved => Ok((Value::Reserved, left, bytes)),
         Prim::Empty => Err(ReadError::Refused),
         Prim::Bool => {
             let (b, rest) = bool_of(bytes)?;
-            Ok((Value::Bool(b), rest))
+            Ok((Value::Bool(b), left, rest))
         }
         Prim::Nat => {
             let (n, rest) = unsigned_of(bytes)?;
-            Ok((Value::Nat(n), rest))
+            Ok((Value::Nat(n), left, rest))
         }
         Prim::Int => {
             let (z, rest) = signed_of(bytes)?;
-            Ok((Value::Int(z), rest))
+            Ok((Value::Int(z), left, rest))
         }
         Prim::Text => {
             let (text, rest) = text_of(alloc, bytes)?;
-            Ok((Value::Text(text), rest))
+            Ok((Value::Text(text), left, rest))
         }
         Prim::Principal => match principal_of(bytes) {
-            Ok((principal, rest)) => Ok((Value::Principal(principal), rest)),
+            Ok((principal, rest)) => Ok((Value::Principal(principal), left, rest)),
             Err(error) => Err(error),
         },
         Prim::Nat8 => {
             let (n, rest) = nat8_of(bytes)?;
-            Ok((Value::Nat8(n), rest))
+            Ok((Value::Nat8(n), left, rest))
         }
         Prim::Nat16 => {
             let (n, rest) = nat16_of(bytes)?;
-            Ok((Value::Nat16(n), rest))
+            Ok((Value::Nat16(n), left, rest))
         }
         Prim::Nat32 => {
             let (n, rest) = nat32_of(bytes)?;
-            Ok((Value::Nat32(n), rest))
+            Ok((Value::Nat32(n), left, rest))
         }
         Prim::Nat64 => {
             let (n, rest) = nat64_of(bytes)?;
-            Ok((Value::Nat64(n), rest))
+            Ok((Value::Nat64(n), left, rest))
         }
         Prim::Int8 => {
             let (n, rest) = nat8_of(bytes)?;
-            Ok((Value::Int8(n.cast_signed()), rest))
+            Ok((Value::Int8(n.cast_signed()), left, rest))
         }
         Prim::Int16 => {
             let (n, rest) = nat16_of(bytes)?;
-            Ok((Value::Int16(n.cast_signed()), rest))
+            Ok((Value::Int16(n.cast_signed()), left, rest))
         }
         Prim::Int32 => {
             let (n, rest) = nat32_of(bytes)?;
-            Ok((Value::Int32(n.cast_signed()), rest))
+            Ok((Value::Int32(n.cast_signed()), left, rest))
         }
         Prim::Int64 => {
             let (n, rest) = nat64_of(bytes)?;
-            Ok((Value::Int64(n.cast_signed()), rest))
+            Ok((Value::Int64(n.cast_signed()), left, rest))
         }
     }
 }

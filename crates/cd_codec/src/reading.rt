@@ -42,10 +42,7 @@ fn value_of<'a>(
         return Err(ReadError::Refused);
     }
     match ty {
-        TyRef::Prim(prim) => {
-            let (value, rest) = primitive_of(alloc, prim, bytes)?;
-            Ok((value, left - 1, rest))
-        }
+        TyRef::Prim(prim) => primitive_of(alloc, prim, left - 1, bytes),
         TyRef::Index(index) => match table.entry(index) {
             None => Err(ReadError::Refused),
             Some(entry) => entry_of(alloc, table, entry, depth - 1, left - 1, bytes),

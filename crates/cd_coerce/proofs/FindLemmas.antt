@@ -11,7 +11,7 @@ use Rattle.cd_types.specs.declared.entry.TyRef.{TyRef}
 use Rattle.cd_types.specs.declared.entry.TyRef.TheVariants.{Prim}
 use Rattle.cd_types.specs.IsOrdered.{ids_rise_from}
 use Rattle.cd_coerce.specs.Parts.{case_from}
-use Rattle.cd_coerce.proofs.ShapeLemmas.{both}
+use Rattle.cd_types.proofs.FaultLemmas.{both_true}
 
 -- a field, where there is none at an index
 abbrev no_field : ℕ × TyRef
@@ -26,8 +26,8 @@ ids_of fields = map (λ f. f.0) fields
 -- the first id and those after it
 rise_parts : (least id : ℕ) (ids : List ℕ) → ids_rise_from least (id ∷ ids) ≡ true → (least ≤ id) × (ids_rise_from (suc id) ids ≡ true)
 rise_parts least id ids e =
-    let parts = both (nat_le least id && nat_lt id (2 ^ 32)) (ids_rise_from (suc id) ids) e in
-    (leb-true _ _ (both (nat_le least id) (nat_lt id (2 ^ 32)) parts.0).0, parts.1)
+    let parts = both_true (nat_le least id && nat_lt id (2 ^ 32)) (ids_rise_from (suc id) ids) e in
+    (leb-true _ _ (both_true (nat_le least id) (nat_lt id (2 ^ 32)) parts.0).0, parts.1)
 
 least_below : (fields : List (ℕ × TyRef)) (least i : ℕ) → ids_rise_from least (ids_of fields) ≡ true → i < length fields → least ≤ id_at fields i
 least_below [] least i rise below = absurd (omega arith)

@@ -16,7 +16,8 @@ use Rattle.cd_coerce.specs.Parts.{values_of, field_values, byte_value, items_of,
 use Rattle.cd_coerce.specs.Coerce.{IsBlob, IsNone, Coerce, CoerceAll, CoerceFields}
 use Rattle.cd_coerce.specs.Decides.{Decides}
 use Rattle.cd_coerce.specs.Read.{Setting, Way, to_reserved, to_opt, to_own, way, has_shape, is_primitive, as_int, Reader, Readers, way_at, read_at, some_if, full_opt, full, void, never, opt_of, seq_of, fields_of, cases_of, plain_readers, plain_reader, some_opt, opt_readers, all_at, items_at, seq_at, bytes_of, field_at, fields_at, record_at, variant_at, byte_readers, readers, all_readers, part_readers}
-use Rattle.cd_coerce.proofs.ShapeLemmas.{both, primitive_is, has_shape_is, way_reserved, way_opt, opt_of_is, seq_of_is, fields_of_is, cases_of_is, given_is, some_if_is}
+use Rattle.cd_coerce.proofs.ShapeLemmas.{primitive_is, has_shape_is, way_reserved, way_opt, opt_of_is, seq_of_is, fields_of_is, cases_of_is, given_is, some_if_is}
+use Rattle.cd_types.proofs.FaultLemmas.{both_true}
 
 -- the relation in a setting
 abbrev pub CoerceIn : (TyRef → TyRef → Type 0) → Setting → TyRef → Content → TyRef → Content → Type 0
@@ -56,7 +57,7 @@ full_found : (B : TyRef → TyRef → Type 0) (c : Setting) → Decides B c.belo
 full_found B c decides v is_it own found t u w r is e =
     elim (some_if_is (not (may_miss (shape c.upper w)) && c.below t w) (own t w) r e) [
       | inl p ↦
-          let tests = both (not (may_miss (shape c.upper w))) (c.below t w) p.0 in
+          let tests = both_true (not (may_miss (shape c.upper w))) (c.below t w) p.0 in
           subst (CoerceIn B c t v u) p.3 (w, is, inr (is_it, not_true _ tests.0, yes decides t w tests.1, found t w p.1 p.2))
       | inr p ↦
           subst (CoerceIn B c t v u) p.1 (
@@ -81,7 +82,7 @@ void_reads B c v is_none own found = read_found B c v (void own) found (λ t u w
 int_found : (B : TyRef → TyRef → Type 0) (c : Setting) (t u : TyRef) (p : Plain) (r : Content) → as_int p (shape c.upper u) ≡ Some r → CoerceIn B c t (plain p) u r
 int_found B c t u (nat n) r e =
     let g = given_is _ (plain (int (pos n))) r e in
-    let tests = both (is_primitive Int (shape c.upper u)) (nat_lt n (2 ^ 127)) g.0 in
+    let tests = both_true (is_primitive Int (shape c.upper u)) (nat_lt n (2 ^ 127)) g.0 in
     subst (CoerceIn B c t (plain (nat n)) u) g.1 (inr (inr (n, refl, ltb-true n (2 ^ 127) tests.1, refl, primitive_is Int _ tests.0)))
 int_found B c t u _ r e = absurd cc
 

@@ -12,9 +12,6 @@ use Rattle.cd_codec.specs.Content.{Content, Plain, null, bool, nat, int, nat8, n
 use Rattle.cd_codec.specs.Plain.{HasShape}
 use Rattle.cd_coerce.specs.Read.{to_reserved, to_opt, to_own, way, is_primitive, is_func, is_service, has_shape, given, some_if, opt_of, seq_of, fields_of, cases_of}
 
-pub both : (a b : Bool) → (a && b) ≡ true → (a ≡ true) × (b ≡ true)
-both true b e = (refl, e)
-both false b e = cc
 
 -- the primitive type with a code
 of_code : ℕ → Primitive

@@ -11,7 +11,8 @@ use Rattle.cd_sub.specs.Sub.{Sub, SubAt}
 use Rattle.cd_sub.specs.Parts.{part_at, looked_up_parts}
 use Rattle.cd_sub.specs.Pairs.{parts_at, PlaceSub, PlaceSubAt, is_straight}
 use Rattle.cd_sub.specs.Below.{all_pass, holds_at, below}
-use Rattle.cd_sub.proofs.OrderLemmas.{all_map, both}
+use Rattle.cd_sub.proofs.OrderLemmas.{all_map}
+use Rattle.cd_types.proofs.FaultLemmas.{both_true}
 use Rattle.cd_sub.proofs.RuleLemmas.{Found, Up}
 use Rattle.cd_sub.proofs.KeepLemmas.{keep_part}
 use Rattle.cd_sub.proofs.PlaceLemmas.{place_up, place_down, place_inside, none_at_zero, each_straight, found_at_all, all_depths, straight_up, turned_up, straight_down, turned_down, looked_up, looked_down, outside, compound_left}
@@ -21,7 +22,7 @@ use Rattle.std.proofs.lemmas.Bool.{ltb-true}
 -- all of a list pass a test
 all_from : (test : ℕ → Bool) (places : List ℕ) → list_all test places ≡ true → AllByRecursion (λ p. test p ≡ true) places
 all_from test [] e = tt
-all_from test (p ∷ places) e = let parts = both (test p) (list_all test places) e in (parts.0, all_from test places parts.1)
+all_from test (p ∷ places) e = let parts = both_true (test p) (list_all test places) e in (parts.0, all_from test places parts.1)
 
 all_to : (test : ℕ → Bool) (places : List ℕ) → AllByRecursion (λ p. test p ≡ true) places → list_all test places ≡ true
 all_to test [] all = refl
@@ -53,7 +54,7 @@ passes : (first second : List Entry) (n place : ℕ) → place < size first seco
 passes first second zero place inside holds = refl
 passes first second (suc n) place inside holds =
     passes_to (holds_at n first second) (parts_at first second place)
-    (found_map _ _ (parts_at first second place) (λ p both. passes first second n p both.0 both.1) (inside_too first second (PlaceSub first second) place (place_down first second place inside holds)))
+    (found_map _ _ (parts_at first second place) (λ p both_true. passes first second n p both_true.0 both_true.1) (inside_too first second (PlaceSub first second) place (place_down first second place inside holds)))
 
 -- what passes at a depth passes at the one before
 shallower : (first second : List Entry) (n place : ℕ) → holds_at (suc n) first second place ≡ true → holds_at n first second place ≡ true
@@ -76,7 +77,7 @@ stable_holds : (first second : List Entry) (n : ℕ) → Stable first second n �
 stable_holds first second n stable zero place inside e = none_at_zero first second (is_straight first second place) place
 stable_holds first second n stable (suc m) place inside e =
     let found = inside_too first second (λ p. holds_at n first second p ≡ true) place (passes_from (holds_at n first second) (parts_at first second place) (stable place inside e)) in
-    place_up m first second place found.0 found.1 (all_map _ _ (λ p both. stable_holds first second n stable m p both.0 both.1) found.0 found.2)
+    place_up m first second place found.0 found.1 (all_map _ _ (λ p both_true. stable_holds first second n stable m p both_true.0 both_true.1) found.0 found.2)
 
 -- how many of the numbers below a bound pass a test
 count_below : (ℕ → Bool) → ℕ → ℕ
@@ -150,7 +151,7 @@ below_up first second a b e n =
     let test = holds_at (suc (size first second)) first second in
     let found = passes_from test (part_at first second false a b []) e in
     let inside = keep_part (λ p. p < size first second) first second false (each_straight first second) a b [] found.0 found.1 tt in
-    (straight_up n first second a b [] found.0 found.1 (all_map _ _ (λ p both. place_decided first second p both.0 both.1 n) found.0 (all_both _ _ found.0 inside found.2))).0
+    (straight_up n first second a b [] found.0 found.1 (all_map _ _ (λ p both_true. place_decided first second p both_true.0 both_true.1 n) found.0 (all_both _ _ found.0 inside found.2))).0
 
 below_down : (first second : List Entry) (a b : TyRef) → Sub first a second b → below first a second b ≡ true
 unfolding below
@@ -161,7 +162,7 @@ below_down first second a b holds =
     (λ n. straight_down n first second a b [] (holds (suc n)) tt) in
     let inside = keep_part (λ p. p < size first second) first second false (each_straight first second) a b [] found.0 found.1 tt in
     passes_to (holds_at (suc (size first second)) first second) parts
-    (found.0, found.1, all_map _ _ (λ p both. passes first second (suc (size first second)) p both.0 both.1) found.0 (all_both _ _ found.0 inside found.2))
+    (found.0, found.1, all_map _ _ (λ p both_true. passes first second (suc (size first second)) p both_true.0 both_true.1) found.0 (all_both _ _ found.0 inside found.2))
 
 -- subtyping is what the test says
 pub below_is : (first second : List Entry) (a b : TyRef) → (below first a second b ≡ true) ↔ Sub first a second b
@@ -210,6 +211,6 @@ sub_rule first second (Index i) (Index j) holds = at_test (nat_lt i (length firs
     at_test : (inside : Bool) → (nat_lt i (length first) && nat_lt j (length second)) ≡ inside
         → Rule (λ s t. Sub first s second t) (λ t s. Sub second t first s) first second (shape first (Index i)) (shape second (Index j))
     at_test true e =
-        (let parts = both (nat_lt i (length first)) (nat_lt j (length second)) e in
+        (let parts = both_true (nat_lt i (length first)) (nat_lt j (length second)) e in
         rule_of_entries first second i j (ltb-true i (length first) parts.0) (ltb-true j (length second) parts.1) holds)
     at_test false e = rule_without_parts first second (Index i) (Index j) (outside first second i j _ _ refl refl e) holds

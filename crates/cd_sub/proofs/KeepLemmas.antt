@@ -13,7 +13,7 @@ use Rattle.cd_types.specs.Shape.{shape}
 use Rattle.cd_sub.specs.MayMiss.{may_miss}
 use Rattle.cd_sub.specs.TypeUnder.{type_under}
 use Rattle.cd_sub.specs.Parts.{place_of, verdict, part_at, field_part, case_part, method_part, labelled_parts, sequence_parts, vec_parts, record_parts, variant_parts, func_parts, service_parts, compound_parts, entry_parts}
-use Rattle.cd_sub.proofs.OrderLemmas.{both}
+use Rattle.cd_types.proofs.FaultLemmas.{both_true}
 use Rattle.cd_sub.proofs.RuleLemmas.{some_same, then_some, verdict_some, chosen}
 
 -- each pair of entries of the two tables
@@ -40,7 +40,7 @@ pub keep_part : (P : ℕ → Type 0) (lower upper : List Entry) (turned : Bool) 
     → (a b : TyRef) (found out : List ℕ) → part_at lower upper turned a b found ≡ Some out → AllByRecursion P found → AllByRecursion P out
 keep_part P lower upper turned each (Index i) (Index j) found out e all =
     keep_test P (nat_lt i (length lower) && nat_lt j (length upper)) _ (place_of lower upper turned i j) found out e
-    (λ inside. let parts = both (nat_lt i (length lower)) _ inside in each i j (ltb-true i (length lower) parts.0) (ltb-true j (length upper) parts.1)) all
+    (λ inside. let parts = both_true (nat_lt i (length lower)) _ inside in each i j (ltb-true i (length lower) parts.0) (ltb-true j (length upper) parts.1)) all
 keep_part P lower upper turned each (Index i) (Prim q) found out e all = keep_verdict P _ found out e all
 keep_part P lower upper turned each (Prim p) b found out e all = keep_verdict P _ found out e all
 

@@ -1,9 +1,9 @@
--- what a well formed table says of its entries
-use Rattle.std.proofs.Common.{◌≡◌, ℕ, zero, suc, ◌*◌, ◌^◌, ◌<◌, ◌≤◌, Bool, true, false, ◌&&◌, List, [], ◌∷◌, Some, Ordering, length, map, refl, sym, ◌∙◌, ap, arith, IsTrue, slice_get, nat_lt, nat_le}
+-- labels that rise, and how many pairs of entries there are
+use Rattle.std.proofs.Common.{◌≡◌, ℕ, suc, ◌*◌, ◌^◌, ◌<◌, ◌≤◌, true, ◌&&◌, List, [], ◌∷◌, Ordering, map, refl, sym, ◌∙◌, ap, arith, IsTrue, nat_lt, nat_le}
 use Rattle.std.proofs.lemmas.Bool.{lt-ltb, leb-true}
 use Rattle.std.proofs.lemmas.Nat.{mul-le}
 use Rattle.std.proofs.lemmas.Cmp.{nat_list_cmp_total}
-use Rattle.std.specs.List.{AllByRecursion, list_all}
+use Rattle.std.specs.List.{AllByRecursion}
 use Rattle.std.specs.Ordering.{nat_cmp, is_lt}
 use Rattle.std.specs.Cmp.Lexicographic.{slice_cmp}
 use Rattle.std.specs.declared.cmp.Ordering.TheVariants.{Less, Equal, Greater}
@@ -12,12 +12,8 @@ use Rattle.cd_types.specs.declared.entry.TyRef.{TyRef}
 use Rattle.cd_types.specs.declared.entry.Entry.{Entry}
 use Rattle.cd_types.specs.declared.entry.Entry.TheVariants.{Rec, Var, Service}
 use Rattle.cd_types.specs.IsOrdered.{ids_rise_from, names_rise, names_rise_after, is_ordered}
-use Rattle.cd_types.specs.IsTable.{is_table, is_well_formed, names_inside}
+use Rattle.cd_types.proofs.FaultLemmas.{both_true}
 use Rattle.cd_sub.specs.Rising.{Rising}
-
-pub both : (a b : Bool) → (a && b) ≡ true → (a ≡ true) × (b ≡ true)
-both true b e = (refl, e)
-both false b e = cc
 
 pub all_map : {X : Type 0} (P Q : X → Type 0) → ((x : X) → P x → Q x) → (xs : List X) → AllByRecursion P xs → AllByRecursion Q xs
 all_map P Q f [] all = tt
@@ -31,8 +27,8 @@ ids_rising : (least : ℕ) (fields : List (ℕ × TyRef)) → ids_rise_from leas
     → AllByRecursion (λ f. least ≤ f.0) fields × Rising nat_cmp fields
 ids_rising least [] e = (tt, tt)
 ids_rising least (field ∷ fields) e =
-    let parts = both (nat_le least field.0 && nat_lt field.0 (2 ^ 32)) _ e in
-    let bounds = both (nat_le least field.0) _ parts.0 in
+    let parts = both_true (nat_le least field.0 && nat_lt field.0 (2 ^ 32)) _ e in
+    let bounds = both_true (nat_le least field.0) _ parts.0 in
     let from : least ≤ field.0 = omega (arith, leb-true least field.0 bounds.0) in
     let rest = ids_rising (suc field.0) fields parts.1 in
     ((from, all_map _ _ (λ f above. omega arith) fields rest.0), (all_map _ _ (λ f above. nat_less field.0 f.0 (omega arith)) fields rest.0, rest.1))
@@ -47,14 +43,14 @@ names_rising_after : (last : List ℕ) (methods : List (List ℕ × TyRef)) → 
     → AllByRecursion (λ m. slice_cmp nat_cmp last m.0 ≡ Less) methods × Rising (slice_cmp nat_cmp) methods
 names_rising_after last [] e = (tt, tt)
 names_rising_after last (method ∷ methods) e =
-    let parts = both (is_lt (slice_cmp nat_cmp last method.0) && is_utf8 method.0) _ e in
-    let less = is_less _ (both (is_lt (slice_cmp nat_cmp last method.0)) _ parts.0).0 in
+    let parts = both_true (is_lt (slice_cmp nat_cmp last method.0) && is_utf8 method.0) _ e in
+    let less = is_less _ (both_true (is_lt (slice_cmp nat_cmp last method.0)) _ parts.0).0 in
     let rest = names_rising_after method.0 methods parts.1 in
     ((less, all_map _ _ (λ m above. nat_list_cmp_total.trans last method.0 m.0 less above) methods rest.0), rest)
 
 names_rising : (methods : List (List ℕ × TyRef)) → names_rise (map (λ m. m.0) methods) ≡ true → Rising (slice_cmp nat_cmp) methods
 names_rising [] e = tt
-names_rising (method ∷ methods) e = names_rising_after method.0 methods (both (is_utf8 method.0) _ e).1
+names_rising (method ∷ methods) e = names_rising_after method.0 methods (both_true (is_utf8 method.0) _ e).1
 
 pub record_rises : (entry : Entry) (fields : List (ℕ × TyRef)) → IsTrue (is_ordered entry) → entry ≡ Rec fields → Rising nat_cmp fields
 record_rises entry fields ordered is = (ids_rising 0 fields (sym (ap is_ordered is) ∙ ordered)).1
@@ -64,26 +60,6 @@ variant_rises entry cases ordered is = (ids_rising 0 cases (sym (ap is_ordered i
 
 pub service_rises : (entry : Entry) (methods : List (List ℕ × TyRef)) → IsTrue (is_ordered entry) → entry ≡ Service methods → Rising (slice_cmp nat_cmp) methods
 service_rises entry methods ordered is = names_rising methods (sym (ap is_ordered is) ∙ ordered)
-
-all_at : {X : Type 0} (test : X → Bool) (xs : List X) (i : ℕ) (x : X) → list_all test xs ≡ true → slice_get xs i ≡ Some x → test x ≡ true
-all_at test [] i x all is = cc
-all_at test (y ∷ xs) zero x all is = let same : y ≡ x = cc in ap test (sym same) ∙ (both (test y) _ all).0
-all_at test (y ∷ xs) (suc i) x all is = all_at test xs i x (both (test y) _ all).1 is
-
--- each entry of a table names types of the table and is ordered
-pub entry_formed : (table : List Entry) (i : ℕ) (entry : Entry) → IsTrue (is_table table) → slice_get table i ≡ Some entry
-    → (names_inside (length table) entry ≡ true) × IsTrue (is_ordered entry)
-entry_formed table i entry formed is =
-    let all = (both (nat_le (length table) 10000) _ formed).1 in
-    let well = all_at (is_well_formed table) table i entry all is in
-    both (names_inside (length table) entry) _ (both (names_inside (length table) entry && is_ordered entry) _ well).0
-
-pub entry_ordered : (table : List Entry) (i : ℕ) (entry : Entry) → IsTrue (is_table table) → slice_get table i ≡ Some entry → IsTrue (is_ordered entry)
-entry_ordered table i entry formed is = (entry_formed table i entry formed is).1
-
--- a table has at most 10,000 entries
-pub table_small : (table : List Entry) → IsTrue (is_table table) → length table ≤ 10000
-table_small table formed = omega (arith, leb-true (length table) 10000 (both (nat_le (length table) 10000) _ formed).0)
 
 -- so pairs of entries have numbers of 32 bits, either way round too
 pub pairs_small : (m n : ℕ) → m ≤ 10000 → n ≤ 10000 → m * n ≤ 100000000

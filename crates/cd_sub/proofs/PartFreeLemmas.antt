@@ -10,7 +10,7 @@ use Rattle.cd_types.specs.declared.entry.Entry.TheVariants.{Opt, Seq, Rec, Var, 
 use Rattle.cd_types.specs.Shape.{Shape, primitive, compound, dangling}
 use Rattle.cd_sub.specs.Rule.{Rule, same, nat_int, reserved, empty, opt, vec, record_of, variant_of, func, service}
 use Rattle.cd_sub.specs.PartFree.{code_of, primitive_below, is_top, part_free}
-use Rattle.cd_sub.proofs.OrderLemmas.{both}
+use Rattle.cd_types.proofs.FaultLemmas.{both_true}
 
 -- the primitive type with a code
 of_code : ℕ → Primitive
@@ -64,7 +64,7 @@ part_free_up Below Above lower upper (primitive p) (primitive q) e =
     either (code_of q == 16) _ e (λ e. reserved (ap primitive (code_same q Reserved e)))
     (λ e. either (code_of p == 17) _ e (λ e. empty (ap primitive (code_same p Empty e)))
     (λ e. either ((code_of p == 3) && (code_of q == 4)) _ e
-    (λ e. let parts = both (code_of p == 3) (code_of q == 4) e in nat_int (ap primitive (code_same p Nat parts.0)) (ap primitive (code_same q Int parts.1)))
+    (λ e. let parts = both_true (code_of p == 3) (code_of q == 4) e in nat_int (ap primitive (code_same p Nat parts.0)) (ap primitive (code_same q Int parts.1)))
     (λ e. same q (ap primitive (code_same p q e)) refl)))
 part_free_up Below Above lower upper (primitive p) (compound entry) e =
     either (code_of p == 17) _ e (λ e. empty (ap primitive (code_same p Empty e))) (top_up Below Above lower upper (primitive p) (compound entry))

@@ -16,7 +16,7 @@ use Rattle.cd_sub.specs.Rule.{Rule}
 use Rattle.cd_sub.specs.Sub.{Sub, SubAt}
 use Rattle.cd_sub.specs.Parts.{place_of, verdict, looked_up_parts}
 use Rattle.cd_sub.specs.Pairs.{is_straight, side_parts, parts_at, PairSubAt, SideSubAt, PlaceSubAt, PlaceSub}
-use Rattle.cd_sub.proofs.OrderLemmas.{both}
+use Rattle.cd_types.proofs.FaultLemmas.{both_true}
 use Rattle.cd_sub.proofs.PartFreeLemmas.{both_compound, part_free_up, part_free_down}
 use Rattle.cd_sub.proofs.RuleLemmas.{Up, Down, Found, some_same, verdict_some, verdict_true, entry_up, entry_down}
 use Rattle.cd_sub.proofs.KeepLemmas.{EachPair, all_push, all_front, keep_entry}
@@ -99,7 +99,7 @@ part_up : (P : ℕ → Type 0) (lower upper : List Entry) (turned : Bool) (R : T
     → Up P lower upper turned R
 part_up P lower upper turned R pair flat (Index i) (Index j) found out e all =
     test_up P (R (Index i) (Index j)) (nat_lt i (length lower) && nat_lt j (length upper)) _ (place_of lower upper turned i j) found out e
-    (λ inside. let parts = both (nat_lt i (length lower)) _ inside in pair i j (ltb-true i (length lower) parts.0) (ltb-true j (length upper) parts.1))
+    (λ inside. let parts = both_true (nat_lt i (length lower)) _ inside in pair i j (ltb-true i (length lower) parts.0) (ltb-true j (length upper) parts.1))
     (flat (Index i) (Index j)) all
 part_up P lower upper turned R pair flat (Index i) (Prim q) found out e all =
     let v = verdict_some _ found out e in (flat (Index i) (Prim q) v.0, subst (AllByRecursion P) (sym v.1) all)
@@ -137,7 +137,7 @@ part_down : (P : ℕ → Type 0) (lower upper : List Entry) (turned : Bool) (R :
     → Down P lower upper turned R
 part_down P lower upper turned R pair flat (Index i) (Index j) found holds all =
     test_down P (nat_lt i (length lower) && nat_lt j (length upper)) _ (place_of lower upper turned i j) found
-    (λ inside. let parts = both (nat_lt i (length lower)) _ inside in pair i j (ltb-true i (length lower) parts.0) (ltb-true j (length upper) parts.1) holds)
+    (λ inside. let parts = both_true (nat_lt i (length lower)) _ inside in pair i j (ltb-true i (length lower) parts.0) (ltb-true j (length upper) parts.1) holds)
     (λ past_end. flat (Index i) (Index j) (outside lower upper i j _ _ refl refl past_end) holds) all
 part_down P lower upper turned R pair flat (Index i) (Prim q) found holds all =
     verdict_true P _ found (flat (Index i) (Prim q) (compound_left (shape lower (Index i)) q) holds) all

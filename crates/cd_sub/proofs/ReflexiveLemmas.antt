@@ -21,7 +21,9 @@ use Rattle.cd_sub.specs.Rule.{HasField, HasCase, HasMethod, Sequence, Rule, same
 use Rattle.cd_sub.specs.Sub.{SubAt, Sub}
 use Rattle.cd_sub.specs.TypeUnder.{type_under}
 use Rattle.cd_sub.proofs.LabelLemmas.{skip}
-use Rattle.cd_sub.proofs.OrderLemmas.{both, record_rises, variant_rises, service_rises, entry_formed}
+use Rattle.cd_sub.proofs.OrderLemmas.{record_rises, variant_rises, service_rises}
+use Rattle.cd_types.proofs.FaultLemmas.{both_true}
+use Rattle.cd_types.proofs.EntryLemmas.{entry_formed}
 
 less_other : (o : Ordering) → o ≡ Less → is_eq o ≡ false
 less_other o less = rw less refl
@@ -46,7 +48,7 @@ each_own : {K : Type 0} (cmp : K → K → Ordering) (inside : TyRef → Bool) (
     → AllByRecursion (λ f. type_under cmp f.0 fields ≡ Some f.1) more → list_all (λ f. inside f.1) more ≡ true → AllByRecursion Has more
 each_own cmp inside Has fields [] has own all = tt
 each_own cmp inside Has fields (f ∷ more) has own all =
-    let here = both (inside f.1) _ all in
+    let here = both_true (inside f.1) _ all in
     (has f own.0 here.0, each_own cmp inside Has fields more has own.1 here.1)
 
 -- from here on R holds of each type inside the table and itself
@@ -54,12 +56,12 @@ module _ (table : List Entry) (R : TyRef → TyRef → Type 0) (reflexive : (a :
   sequence_itself : (types : List TyRef) → list_all (is_inside (length table)) types ≡ true → Sequence R table types types
   sequence_itself [] all = tt
   sequence_itself (a ∷ types) all =
-      let here = both (is_inside (length table) a) _ all in
+      let here = both_true (is_inside (length table) a) _ all in
       (reflexive a here.0, sequence_itself types here.1)
 
   entry_itself : (x : Entry) → names_inside (length table) x ≡ true → IsTrue (is_ordered x) → Rule R R table table (compound x) (compound x)
   entry_itself (Opt a) all ordered = opt a refl
-  entry_itself (Seq a) all ordered = vec a a refl refl (reflexive a (both (is_inside (length table) a) _ all).0)
+  entry_itself (Seq a) all ordered = vec a a refl refl (reflexive a (both_true (is_inside (length table) a) _ all).0)
   entry_itself (Rec fs) all ordered =
       record_of fs fs refl refl (each_own nat_cmp (is_inside (length table)) (HasField R table fs) fs fs (λ f own inside. inl (f.1, own, reflexive f.1 inside))
       (own_types nat_cmp_total fs (record_rises (Rec fs) fs ordered refl)) (sym (list_all-map (is_inside (length table)) (λ f. f.1) fs) ∙ all))
@@ -67,7 +69,7 @@ module _ (table : List Entry) (R : TyRef → TyRef → Type 0) (reflexive : (a :
       variant_of fs fs refl refl (each_own nat_cmp (is_inside (length table)) (HasCase R fs) fs fs (λ f own inside. (f.1, own, reflexive f.1 inside))
       (own_types nat_cmp_total fs (variant_rises (Var fs) fs ordered refl)) (sym (list_all-map (is_inside (length table)) (λ f. f.1) fs) ∙ all))
   entry_itself (Func args results notes) all ordered =
-      let inside = both (list_all (is_inside (length table)) args) _ (sym (list_all-append (is_inside (length table)) args results) ∙ all) in
+      let inside = both_true (list_all (is_inside (length table)) args) _ (sym (list_all-append (is_inside (length table)) args results) ∙ all) in
       func args args results results notes refl refl (sequence_itself args inside.0) (sequence_itself results inside.1)
   entry_itself (Service ms) all ordered =
       service ms ms refl refl (each_own (slice_cmp nat_cmp) (is_inside (length table)) (HasMethod R ms) ms ms (λ m own inside. (m.1, own, reflexive m.1 inside))

@@ -10,7 +10,7 @@ use Rattle.std.specs.Cmp.Lexicographic.{slice_cmp}
 use Rattle.cd_types.specs.declared.entry.TyRef.{TyRef}
 use Rattle.cd_types.specs.declared.entry.Entry.{Entry}
 use Rattle.cd_types.specs.declared.entry.Entry.TheVariants.{Opt, Seq, Rec, Var, Func, Service}
-use Rattle.cd_sub.proofs.OrderLemmas.{both}
+use Rattle.cd_types.proofs.FaultLemmas.{both_true}
 use Rattle.cd_types.specs.Shape.{Shape, primitive, compound, shape}
 use Rattle.cd_sub.specs.MayMiss.{may_miss}
 use Rattle.cd_sub.specs.TypeUnder.{type_under}
@@ -24,7 +24,7 @@ bytes_same [] [] e = refl
 bytes_same [] (y ∷ ys) e = cc
 bytes_same (x ∷ xs) [] e = cc
 bytes_same (x ∷ xs) (y ∷ ys) e =
-    let parts = both (x == y) (bytes_eq xs ys) e in
+    let parts = both_true (x == y) (bytes_eq xs ys) e in
     let first = eqb-true x y parts.0 in let rest = bytes_same xs ys parts.1 in cc
 
 bytes_itself : (xs : List ℕ) → bytes_eq xs xs ≡ true
@@ -188,9 +188,9 @@ func_up : (P : ℕ → Type 0) (lower upper : List Entry) (turned : Bool) (R Bac
     → (args results : List TyRef) (notes : List ℕ) (y : Entry) (out : List ℕ) → func_parts lower upper turned args results notes y ≡ Some out → AllByRecursion P out
     → Rule R Back lower upper (compound (Func args results notes)) (compound y)
 func_up P lower upper turned R Back up back args results notes (Func args' results' notes') out e all =
-    let both = chosen (bytes_eq notes notes') _ out e in
-    let notes_same : notes ≡ notes' = bytes_same notes notes' both.0 in
-    let mid = then_some (λ found. sequence_parts lower upper turned results results' found) (sequence_parts upper lower (not turned) args' args []) out both.1 in
+    let both_true = chosen (bytes_eq notes notes') _ out e in
+    let notes_same : notes ≡ notes' = bytes_same notes notes' both_true.0 in
+    let mid = then_some (λ found. sequence_parts lower upper turned results results' found) (sequence_parts upper lower (not turned) args' args []) out both_true.1 in
     let rest = sequence_up P lower upper turned R up results results' mid.0 out mid.2 all in
     let first = sequence_up P upper lower (not turned) Back back args' args [] mid.0 mid.1 rest.1 in
     func args args' results results' notes refl (ap (λ n. compound (Func args' results' n)) (sym notes_same)) first.0 rest.0

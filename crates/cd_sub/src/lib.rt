@@ -11,4 +11,5 @@ mod parts;
 mod search;
 mod subtyping;
 
+pub use part_free::{is_top, may_miss};
 pub use subtyping::{Subtyping, subtype};

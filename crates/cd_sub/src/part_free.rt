@@ -1,24 +1,28 @@
-ghost use Rattle.std.specs.Prelude.{◌≡◌, slice_get};
-ghost use Rattle.cd_types.specs.Shape.{shape, entry_shape};
+ghost use Rattle.std.specs.Prelude.{◌≡◌};
+ghost use Rattle.cd_types.specs.Shape.{shape};
 ghost use Rattle.cd_sub.specs.MayMiss.{may_miss};
 ghost use Rattle.cd_sub.specs.PartFree.{is_top, primitive_below, part_free};
 
 use cd_types::{Entry, Prim, TyRef, TypeTable};
 
-fn is_opt(table: &TypeTable, index: u32) -> bool
-    ensures { result ≡ is_top (entry_shape (slice_get table.now index)) }
+/// Whether every type is a subtype of this one: it is `reserved` or an `opt`.
+pub fn is_top(table: &TypeTable, ty: TyRef) -> bool
+    ensures { result ≡ is_top (shape table.now ty) }
 {
-    matches!(table.entry(index), Some(Entry::Opt(_)))
+    match ty {
+        TyRef::Prim(prim) => prim == Prim::Reserved,
+        TyRef::Index(index) => matches!(table.entry(index), Some(Entry::Opt(_))),
+    }
 }
 
-/// Whether a field or an argument of this type may be missing.
-pub(crate) fn may_miss(table: &TypeTable, ty: TyRef) -> bool
+/// Whether a field or an argument of this type may be missing: it is `null`, `reserved` or an
+/// `opt`.
+pub fn may_miss(table: &TypeTable, ty: TyRef) -> bool
     ensures { result ≡ may_miss (shape table.now ty) }
 {
     match ty {
-        TyRef::Prim(Prim::Null) | TyRef::Prim(Prim::Reserved) => true,
-        TyRef::Prim(_) => false,
-        TyRef::Index(index) => is_opt(table, index),
+        TyRef::Prim(Prim::Null) => true,
+        _ => is_top(table, ty),
     }
 }
 
@@ -37,8 +41,7 @@ pub(crate) fn is_part_free_subtype(lower: &TypeTable, a: TyRef, upper: &TypeTabl
 {
     match (a, b) {
         (TyRef::Prim(p), TyRef::Prim(q)) => is_primitive_subtype(p, q),
-        (TyRef::Index(_), TyRef::Prim(q)) => q == Prim::Reserved,
-        (TyRef::Prim(p), TyRef::Index(j)) => p == Prim::Empty || is_opt(upper, j),
-        (TyRef::Index(_), TyRef::Index(j)) => is_opt(upper, j),
+        (TyRef::Prim(p), TyRef::Index(_)) => p == Prim::Empty || is_top(upper, b),
+        (TyRef::Index(_), _) => is_top(upper, b),
     }
 }

@@ -6,7 +6,8 @@ use Rattle.cd_codec.specs.ReadValue.{value_at, field_at}
 use Rattle.cd_codec.proofs.Loops.{item_read, item_refused, items_done, each_read, each_refused, each_done, field_read, field_refused}
 use Rattle.cd_types.specs.IsOrdered.{is_ordered}
 use Rattle.cd_codec.proofs.Views.{part_push}
-use Rattle.cd_codec.proofs.Tables.{few_ids, is_ordered_at, entry_value}
+use Rattle.cd_types.proofs.EntryLemmas.{few_ids, entry_ordered}
+use Rattle.cd_codec.proofs.Tables.{entry_value}
 use Rattle.cd_codec.proofs.reading.+reader.Goals as goal
 
 pub items_of-returns-in_err-value : goal.items_of-returns-in_err-value
@@ -41,7 +42,7 @@ value_of-returns-in-Some t c =
     rw (entry_value c.args.table.now c.args.depth c.args.left c.in-Index.index c.args.ty c.in-Some.entry.now c.args.bytes.now (omega arith) (omega arith) c.in-Index.is (sym c.in-Some.ensures.value)) c.entry_of.ensures
 
 pub value_of-entry_of-requires : goal.value_of-entry_of-requires
-value_of-entry_of-requires t c = (omega arith, is_ordered_at c.args.table.now c.in-Index.index c.in-Some.entry.now c.entry.ensures.well_formed (sym c.in-Some.ensures.value))
+value_of-entry_of-requires t c = (omega arith, entry_ordered c.args.table.now c.in-Index.index c.in-Some.entry.now c.entry.ensures.well_formed (sym c.in-Some.ensures.value))
 
 pub entry_of-variant_of-requires : goal.entry_of-variant_of-requires
 entry_of-variant_of-requires t c = (

@@ -3,7 +3,7 @@ use Rattle.std.proofs.lemmas.Option.{slice_get_read}
 use Rattle.cd_types.specs.Shape.{shape}
 use Rattle.cd_coerce.specs.Read.{cases_of}
 use Rattle.cd_coerce.proofs.PartsLemmas.{target_is, place_fits}
-use Rattle.cd_coerce.proofs.TableLemmas.{few_ids}
+use Rattle.cd_types.proofs.EntryLemmas.{few_ids}
 use Rattle.cd_coerce.proofs.place.Coercion.target.Goals as goal
 
 pub overflow_cast-result : goal.overflow_cast-result

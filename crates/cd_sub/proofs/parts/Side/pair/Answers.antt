@@ -1,5 +1,5 @@
 use Rattle.std.proofs.Common.{◌/◌, ◌%◌, sym}
-use Rattle.cd_sub.proofs.OrderLemmas.{entry_ordered}
+use Rattle.cd_types.proofs.EntryLemmas.{entry_ordered}
 use Rattle.cd_sub.proofs.parts.Side.pair.Goals as goal
 
 pub entries-requires-clause-x : goal.entries-requires-clause-x

@@ -1,6 +1,7 @@
 use Rattle.std.proofs.Common.{◌≡◌, ◌<◌, ◌≤◌, ◌+◌, ◌*◌, ℕ, length, arith, ap}
 use Rattle.std.proofs.lemmas.Nat.{mul-add-lt}
-use Rattle.cd_sub.proofs.OrderLemmas.{pairs_small, table_small}
+use Rattle.cd_sub.proofs.OrderLemmas.{pairs_small}
+use Rattle.cd_types.proofs.EntryLemmas.{table_small}
 use Rattle.cd_sub.proofs.parts.Side.place.Goals as goal
 use Rattle.cd_sub.proofs.parts.Side.place.Goals.{then-self, else-self}
 
