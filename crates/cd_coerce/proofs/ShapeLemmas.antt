@@ -1,5 +1,5 @@
 -- what the tests of shapes say
-use Rattle.std.proofs.Common.{◌≡◌, ◌⊎◌, inl, inr, ℕ, Bool, true, false, ◌&&◌, List, [], ◌∷◌, Option, Some, None, ◌==◌, get_or, refl, sym, ◌∙◌, ap}
+use Rattle.std.proofs.Common.{◌≡◌, ◌⊎◌, inl, inr, ℕ, Bool, true, false, List, [], ◌∷◌, Option, Some, None, ◌==◌, get_or, refl, sym, ◌∙◌, ap}
 use Rattle.std.proofs.lemmas.Bool.{eqb-true, eq-eqb}
 use Rattle.cd_types.specs.declared.primitive.Primitive.{Primitive}
 use Rattle.cd_types.specs.declared.primitive.Primitive.TheVariants as primitives
@@ -11,7 +11,6 @@ use Rattle.cd_sub.specs.PartFree.{code_of}
 use Rattle.cd_codec.specs.Content.{Content, Plain, null, bool, nat, int, nat8, nat16, nat32, nat64, int8, int16, int32, int64, text, reserved, func, service, principal, none, some}
 use Rattle.cd_codec.specs.Plain.{HasShape}
 use Rattle.cd_coerce.specs.Read.{to_reserved, to_opt, to_own, way, is_primitive, is_func, is_service, has_shape, given, some_if, opt_of, seq_of, fields_of, cases_of}
-
 
 -- the primitive type with a code
 of_code : ℕ → Primitive

@@ -1,16 +1,12 @@
 -- what a well formed table says of its entries
-use Rattle.std.proofs.Common.{◌≡◌, ℕ, zero, suc, ◌+◌, ◌≤◌, ◌<◌, ◌^◌, Bool, true, ◌&&◌, List, [], ◌∷◌, length, map, Option, Some, None, sym, ◌∙◌, ap, arith, IsTrue, nat_lt, nat_le, slice_get}
-use Rattle.std.specs.List.{list_all}
-use Rattle.std.proofs.lemmas.List.{length-map}
-use Rattle.std.proofs.lemmas.Bool.{leb-true, ltb-true}
-use Rattle.ic_base.proofs.Steps.{some_is}
+use Rattle.std.proofs.Common.{◌≡◌, ℕ, ◌≤◌, ◌^◌, true, List, length, map, Option, Some, None, ap, IsTrue, slice_get}
 use Rattle.cd_types.specs.declared.entry.TyRef.{TyRef}
 use Rattle.cd_types.specs.declared.entry.TyRef.TheVariants.{Prim, Index}
 use Rattle.cd_types.specs.Shape.{compound, entry_shape, shape}
 use Rattle.cd_types.specs.declared.entry.Entry.{Entry}
 use Rattle.cd_types.specs.declared.entry.Entry.TheVariants.{Rec, Var}
-use Rattle.cd_types.specs.IsOrdered.{ids_rise_from, is_ordered}
-use Rattle.cd_types.specs.IsTable.{is_table, is_well_formed, names_inside}
+use Rattle.cd_types.specs.IsOrdered.{ids_rise_from}
+use Rattle.cd_types.specs.IsTable.{is_table}
 use Rattle.cd_types.proofs.EntryLemmas.{entry_ordered, few_ids}
 
 -- the ids of a record's fields and of a variant's cases rise

@@ -5,8 +5,8 @@ ghost use Rattle.cd_coerce.specs.Place.{setting};
 ghost use Rattle.cd_coerce.specs.Decoded.{fits, unfit_from, argument_at, arguments_from};
 
 use crate::place::Coercion;
-use crate::shapes::may_miss;
 use cd_codec::Value;
+use cd_sub::may_miss;
 use cd_types::TyRef;
 use ic_base::{NoMemory, ReadError};
 
@@ -18,7 +18,7 @@ impl<'a> Coercion<'a> {
     {
         match types.get(place) {
             Some(t) => self.is_below(*t, u),
-            None => Ok(may_miss(self.upper, u)),
+            None => Ok(may_miss(self.expected, u)),
         }
     }
 

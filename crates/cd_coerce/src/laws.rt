@@ -8,6 +8,7 @@ ghost use Rattle.cd_types.specs.declared.entry.Entry.{Entry};
 ghost use Rattle.cd_types.specs.IsTable.{is_table};
 ghost use Rattle.cd_sub.specs.Sub.{Sub};
 ghost use Rattle.cd_codec.specs.Content.{Content};
+ghost use Rattle.cd_codec.specs.AreValues.{HasTypes};
 ghost use Rattle.cd_codec.specs.Measure.{nesting};
 ghost use Rattle.cd_codec.specs.Wire.{Wire};
 ghost use Rattle.cd_coerce.specs.Coerce.{IsReadAs};
@@ -36,6 +37,11 @@ pub fn nests_at_most()
 /// What a value on the wire is read as has the expected type: some bytes spell it at that type.
 pub fn has_the_type()
     ensures { (lower upper : List Entry) (t u : TyRef) (v r : Content) (bytes : List ℕ) → IsTrue (is_table upper) → AllByRecursion (λ b. b < 256) bytes → Wire lower t v bytes → IsReadAs lower upper t v u r → (out : List ℕ) × Wire upper u r out }
+{}
+
+/// What a message decodes to has the expected types.
+pub fn decoded_has_the_types()
+    ensures { (expected : List Entry × List TyRef) (bytes : List ℕ) (values : List Content) → IsTrue (is_table expected.0) → AllByRecursion (λ b. b < 256) bytes → Decodes expected bytes values → HasTypes expected.0 expected.1 values }
 {}
 
 /// A value whose type is a subtype of the expected one is read as something, unless it has a nat of

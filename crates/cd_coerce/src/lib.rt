@@ -20,4 +20,4 @@ mod shapes;
 
 pub use expected::Expected;
 pub use fault::DidlFault;
-pub use message::decode;
+pub use message::{decode, decode_within};

@@ -17,6 +17,9 @@ use cd_types::TyRef;
 use ic_base::ReadError;
 use std::alloc::Global;
 
+/// How many values one message may be read as.
+const MAX_VALUES: u32 = 16_777_216;
+
 /// The header of a message, or the fault of bytes that begin with none.
 fn header_of(alloc: Global, bytes: &[u8]) -> Result<Header, DidlFault>
     ensures { HeaderAnswers result bytes.now }
@@ -58,11 +61,12 @@ fn message_of(
     expected: &Expected,
     header: &Header,
     bytes: &[u8],
+    most_values: u32,
 ) -> Result<Values, DidlFault>
     requires { header.now.length ≤ length bytes.now }
     ensures { Answers result (message_read (setting header.now.table expected.now.0) header.now.types expected.now.1 (drop header.now.length bytes.now)) }
 {
-    let mut coercion = Coercion::new(alloc, &header.table, expected.table());
+    let mut coercion = Coercion::new(alloc, &header.table, expected.table(), most_values);
     match coercion.unfit(&header.types.items, expected.types()) {
         Ok(None) => values_of(alloc, &mut coercion, header, expected.types(), bytes),
         Ok(Some(argument)) => Err(DidlFault::NotSubtype { argument }),
@@ -71,13 +75,37 @@ fn message_of(
 }
 
 /// The expected arguments of a message.
-fn arguments_of(alloc: Global, expected: &Expected, bytes: &[u8]) -> Result<Values, DidlFault>
+fn arguments_of(
+    alloc: Global,
+    expected: &Expected,
+    bytes: &[u8],
+    most_values: u32,
+) -> Result<Values, DidlFault>
     ensures { Answers result (decoded expected.now bytes.now) }
 {
     match header_of(alloc, bytes) {
-        Ok(header) => message_of(alloc, expected, &header, bytes),
+        Ok(header) => message_of(alloc, expected, &header, bytes, most_values),
         Err(fault) => Err(fault),
     }
+}
+
+/// Reads a message as `decode` does, and as at most so many values: `NoMemory` also comes for a
+/// message that would be read as more, where a `vec nat8` counts as one.
+pub fn decode_within(
+    alloc: Global,
+    expected: &Expected,
+    bytes: &[u8],
+    most_values: u32,
+) -> Result<Values, DidlFault>
+    // The answer is that of a function, unless memory runs out.
+    ensures answer { Answers result (decoded expected.now bytes.now) }
+    // The values have the expected types.
+    ensures typed { IfOk result (λ values. HasTypes expected.now.0 expected.now.1 (contents values)) }
+{
+    // What the proof takes from elsewhere; these calls do nothing.
+    one_answer();
+    well_formed_table(expected.table());
+    arguments_of(alloc, expected, bytes, most_values)
 }
 
 /// Reads a message at the expected types (Candid specification, "Parameters and Results" and
@@ -93,8 +121,6 @@ pub fn decode(alloc: Global, expected: &Expected, bytes: &[u8]) -> Result<Values
     // The values have the expected types.
     ensures typed { IfOk result (λ values. HasTypes expected.now.0 expected.now.1 (contents values)) }
 {
-    // What the proof takes from elsewhere; these calls do nothing.
     one_answer();
-    well_formed_table(expected.table());
-    arguments_of(alloc, expected, bytes)
+    decode_within(alloc, expected, bytes, MAX_VALUES)
 }

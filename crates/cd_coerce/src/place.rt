@@ -8,9 +8,9 @@ ghost use Rattle.cd_coerce.specs.Read.{readers, coerced};
 ghost use Rattle.cd_coerce.specs.Place.{setting, kind, lifted, placed, Settles};
 
 use crate::plain::{Kind, kind_of, plain_of};
-use crate::shapes::{Way, is_inside, is_outside_subtype, may_miss, opt_of, way_of};
+use crate::shapes::{Way, is_outside_subtype, opt_of, way_of};
 use cd_codec::Value;
-use cd_sub::Subtyping;
+use cd_sub::{Subtyping, may_miss};
 use cd_types::{TyRef, TypeTable};
 use ic_base::{NoMemory, ReadError};
 use std::alloc::{AllocError, Global};
@@ -20,8 +20,10 @@ use std::marker::Model;
 #[derive(Drop)]
 pub(crate) struct Coercion<'a> {
     pub(crate) alloc: Global,
-    pub(crate) lower: &'a TypeTable,
-    pub(crate) upper: &'a TypeTable,
+    /// The table of the types on the wire.
+    pub(crate) wire: &'a TypeTable,
+    /// The table of the expected types.
+    pub(crate) expected: &'a TypeTable,
     pub(crate) subtyping: Subtyping<'a>,
     /// How many values may still be made.
     pub(crate) left: u32,
@@ -33,9 +35,9 @@ impl<'a> Model for Coercion<'a> {
 
     ghost Value = { List Entry × List Entry };
 
-    ghost view = { λ c. (c.lower.now, c.upper.now) };
+    ghost view = { λ c. (c.wire.now, c.expected.now) };
 
-    ghost invariant = { λ c. c.subtyping ≡ (c.lower.now, c.upper.now) };
+    ghost invariant = { λ c. c.subtyping ≡ (c.wire.now, c.expected.now) };
 }
 
 /// How a value is read at a type, as far as that is settled without its parts.
@@ -49,19 +51,22 @@ pub(crate) enum Place {
     Parts(TyRef, bool),
 }
 
-/// How many values one message may be read as.
-const MAX_VALUES: u32 = 16_777_216;
-
 impl<'a> Coercion<'a> {
-    pub(crate) fn new(alloc: Global, lower: &'a TypeTable, upper: &'a TypeTable) -> Coercion<'a>
-        ensures { result ≡ (lower.now, upper.now) }
+    /// A coercion that makes at most so many values.
+    pub(crate) fn new(
+        alloc: Global,
+        wire: &'a TypeTable,
+        expected: &'a TypeTable,
+        most_values: u32,
+    ) -> Coercion<'a>
+        ensures { result ≡ (wire.now, expected.now) }
     {
         Coercion {
             alloc,
-            lower,
-            upper,
-            subtyping: Subtyping::new(alloc, lower, upper),
-            left: MAX_VALUES,
+            wire,
+            expected,
+            subtyping: Subtyping::new(alloc, wire, expected),
+            left: most_values,
         }
     }
 
@@ -79,7 +84,7 @@ impl<'a> Coercion<'a> {
     fn are_inside(&self, t: TyRef, u: TyRef) -> bool
         ensures { result ≡ (is_inside (length self.now.0) t && is_inside (length self.now.1) u) }
     {
-        is_inside(self.lower, t) && is_inside(self.upper, u)
+        self.wire.contains(t) && self.expected.contains(u)
     }
 
     /// Whether the one type is a subtype of the other.
@@ -90,7 +95,7 @@ impl<'a> Coercion<'a> {
         if self.are_inside(t, u) {
             self.subtyping.is_subtype(t, u)
         } else {
-            Ok(is_outside_subtype(self.upper, t, u))
+            Ok(is_outside_subtype(self.expected, t, u))
         }
     }
 
@@ -108,7 +113,7 @@ impl<'a> Coercion<'a> {
         }
         let value = read?;
         self.count()?;
-        some_value(self.alloc, value)
+        Ok(Value::some(self.alloc, value)?)
     }
 
     /// At a type that is no opt.
@@ -122,7 +127,7 @@ impl<'a> Coercion<'a> {
         ensures tables { self.new ≡ self.old }
         ensures settles { Settles (lifted lift ((readers (setting self.old.0 self.old.1) (view value.now)).own t u)) (placed (setting self.old.0 self.old.1) (view value.now) t) result }
     {
-        match plain_of(self.upper, value, u)? {
+        match plain_of(self.expected, value, u)? {
             None => Ok(Place::Parts(u, lift)),
             Some(done) => {
                 let done = self.wrap(lift, Ok(done))?;
@@ -137,13 +142,13 @@ impl<'a> Coercion<'a> {
         ensures tables { self.new ≡ self.old }
         ensures settles { Settles ((readers (setting self.old.0 self.old.1) (view value.now)).opt t w) (placed (setting self.old.0 self.old.1) (view value.now) t) result }
     {
-        match opt_of(self.lower, t) {
+        match opt_of(self.wire, t) {
             None => Err(ReadError::Refused),
             Some(x) => {
                 if self.is_below(x, w)? {
                     Ok(Place::Inner(x, w))
                 } else {
-                    Ok(Place::Done(none_value()))
+                    Ok(Place::Done(Value::none()))
                 }
             }
         }
@@ -155,13 +160,13 @@ impl<'a> Coercion<'a> {
         ensures tables { self.new ≡ self.old }
         ensures settles { Settles ((readers (setting self.old.0 self.old.1) (view value.now)).opt t w) (placed (setting self.old.0 self.old.1) (view value.now) t) result }
     {
-        if may_miss(self.upper, w) {
-            return Ok(Place::Done(none_value()));
+        if may_miss(self.expected, w) {
+            return Ok(Place::Done(Value::none()));
         }
         if self.is_below(t, w)? {
             self.settle_own(value, t, w, true)
         } else {
-            Ok(Place::Done(none_value()))
+            Ok(Place::Done(Value::none()))
         }
     }
 
@@ -170,7 +175,7 @@ impl<'a> Coercion<'a> {
         ensures settles { Settles ((readers (setting self.old.0 self.old.1) (view value.now)).opt t w) (placed (setting self.old.0 self.old.1) (view value.now) t) result }
     {
         match kind_of(value) {
-            Kind::Void => Ok(Place::Done(none_value())),
+            Kind::Void => Ok(Place::Done(Value::none())),
             Kind::Inner => self.settle_inner(value, t, w),
             Kind::Full => self.settle_full(value, t, w),
         }
@@ -181,19 +186,12 @@ impl<'a> Coercion<'a> {
         ensures tables { self.new ≡ self.old }
         ensures settles { Settles (coerced (setting self.old.0 self.old.1) (view value.now) t u) (placed (setting self.old.0 self.old.1) (view value.now) t) result }
     {
-        match way_of(self.upper, u) {
+        match way_of(self.expected, u) {
             Way::Reserved => Ok(Place::Done(reserved_value())),
             Way::Opt(w) => self.settle_opt(value, t, w),
             Way::Own => self.settle_own(value, t, u, false),
         }
     }
-}
-
-#[tactic(auto, using(cd_codec::proofs::Views::layers))]
-pub(crate) fn none_value() -> Value
-    ensures { view result ≡ none }
-{
-    Value::Opt(None)
 }
 
 #[tactic(auto, using(cd_codec::proofs::Views::layers))]
@@ -208,12 +206,5 @@ pub(crate) fn some_read(alloc: Global, read: Result<Value, ReadError>) -> Result
     ensures { (content : Option Content) → Gives view read content → Gives view result (lifted true content) }
 {
     let value = read?;
-    some_value(alloc, value)
-}
-
-#[tactic(auto, using(cd_codec::proofs::Views::layers))]
-fn some_value(alloc: Global, part: Value) -> Result<Value, ReadError>
-    ensures { Gives view result (Some (some (view part))) }
-{
-    Ok(Value::Opt(Some(Box::new(alloc, part)?)))
+    Ok(Value::some(alloc, value)?)
 }

@@ -13,10 +13,9 @@ ghost use Rattle.cd_coerce.specs.Place.{setting, target, inner_at, parts_at, mad
 
 use crate::place::{Coercion, Place, some_read};
 use crate::shapes::{cases_of, fields_of, is_nat8, item_of, missing_value};
-use cd_codec::{FieldValues, Value, Values};
+use cd_codec::Value;
 use cd_types::TyRef;
 use ic_base::ReadError;
-use ic_principal::Bytes;
 use std::alloc::Global;
 
 impl<'a> Coercion<'a> {
@@ -62,11 +61,11 @@ impl<'a> Coercion<'a> {
         ensures tables { self.new ≡ self.old }
         ensures value { Gives view result (parts_at (setting self.old.0 self.old.1) (blob bytes.now) t u) }
     {
-        match (item_of(self.lower, t), item_of(self.upper, u)) {
+        match (item_of(self.wire, t), item_of(self.expected, u)) {
             (Some(from), Some(to)) => {
                 if is_nat8(to) {
                     let items = Vec::from_slice(self.alloc, bytes)?;
-                    return Ok(blob_value(items));
+                    return Ok(Value::of_bytes(items));
                 }
                 list_read(self.bytes(bytes, from, to))
             }
@@ -81,14 +80,14 @@ impl<'a> Coercion<'a> {
         ensures value { Gives view result (missing (shape self.old.1 u)) }
     {
         self.count()?;
-        missing_value(self.upper, u)
+        missing_value(self.expected, u)
     }
 
     /// The type of the case at this place, and the place and type of the expected case with its id.
     fn target(&self, position: u32, t: TyRef, u: TyRef) -> Option<(TyRef, u32, TyRef)>
         ensures { result ≡ target (shape self.now.0 t) (shape self.now.1 u) position }
     {
-        match (cases_of(self.lower, t), cases_of(self.upper, u)) {
+        match (cases_of(self.wire, t), cases_of(self.expected, u)) {
             (Some(cases), Some(expected)) => {
                 let (id, from) = *cases.get(position as usize)?;
                 let (place, to) = find(expected, id)?;
@@ -119,7 +118,7 @@ impl<'a> Coercion<'a> {
         ensures tables { self.new ≡ self.old }
         ensures value { Gives view result (parts_at (setting self.old.0 self.old.1) (list (contents_of (views values.now))) t u) }
     {
-        match (item_of(self.lower, t), item_of(self.upper, u)) {
+        match (item_of(self.wire, t), item_of(self.expected, u)) {
             (Some(from), Some(to)) => {
                 if is_nat8(to) {
                     return no_bytes(self.alloc, values);
@@ -194,7 +193,7 @@ impl<'a> Coercion<'a> {
         ensures tables { self.new ≡ self.old }
         ensures value { Gives view result (parts_at (setting self.old.0 self.old.1) (record_of (parts_of (views_of_fields parts.now))) t u) }
     {
-        match (fields_of(self.lower, t), fields_of(self.upper, u)) {
+        match (fields_of(self.wire, t), fields_of(self.expected, u)) {
             (Some(fields), Some(expected)) => record_read(self.fields(fields, parts, expected)),
             (Some(_), None) => Err(ReadError::Refused),
             (None, _) => Err(ReadError::Refused),
@@ -259,38 +258,28 @@ fn no_bytes(alloc: Global, values: &[Value]) -> Result<Value, ReadError>
     ensures { (readers : Value → Readers) → Gives view result (empty_blob (map readers values.now)) }
 {
     match values {
-        [] => Ok(blob_value(Vec::new(alloc))),
+        [] => Ok(Value::of_bytes(Vec::new(alloc))),
         [_, ..] => Err(ReadError::Refused),
     }
 }
 
-#[tactic(auto, using(cd_codec::proofs::Views::layers))]
-fn blob_value(items: Vec<u8>) -> Value
-    ensures { view result ≡ blob items.items }
-{
-    Value::Blob(Bytes { items })
-}
-
 /// The list of the items that were read.
-#[tactic(auto, using(cd_codec::proofs::Views::layers))]
 fn list_read(items: Result<Vec<Value>, ReadError>) -> Result<Value, ReadError>
     ensures { (values : Option (List Content)) → Gives (λ vs. views vs.items) items values → Gives view result (made (λ rs. list (contents_of rs)) values) }
 {
     let items = items?;
-    Ok(Value::Seq(Values { items }))
+    Ok(Value::of_items(items))
 }
 
 /// The record of the fields that were read.
-#[tactic(auto, using(cd_codec::proofs::Views::layers))]
 fn record_read(items: Result<Vec<(u32, Value)>, ReadError>) -> Result<Value, ReadError>
     ensures { (fields : Option (List (ℕ × Content))) → Gives (λ vs. views_of_fields vs.items) items fields → Gives view result (made (λ rs. record_of (parts_of rs)) fields) }
 {
     let items = items?;
-    Ok(Value::Rec(FieldValues { items }))
+    Ok(Value::of_fields(items))
 }
 
 /// The case at this place, whose value was read.
-#[tactic(auto, using(cd_codec::proofs::Views::layers))]
 fn variant_read(
     alloc: Global,
     position: u32,
@@ -298,6 +287,6 @@ fn variant_read(
 ) -> Result<Value, ReadError>
     ensures { (content : Option Content) → Gives view part content → Gives view result (made (variant position) content) }
 {
-    let part = Box::new(alloc, part?)?;
-    Ok(Value::Var { position, part })
+    let part = part?;
+    Ok(Value::of_case(alloc, position, part)?)
 }

@@ -2,10 +2,7 @@ ghost use Rattle.std.specs.Prelude.{◌≡◌, Some, None, IsTrue, MatchOption, 
 ghost use Rattle.cd_types.specs.IsTable.{is_table};
 ghost use Rattle.cd_types.specs.IsOrdered.{ids_rise_from};
 ghost use Rattle.ic_base.specs.Gives.{Gives};
-ghost use Rattle.cd_types.specs.IsInside.{is_inside};
 ghost use Rattle.cd_types.specs.Shape.{shape};
-ghost use Rattle.cd_sub.specs.MayMiss.{may_miss};
-ghost use Rattle.cd_sub.specs.PartFree.{is_top};
 ghost use Rattle.cd_codec.specs.View.{view};
 ghost use Rattle.cd_codec.specs.Wire.{is_nat8};
 ghost use Rattle.cd_coerce.specs.Missing.{missing};
@@ -13,6 +10,7 @@ ghost use Rattle.cd_coerce.specs.BelowOutside.{below_outside};
 ghost use Rattle.cd_coerce.specs.Read.{way, is_primitive, is_func, is_service, opt_of, seq_of, fields_of, cases_of};
 
 use cd_codec::Value;
+use cd_sub::is_top;
 use cd_types::{Entry, Prim, TyRef, TypeTable};
 use ic_base::ReadError;
 
@@ -31,33 +29,13 @@ pub(crate) fn well_formed_table(table: &TypeTable)
     let _entries = table.len();
 }
 
-pub(crate) fn is_inside(table: &TypeTable, ty: TyRef) -> bool
-    ensures { result ≡ is_inside (length table.now) ty }
-{
-    match ty {
-        TyRef::Prim(_) => true,
-        TyRef::Index(index) => index < table.len(),
-    }
-}
-
 /// Whether the type is a subtype of the other, where one of them is outside its table.
-pub(crate) fn is_outside_subtype(upper: &TypeTable, ty: TyRef, expected: TyRef) -> bool
-    ensures { result ≡ below_outside ty (shape upper.now expected) }
+pub(crate) fn is_outside_subtype(expected: &TypeTable, t: TyRef, u: TyRef) -> bool
+    ensures { result ≡ below_outside t (shape expected.now u) }
 {
-    match ty {
+    match t {
         TyRef::Prim(prim) => prim == Prim::Empty,
-        TyRef::Index(_) => is_top(upper, expected),
-    }
-}
-
-/// Whether the type is reserved or an opt.
-fn is_top(table: &TypeTable, ty: TyRef) -> bool
-    ensures { result ≡ is_top (shape table.now ty) }
-{
-    match ty {
-        TyRef::Prim(Prim::Reserved) => true,
-        TyRef::Prim(_) => false,
-        TyRef::Index(index) => matches!(table.entry(index), Some(Entry::Opt(_))),
+        TyRef::Index(_) => is_top(expected, u),
     }
 }
 
@@ -71,16 +49,6 @@ pub(crate) fn way_of(table: &TypeTable, ty: TyRef) -> Way
             Some(Entry::Opt(inner)) => Way::Opt(*inner),
             _ => Way::Own,
         },
-    }
-}
-
-pub(crate) fn may_miss(table: &TypeTable, ty: TyRef) -> bool
-    ensures { result ≡ may_miss (shape table.now ty) }
-{
-    match ty {
-        TyRef::Prim(Prim::Null) | TyRef::Prim(Prim::Reserved) => true,
-        TyRef::Prim(_) => false,
-        TyRef::Index(index) => matches!(table.entry(index), Some(Entry::Opt(_))),
     }
 }
 
