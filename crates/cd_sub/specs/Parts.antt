@@ -15,6 +15,8 @@ use Rattle.cd_types.specs.Shape.{shape}
 use Rattle.cd_sub.specs.MayMiss.{may_miss}
 use Rattle.cd_sub.specs.PartFree.{part_free}
 use Rattle.cd_sub.specs.TypeUnder.{type_under}
+use Rattle.cd_sub.specs.declared.parts.Labelled.{Labelled}
+use Rattle.cd_sub.specs.declared.parts.Labelled.TheVariants.{Field, Case, Method}
 
 -- the place of a pair of entries among the marks: first all pairs with the lower type in the
 -- first table, row by row, then all with the lower type in the second
@@ -47,6 +49,12 @@ case_part lower upper turned (Some expected) type found = part_at lower upper tu
 abbrev pub method_part : List Entry → List Entry → Bool → Option TyRef → TyRef → List ℕ → Option (List ℕ)
 method_part lower upper turned None expected found = None
 method_part lower upper turned (Some type) expected found = part_at lower upper turned type expected found
+
+-- a field, a case or a method
+abbrev pub labelled_part : Labelled → List Entry → List Entry → Bool → Option TyRef → TyRef → List ℕ → Option (List ℕ)
+labelled_part Field lower upper turned other type found = field_part lower upper turned other type found
+labelled_part Case lower upper turned other type found = case_part lower upper turned other type found
+labelled_part Method lower upper turned other type found = method_part lower upper turned other type found
 
 -- the types under labels, each against the type under the same label in the other list
 abbrev pub labelled_parts : {K : Type 0} → (K → K → Ordering) → (Option TyRef → TyRef → List ℕ → Option (List ℕ)) → List (K × TyRef) → List (K × TyRef) → List ℕ → Option (List ℕ)

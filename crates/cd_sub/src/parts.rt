@@ -4,7 +4,8 @@ ghost use Rattle.std.specs.Ordering.{nat_cmp};
 ghost use Rattle.std.specs.Cmp.Lexicographic.{slice_cmp};
 ghost use Rattle.cd_types.specs.IsOrdered.{is_ordered};
 ghost use Rattle.cd_sub.specs.Rising.{Rising};
-ghost use Rattle.cd_sub.specs.Parts.{place_of, verdict, part_at, field_part, field_parts, case_part, case_parts, method_part, method_parts, sequence_parts, entry_parts};
+ghost use Rattle.cd_sub.specs.Parts.{place_of, verdict, part_at, labelled_part, field_parts, case_parts};
+ghost use Rattle.cd_sub.specs.Parts.{method_parts, sequence_parts, entry_parts};
 ghost use Rattle.cd_sub.specs.Pairs.{pair_parts};
 
 use crate::labels::{method_name, type_of_field, type_of_method};
@@ -12,6 +13,15 @@ use crate::part_free::{is_part_free_subtype, may_miss};
 use cd_types::{Entry, TyRef, TypeTable};
 use ic_base::NoMemory;
 use ic_principal::Text;
+
+/// What stands under a label: an expected field of a record, a case of a variant, or an expected
+/// method of a service. A sequence is like a record whose labels are places.
+#[derive(Clone, Copy)]
+pub(crate) enum Labelled {
+    Field,
+    Case,
+    Method,
+}
 
 /// The tables of a lower type and of an upper one, the possible subtype and the possible
 /// supertype. Turned, the lower type is of the second table: so it is with a function's arguments.
@@ -49,7 +59,8 @@ impl<'a> Side<'a> {
 
     /// Notes a pair of entries as a part to be shown, and decides every other pair at once.
     fn part(&self, a: TyRef, b: TyRef, found: &mut Vec<u32>) -> Result<bool, NoMemory>
-        ensures { IfOk result (λ fits. verdict fits found.new.items ≡ part_at self.now.lower.now self.now.upper.now self.now.turned a b found.old.items) }
+        ensures { let parts = part_at self.now.lower.now self.now.upper.now self.now.turned a b in
+            IfOk result (λ fits. verdict fits found.new.items ≡ parts found.old.items) }
     {
         match (a, b) {
             (TyRef::Index(i), TyRef::Index(j)) if i < self.lower.len() && j < self.upper.len() => {
@@ -60,45 +71,24 @@ impl<'a> Side<'a> {
         }
     }
 
-    fn field(
+    /// Decides the type under a label and the type under the same label on the other side, if there
+    /// is one, or notes them as a part.
+    fn labelled(
         &self,
-        present: Option<TyRef>,
-        expected: TyRef,
-        found: &mut Vec<u32>,
-    ) -> Result<bool, NoMemory>
-        ensures { IfOk result (λ fits. verdict fits found.new.items ≡ field_part self.now.lower.now self.now.upper.now self.now.turned present expected found.old.items) }
-    {
-        match present {
-            Some(ty) => self.part(ty, expected, found),
-            None => Ok(may_miss(self.upper, expected)),
-        }
-    }
-
-    fn case(
-        &self,
-        expected: Option<TyRef>,
+        label: Labelled,
+        other: Option<TyRef>,
         ty: TyRef,
         found: &mut Vec<u32>,
     ) -> Result<bool, NoMemory>
-        ensures { IfOk result (λ fits. verdict fits found.new.items ≡ case_part self.now.lower.now self.now.upper.now self.now.turned expected ty found.old.items) }
+        ensures { let parts = labelled_part label self.now.lower.now self.now.upper.now self.now.turned other ty in
+            IfOk result (λ fits. verdict fits found.new.items ≡ parts found.old.items) }
     {
-        match expected {
-            Some(expected) => self.part(ty, expected, found),
-            None => Ok(false),
-        }
-    }
-
-    fn method(
-        &self,
-        present: Option<TyRef>,
-        expected: TyRef,
-        found: &mut Vec<u32>,
-    ) -> Result<bool, NoMemory>
-        ensures { IfOk result (λ fits. verdict fits found.new.items ≡ method_part self.now.lower.now self.now.upper.now self.now.turned present expected found.old.items) }
-    {
-        match present {
-            Some(ty) => self.part(ty, expected, found),
-            None => Ok(false),
+        match (label, other) {
+            (Labelled::Field, None) => Ok(may_miss(self.upper, ty)),
+            (Labelled::Case, None) | (Labelled::Method, None) => Ok(false),
+            (Labelled::Field, Some(present)) => self.part(present, ty, found),
+            (Labelled::Case, Some(expected)) => self.part(ty, expected, found),
+            (Labelled::Method, Some(present)) => self.part(present, ty, found),
         }
     }
 
@@ -110,13 +100,14 @@ impl<'a> Side<'a> {
     ) -> Result<bool, NoMemory>
         requires fields { Rising nat_cmp fields.now }
         requires expected { Rising nat_cmp expected.now }
-        ensures { IfOk result (λ fits. verdict fits found.new.items ≡ field_parts self.now.lower.now self.now.upper.now self.now.turned fields.now expected.now found.old.items) }
+        ensures { let parts = field_parts self.now.lower.now self.now.upper.now self.now.turned fields.now expected.now in
+            IfOk result (λ fits. verdict fits found.new.items ≡ parts found.old.items) }
     {
         let mut at = 0;
         for (id, ty) in expected {
             let (next, present) = type_of_field(fields, at, *id);
             at = next;
-            if !self.field(present, *ty, found)? {
+            if !self.labelled(Labelled::Field, present, *ty, found)? {
                 return Ok(false);
             }
         }
@@ -131,13 +122,14 @@ impl<'a> Side<'a> {
     ) -> Result<bool, NoMemory>
         requires cases { Rising nat_cmp cases.now }
         requires expected { Rising nat_cmp expected.now }
-        ensures { IfOk result (λ fits. verdict fits found.new.items ≡ case_parts self.now.lower.now self.now.upper.now self.now.turned cases.now expected.now found.old.items) }
+        ensures { let parts = case_parts self.now.lower.now self.now.upper.now self.now.turned cases.now expected.now in
+            IfOk result (λ fits. verdict fits found.new.items ≡ parts found.old.items) }
     {
         let mut at = 0;
         for (id, ty) in cases {
             let (next, wanted) = type_of_field(expected, at, *id);
             at = next;
-            if !self.case(wanted, *ty, found)? {
+            if !self.labelled(Labelled::Case, wanted, *ty, found)? {
                 return Ok(false);
             }
         }
@@ -152,13 +144,14 @@ impl<'a> Side<'a> {
     ) -> Result<bool, NoMemory>
         requires methods { Rising (slice_cmp nat_cmp) methods.now }
         requires expected { Rising (slice_cmp nat_cmp) expected.now }
-        ensures { IfOk result (λ fits. verdict fits found.new.items ≡ method_parts self.now.lower.now self.now.upper.now self.now.turned methods.now expected.now found.old.items) }
+        ensures { let parts = method_parts self.now.lower.now self.now.upper.now self.now.turned methods.now expected.now in
+            IfOk result (λ fits. verdict fits found.new.items ≡ parts found.old.items) }
     {
         let mut at = 0;
         for method in expected {
             let (next, present) = type_of_method(methods, at, method_name(method));
             at = next;
-            if !self.method(present, method.1, found)? {
+            if !self.labelled(Labelled::Method, present, method.1, found)? {
                 return Ok(false);
             }
         }
@@ -171,10 +164,11 @@ impl<'a> Side<'a> {
         expected: &[TyRef],
         found: &mut Vec<u32>,
     ) -> Result<bool, NoMemory>
-        ensures { IfOk result (λ fits. verdict fits found.new.items ≡ sequence_parts self.now.lower.now self.now.upper.now self.now.turned types.now expected.now found.old.items) }
+        ensures { let parts = sequence_parts self.now.lower.now self.now.upper.now self.now.turned types.now expected.now in
+            IfOk result (λ fits. verdict fits found.new.items ≡ parts found.old.items) }
     {
         for (at, ty) in expected.iter().enumerate() {
-            if !self.field(types.get(at).copied(), *ty, found)? {
+            if !self.labelled(Labelled::Field, types.get(at).copied(), *ty, found)? {
                 return Ok(false);
             }
         }
@@ -189,7 +183,9 @@ impl<'a> Side<'a> {
         expected_results: &[TyRef],
         found: &mut Vec<u32>,
     ) -> Result<bool, NoMemory>
-        ensures { IfOk result (λ fits. verdict fits found.new.items ≡ option_and_then (λ found. sequence_parts self.now.lower.now self.now.upper.now self.now.turned results.now expected_results.now found) (sequence_parts self.now.upper.now self.now.lower.now (not self.now.turned) expected_args.now args.now found.old.items)) }
+        ensures { let of_args = sequence_parts self.now.upper.now self.now.lower.now (not self.now.turned) expected_args.now args.now in
+            let of_results = sequence_parts self.now.lower.now self.now.upper.now self.now.turned results.now expected_results.now in
+            IfOk result (λ fits. verdict fits found.new.items ≡ option_and_then of_results (of_args found.old.items)) }
     {
         Ok(
             self.exchanged().sequence(expected_args, args, found)?
@@ -201,7 +197,8 @@ impl<'a> Side<'a> {
         requires x { IsTrue (is_ordered x.now) }
         requires y { IsTrue (is_ordered y.now) }
         requires none { found.old.items ≡ [] }
-        ensures { IfOk result (λ fits. verdict fits found.new.items ≡ entry_parts self.now.lower.now self.now.upper.now self.now.turned x.now y.now) }
+        ensures { let parts = entry_parts self.now.lower.now self.now.upper.now self.now.turned x.now y.now in
+            IfOk result (λ fits. verdict fits found.new.items ≡ parts) }
     {
         match (x, y) {
             (_, Entry::Opt(_)) => Ok(true),
@@ -250,7 +247,8 @@ impl<'a> Side<'a> {
     /// whether a rule fits if they do.
     pub(crate) fn pair(&self, number: u32, found: &mut Vec<u32>) -> Result<bool, NoMemory>
         requires { number < length self.now.lower.now * length self.now.upper.now }
-        ensures { IfOk result (λ fits. verdict fits found.new.items ≡ pair_parts self.now.lower.now self.now.upper.now self.now.turned number) }
+        ensures { let parts = pair_parts self.now.lower.now self.now.upper.now self.now.turned number in
+            IfOk result (λ fits. verdict fits found.new.items ≡ parts) }
     {
         found.clear();
         let width = self.upper.len();

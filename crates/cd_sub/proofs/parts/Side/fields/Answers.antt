@@ -14,8 +14,8 @@ loop-id-preserved c =
     record {
       inside = call.ensures.inside;
       all =
-          read_step nat_cmp part c.args.fields.now c.args.expected.now c.loop-id.at call.result.0 c.loop-id.id-index (0, Prim Null) field field.0 call.result.1 c.loop-id.found.items c.field.new.found.items
+          read_step nat_cmp part c.args.fields.now c.args.expected.now c.loop-id.at call.result.0 c.loop-id.id-index (0, Prim Null) field field.0 call.result.1 c.loop-id.found.items c.labelled.new.found.items
           (omega arith) c.requires.expected refl refl call.ensures.found call.ensures.greater
-          (sym c.in_ok-field.ensures ∙ ap (λ fits. verdict fits c.field.new.found.items) c.if-not-branch.false)
+          (sym c.in_ok-labelled.ensures ∙ ap (λ fits. verdict fits c.labelled.new.found.items) c.if-not-branch.false)
           ∙ c.loop-id.invariant.all;
     }

@@ -13,8 +13,8 @@ loop-method-preserved c =
     record {
       inside = call.ensures.inside;
       all =
-          read_step (slice_cmp nat_cmp) part c.args.methods.now c.args.expected.now c.loop-method.at call.result.0 c.loop-method.method-index method method c.method_name.result.now call.result.1 c.loop-method.found.items c.method.new.found.items
+          read_step (slice_cmp nat_cmp) part c.args.methods.now c.args.expected.now c.loop-method.at call.result.0 c.loop-method.method-index method method c.method_name.result.now call.result.1 c.loop-method.found.items c.labelled.new.found.items
           (omega arith) c.requires.expected (sym c.method-item.is) c.method_name.ensures call.ensures.found call.ensures.greater
-          (sym c.in_ok-method.ensures ∙ ap (λ fits. verdict fits c.method.new.found.items) c.if-not-branch.false)
+          (sym c.in_ok-labelled.ensures ∙ ap (λ fits. verdict fits c.labelled.new.found.items) c.if-not-branch.false)
           ∙ c.loop-method.invariant.all;
     }
