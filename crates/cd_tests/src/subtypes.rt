@@ -1,7 +1,4 @@
-ghost use Rattle.std.specs.Prelude.{◌≡◌, length};
-ghost use Rattle.cd_types.specs.IsInside.{is_inside};
-
-use cd_sub::{Subtyping, subtype};
+use cd_sub::{Subtyping, is_top, may_miss, subtype};
 use cd_types::{Entry, Fields, Methods, Prim, TyRef, TyRefs, TypeTable};
 use ic_base::NoMemory;
 use ic_principal::{Bytes, Text};
@@ -62,28 +59,44 @@ fn service(a: Global, methods: &[(&str, u32)]) -> Result<Entry, NoMemory> {
     Ok(Entry::Service(Methods { items }))
 }
 
-fn table(entries: Vec<Entry>) -> Result<TypeTable, Fail> {
-    Ok(
-        TypeTable::new(entries)
-            .ok()
-            .ok_or("the table is well formed")?,
-    )
-}
-
-fn is_inside(table: &TypeTable, ty: TyRef) -> bool
-    ensures { result ≡ is_inside (length table.now) ty }
-{
-    match ty {
-        TyRef::Prim(_) => true,
-        TyRef::Index(index) => index < table.len(),
+fn table(entries: Result<Vec<Entry>, NoMemory>) -> Option<TypeTable> {
+    match entries {
+        Ok(entries) => TypeTable::new(entries).ok(),
+        Err(_) => None,
     }
 }
 
-fn below(a: Global, t1: &TypeTable, x: TyRef, t2: &TypeTable, y: TyRef) -> Result<bool, Fail> {
-    if is_inside(t1, x) && is_inside(t2, y) {
-        return Ok(subtype(a, t1, x, t2, y)?);
+// Whether the one type is a subtype of the other, if both are inside their tables.
+fn below(a: Global, t1: &TypeTable, x: TyRef, t2: &TypeTable, y: TyRef) -> Option<bool> {
+    if t1.contains(x) && t2.contains(y) {
+        subtype(a, t1, x, t2, y).ok()
+    } else {
+        None
     }
-    Err("a reference is outside of its table".into())
+}
+
+/// Two types of one table, and whether the first is a subtype of the second.
+type Row = (TyRef, TyRef, bool);
+
+// The place of the first row that is answered otherwise; none is if there is no table.
+fn first_other(a: Global, entries: Result<Vec<Entry>, NoMemory>, rows: &[Row]) -> Option<usize> {
+    match table(entries) {
+        Some(table) => rows.iter().position(|row| below(a, &table, row.0, &table, row.1)
+            != Some(row.2)),
+        None => Some(rows.len()),
+    }
+}
+
+// Whether the first type of one table is a subtype of the first of another.
+fn first_below(
+    a: Global,
+    t1: Result<Vec<Entry>, NoMemory>,
+    t2: Result<Vec<Entry>, NoMemory>,
+) -> Option<bool> {
+    match (table(t1), table(t2)) {
+        (Some(t1), Some(t2)) => below(a, &t1, at(0), &t2, at(0)),
+        _ => None,
+    }
 }
 
 // vec, opt, records and variants
@@ -114,40 +127,42 @@ fn data_types(a: Global) -> Result<Vec<Entry>, NoMemory> {
     Ok(entries)
 }
 
+static DATA: [Row; 25] = [
+    (NAT, NAT, true),
+    (NAT, INT, true),
+    (INT, NAT, false),
+    (NULL, TEXT, false),
+    (TEXT, RESERVED, true),
+    (RESERVED, TEXT, false),
+    (EMPTY, TEXT, true),
+    (TEXT, EMPTY, false),
+    (TyRef::Index(0), RESERVED, true),
+    (EMPTY, TyRef::Index(4), true),
+    (NULL, TyRef::Index(2), true),
+    (TyRef::Index(0), TyRef::Index(2), true),
+    (TyRef::Index(3), TyRef::Index(2), true),
+    (TyRef::Index(2), NAT, false),
+    (TyRef::Index(0), TyRef::Index(1), true),
+    (TyRef::Index(1), TyRef::Index(0), false),
+    (TyRef::Index(5), TyRef::Index(4), true),
+    (TyRef::Index(4), TyRef::Index(6), true),
+    (TyRef::Index(5), TyRef::Index(6), false),
+    (TyRef::Index(4), TyRef::Index(5), false),
+    (TyRef::Index(8), TyRef::Index(7), true),
+    (TyRef::Index(7), TyRef::Index(8), false),
+    (TyRef::Index(9), TyRef::Index(10), true),
+    (TyRef::Index(10), TyRef::Index(9), false),
+    (TyRef::Index(4), TyRef::Index(9), false),
+];
+
+fn data_rows() -> &'static [Row] {
+    &DATA
+}
+
 #[test]
-fn rules_of_data(rt: HostRuntime) -> Result<(), Fail> {
+fn rules_of_data(rt: HostRuntime) {
     let a = rt.alloc();
-    let t = table(data_types(a)?)?;
-    for (x, y, expected) in [
-        (NAT, NAT, true),
-        (NAT, INT, true),
-        (INT, NAT, false),
-        (NULL, TEXT, false),
-        (TEXT, RESERVED, true),
-        (RESERVED, TEXT, false),
-        (EMPTY, TEXT, true),
-        (TEXT, EMPTY, false),
-        (at(0), RESERVED, true),
-        (EMPTY, at(4), true),
-        (NULL, at(2), true),
-        (at(0), at(2), true),
-        (at(3), at(2), true),
-        (at(2), NAT, false),
-        (at(0), at(1), true),
-        (at(1), at(0), false),
-        (at(5), at(4), true),
-        (at(4), at(6), true),
-        (at(5), at(6), false),
-        (at(4), at(5), false),
-        (at(8), at(7), true),
-        (at(7), at(8), false),
-        (at(9), at(10), true),
-        (at(10), at(9), false),
-        (at(4), at(9), false),
-    ] {
-        assert_eq!(rt; below(a, &t, x, &t, y)?, expected, "{x:?} {y:?}");
-    }
-    Ok(())
+    assert_eq!(rt; first_other(a, data_types(a), data_rows()), None);
 }
 
 type FuncRow<'a> = (&'a [TyRef], &'a [TyRef], &'a [u8]);
@@ -177,34 +192,36 @@ fn reference_types(a: Global) -> Result<Vec<Entry>, NoMemory> {
     Ok(entries)
 }
 
+static REFERENCES: [Row; 19] = [
+    (TyRef::Index(1), TyRef::Index(1), true),
+    (TyRef::Index(3), TyRef::Index(2), true),
+    (TyRef::Index(2), TyRef::Index(3), false),
+    (TyRef::Index(1), TyRef::Index(3), false),
+    (TyRef::Index(4), TyRef::Index(1), true),
+    (TyRef::Index(1), TyRef::Index(4), true),
+    (TyRef::Index(2), TyRef::Index(1), false),
+    (TyRef::Index(1), TyRef::Index(5), true),
+    (TyRef::Index(5), TyRef::Index(1), true),
+    (TyRef::Index(6), TyRef::Index(6), true),
+    (TyRef::Index(6), TyRef::Index(7), false),
+    (TyRef::Index(6), TyRef::Index(1), false),
+    (TyRef::Index(9), TyRef::Index(8), true),
+    (TyRef::Index(8), TyRef::Index(9), false),
+    (TyRef::Index(10), TyRef::Index(9), true),
+    (TyRef::Index(9), TyRef::Index(10), false),
+    (TyRef::Index(8), TyRef::Index(1), false),
+    (TyRef::Index(8), PRINCIPAL, false),
+    (PRINCIPAL, TyRef::Index(8), false),
+];
+
+fn reference_rows() -> &'static [Row] {
+    &REFERENCES
+}
+
 #[test]
-fn rules_of_references(rt: HostRuntime) -> Result<(), Fail> {
+fn rules_of_references(rt: HostRuntime) {
     let a = rt.alloc();
-    let t = table(reference_types(a)?)?;
-    for (x, y, expected) in [
-        (1, 1, true),
-        (3, 2, true),
-        (2, 3, false),
-        (1, 3, false),
-        (4, 1, true),
-        (1, 4, true),
-        (2, 1, false),
-        (1, 5, true),
-        (5, 1, true),
-        (6, 6, true),
-        (6, 7, false),
-        (6, 1, false),
-        (9, 8, true),
-        (8, 9, false),
-        (10, 9, true),
-        (9, 10, false),
-        (8, 1, false),
-    ] {
-        assert_eq!(rt; below(a, &t, at(x), &t, at(y))?, expected, "{x} {y}");
-    }
-    assert!(rt; !below(a, &t, at(8), &t, PRINCIPAL)?);
-    assert!(rt; !below(a, &t, PRINCIPAL, &t, at(8))?);
-    Ok(())
+    assert_eq!(rt; first_other(a, reference_types(a), reference_rows()), None);
 }
 
 // Lists over nat, and lists over int whose first two cells are written out. A list is a variant
@@ -218,22 +235,24 @@ fn lists(a: Global) -> Result<Vec<Entry>, NoMemory> {
     Ok(entries)
 }
 
+static LISTS: [Row; 7] = [
+    (TyRef::Index(0), TyRef::Index(0), true),
+    (TyRef::Index(2), TyRef::Index(4), true),
+    (TyRef::Index(4), TyRef::Index(2), true),
+    (TyRef::Index(6), TyRef::Index(2), true),
+    (TyRef::Index(0), TyRef::Index(2), true),
+    (TyRef::Index(2), TyRef::Index(0), false),
+    (TyRef::Index(6), TyRef::Index(0), false),
+];
+
+fn list_rows() -> &'static [Row] {
+    &LISTS
+}
+
 #[test]
-fn types_that_contain_themselves(rt: HostRuntime) -> Result<(), Fail> {
+fn types_that_contain_themselves(rt: HostRuntime) {
     let a = rt.alloc();
-    let t = table(lists(a)?)?;
-    for (x, y, expected) in [
-        (0, 0, true),
-        (2, 4, true),
-        (4, 2, true),
-        (6, 2, true),
-        (0, 2, true),
-        (2, 0, false),
-        (6, 0, false),
-    ] {
-        assert_eq!(rt; below(a, &t, at(x), &t, at(y))?, expected, "{x} {y}");
-    }
-    Ok(())
+    assert_eq!(rt; first_other(a, lists(a), list_rows()), None);
 }
 
 // Records in a ring: each contains the next one, and a field of a type, which at the last record
@@ -248,49 +267,74 @@ fn ring(a: Global, count: u32, ty: TyRef, last: TyRef) -> Result<Vec<Entry>, NoM
 }
 
 #[test]
-fn rings_that_differ_late(rt: HostRuntime) -> Result<(), Fail> {
+fn rings_that_differ_late(rt: HostRuntime) {
     let a = rt.alloc();
-    let wire = table(ring(a, 61, NAT, TEXT)?)?;
-    let expected = table(ring(a, 67, RESERVED, INT)?)?;
-    assert!(rt; !below(a, &wire, at(0), &expected, at(0))?);
-    let alike = table(ring(a, 67, RESERVED, RESERVED)?)?;
-    assert!(rt; below(a, &wire, at(0), &alike, at(0))?);
-    Ok(())
+    let differ = first_below(a, ring(a, 61, NAT, TEXT), ring(a, 67, RESERVED, INT));
+    assert_eq!(rt; differ, Some(false));
+    let alike = first_below(a, ring(a, 61, NAT, TEXT), ring(a, 67, RESERVED, RESERVED));
+    assert_eq!(rt; alike, Some(true));
 }
 
-fn below_twice(
-    a: Global,
-    t1: &TypeTable,
-    x: TyRef,
-    t2: &TypeTable,
-    y: TyRef,
-) -> Result<(bool, bool), Fail> {
-    if is_inside(t1, x) && is_inside(t2, y) {
+fn below_twice(a: Global, t1: &TypeTable, t2: &TypeTable, ty: TyRef) -> Option<(bool, bool)> {
+    if t1.contains(ty) && t2.contains(ty) {
         let mut subtyping = Subtyping::new(a, t1, t2);
-        let once = subtyping.is_subtype(x, y)?;
-        let again = subtyping.is_subtype(x, y)?;
-        return Ok((once, again));
+        let once = subtyping.is_subtype(ty, ty).ok()?;
+        let again = subtyping.is_subtype(ty, ty).ok()?;
+        return Some((once, again));
     }
-    Err("a reference is outside of its table".into())
+    None
+}
+
+// The answers to a question that is asked twice, where the tables differ and where they do not.
+fn asked_twice(a: Global) -> Option<[(bool, bool); 2]> {
+    match (
+        table(ring(a, 499, NAT, TEXT)),
+        table(ring(a, 500, RESERVED, INT)),
+    ) {
+        (Some(wire), Some(expected)) => {
+            let differ = below_twice(a, &wire, &expected, at(0))?;
+            let alike = below_twice(a, &wire, &wire, at(0))?;
+            Some([differ, alike])
+        }
+        _ => None,
+    }
 }
 
 #[test]
-fn a_question_asked_twice(rt: HostRuntime) -> Result<(), Fail> {
-    let a = rt.alloc();
-    let wire = table(ring(a, 499, NAT, TEXT)?)?;
-    let expected = table(ring(a, 500, RESERVED, INT)?)?;
+fn a_question_asked_twice(rt: HostRuntime) {
     assert_eq!(rt;
-        below_twice(a, &wire, at(0), &expected, at(0))?,
-        (false, false)
+        asked_twice(rt.alloc()),
+        Some([(false, false), (true, true)])
     );
-    assert_eq!(rt; below_twice(a, &wire, at(0), &wire, at(0))?, (true, true));
-    Ok(())
+}
+
+fn greatest(a: Global) -> Option<bool> {
+    match table(ring(a, 10_000, NAT, NAT)) {
+        Some(table) => below(a, &table, at(0), &table, at(0)),
+        None => None,
+    }
 }
 
 #[test]
-fn tables_of_the_greatest_size(rt: HostRuntime) -> Result<(), Fail> {
-    let a = rt.alloc();
-    let wire = table(ring(a, 10_000, NAT, NAT)?)?;
-    assert!(rt; below(a, &wire, at(0), &wire, at(0))?);
-    Ok(())
+fn tables_of_the_greatest_size(rt: HostRuntime) {
+    assert_eq!(rt; greatest(rt.alloc()), Some(true));
+}
+
+// Which of null, reserved, an opt and nat may be missing, and are above every type.
+fn of_special_types(a: Global) -> Option<([bool; 4], [bool; 4])> {
+    match table(data_types(a)) {
+        Some(table) => {
+            let types = [NULL, RESERVED, at(2), NAT];
+            let missing = types.map(|ty| may_miss(&table, ty));
+            let tops = types.map(|ty| is_top(&table, ty));
+            Some((missing, tops))
+        }
+        None => None,
+    }
+}
+
+#[test]
+fn special_types(rt: HostRuntime) {
+    let expected = ([true, true, true, false], [false, true, true, false]);
+    assert_eq!(rt; of_special_types(rt.alloc()), Some(expected));
 }

@@ -37,62 +37,122 @@ fn func(alloc: Global, notes: &[u8]) -> Result<Entry, NoMemory> {
     })
 }
 
-fn nulls(alloc: Global, count: usize) -> Result<Vec<Entry>, NoMemory> {
+/// An entry in few words.
+enum Sketch {
+    Opt,
+    Vec(u32),
+    Record(&'static [u32]),
+    Service(&'static [(&'static str, u32)]),
+    Func(&'static [u8]),
+}
+
+fn entry(alloc: Global, sketch: &Sketch) -> Result<Entry, NoMemory> {
+    match sketch {
+        Sketch::Opt => Ok(Entry::Opt(TyRef::Prim(Prim::Null))),
+        Sketch::Vec(index) => Ok(Entry::Seq(TyRef::Index(*index))),
+        Sketch::Record(ids) => record(alloc, ids),
+        Sketch::Service(methods) => service(alloc, methods),
+        Sketch::Func(notes) => func(alloc, notes),
+    }
+}
+
+fn entries(alloc: Global, sketches: &[Sketch], times: usize) -> Result<Vec<Entry>, NoMemory> {
     let mut entries = Vec::new(alloc);
-    for _ in 0..count {
-        entries.push(Entry::Opt(TyRef::Prim(Prim::Null)))?;
+    for _ in 0..times {
+        for sketch in sketches {
+            entries.push(entry(alloc, sketch)?)?;
+        }
     }
     Ok(entries)
 }
 
-fn fault(entries: Vec<Entry>) -> Option<TableFault> {
-    TypeTable::new(entries).err()
+/// Entries, how often they stand there, and the fault.
+type Row = (&'static [Sketch], usize, Option<TableFault>);
+
+const ORDER: Option<TableFault> = Some(TableFault::Order { entry: 0 });
+
+static ROWS: [Row; 11] = [
+    (
+        &[Sketch::Vec(1)],
+        1,
+        Some(TableFault::BadIndex { entry: 0 }),
+    ),
+    (&[Sketch::Record(&[1, 0])], 1, ORDER),
+    (
+        &[Sketch::Service(&[("a", 1)]), Sketch::Opt],
+        1,
+        Some(TableFault::NotFunc { entry: 0 }),
+    ),
+    (&[Sketch::Record(&[0, 0])], 1, ORDER),
+    (&[Sketch::Record(&[0, 4_294_967_295])], 1, None),
+    (
+        &[Sketch::Func(&[1, 2, 3]), Sketch::Func(&[4])],
+        1,
+        Some(TableFault::Order { entry: 1 }),
+    ),
+    (&[Sketch::Func(&[0])], 1, ORDER),
+    (
+        &[Sketch::Service(&[("b", 1), ("a", 1)]), Sketch::Func(&[])],
+        1,
+        ORDER,
+    ),
+    (
+        &[
+            Sketch::Service(&[("", 1), ("a", 1), ("aa", 1), ("b", 1)]),
+            Sketch::Func(&[]),
+        ],
+        1,
+        None,
+    ),
+    (&[Sketch::Opt], 10_000, None),
+    (&[Sketch::Opt], 10_001, Some(TableFault::TooMany)),
+];
+
+fn rows() -> &'static [Row] {
+    &ROWS
 }
 
-#[test]
-fn faults_of_tables(rt: HostRuntime) -> Result<(), Fail> {
-    let a = rt.alloc();
-    let opt_nat = || Entry::Opt(TyRef::Prim(Prim::Nat));
-    let bad_index = Some(TableFault::BadIndex { entry: 0 });
-    let order = |entry| Some(TableFault::Order { entry });
-    let not_func = Some(TableFault::NotFunc { entry: 0 });
-    for (entries, expected) in [
-        (vec![in a; Entry::Seq(TyRef::Index(1))]?, bad_index),
-        (vec![in a; record(a, &[1, 0])?]?, order(0)),
-        (vec![in a; service(a, &[("a", 1)])?, opt_nat()]?, not_func),
-        (vec![in a; record(a, &[0, 0])?]?, order(0)),
-        (vec![in a; record(a, &[0, 4_294_967_295])?]?, None),
-        (vec![in a; func(a, &[1, 2, 3])?, func(a, &[4])?]?, order(1)),
-        (vec![in a; func(a, &[0])?]?, order(0)),
-        (
-            vec![in a; service(a, &[("b", 1), ("a", 1)])?, func(a, &[])?]?,
-            order(0),
-        ),
-        (
-            vec![in a;
-                service(a, &[("", 1), ("a", 1), ("aa", 1), ("b", 1)])?,
-                func(a, &[])?,
-            ]?,
-            None,
-        ),
-        (nulls(a, 10_000)?, None),
-        (nulls(a, 10_001)?, Some(TableFault::TooMany)),
-    ] {
-        assert_eq!(rt; fault(entries), expected);
+fn fault(alloc: Global, row: &Row) -> Result<Option<TableFault>, NoMemory> {
+    match entries(alloc, row.0, row.1) {
+        Ok(entries) => Ok(TypeTable::new(entries).err()),
+        Err(error) => Err(error),
     }
-    Ok(())
 }
 
 #[test]
-fn entries_by_place(rt: HostRuntime) -> Result<(), Fail> {
-    let entries = vec![in rt.alloc(); Entry::Seq(TyRef::Index(0))]?;
-    let table = TypeTable::new(entries)
-        .ok()
-        .ok_or("the table is well formed")?;
-    assert_eq!(rt; table.len(), 1);
-    assert!(rt; matches!(table.entry(0), Some(Entry::Seq(TyRef::Index(0)))));
-    assert!(rt; table.entry(1).is_none());
-    Ok(())
+fn faults_of_tables(rt: HostRuntime) {
+    for row in rows() {
+        assert_eq!(rt; fault(rt.alloc(), row), Ok(row.2));
+    }
+}
+
+// The number of entries, and whether places 0 and 1 are inside and have an entry.
+fn places(table: &TypeTable) -> (u32, [bool; 4]) {
+    let places = [
+        table.contains(TyRef::Index(0)),
+        table.entry(0).is_some(),
+        table.contains(TyRef::Index(1)),
+        table.entry(1).is_some(),
+    ];
+    (table.len(), places)
+}
+
+fn places_of_one(alloc: Global) -> Option<(u32, [bool; 4])> {
+    match entries(alloc, &[Sketch::Vec(0)], 1) {
+        Ok(entries) => match TypeTable::new(entries) {
+            Ok(table) => Some(places(&table)),
+            Err(_) => None,
+        },
+        Err(_) => None,
+    }
+}
+
+#[test]
+fn entries_by_place(rt: HostRuntime) {
+    assert_eq!(rt;
+        places_of_one(rt.alloc()),
+        Some((1, [true, true, false, false]))
+    );
 }
 
 #[test]
@@ -101,4 +161,6 @@ fn ids_of_names(rt: HostRuntime) {
     for (name, id) in [("id", 23515), ("", 0), ("canister_id", 1_313_628_723)] {
         assert_eq!(rt; field_id(name), id);
     }
+    // 254 * 223 + 255, of bytes that are no UTF-8.
+    assert_eq!(rt; field_id_of_bytes(b"\xfe\xff"), 56_897);
 }
