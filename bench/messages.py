@@ -4,7 +4,7 @@
 import subprocess
 import sys
 
-from measure import Row
+from measure import Row, measured
 
 program, path = sys.argv[1:]
 
@@ -12,9 +12,23 @@ program, path = sys.argv[1:]
 def row(kind, size, times):
     with open(path, "wb") as message:
         subprocess.run(["python3", "bench/message.py", kind, str(size)], stdout=message, check=True)
-    measured = Row(program, path, *times)
-    measured.print(kind)
-    return measured
+    row = Row(program, path, *times)
+    row.print(kind)
+    decoded(kind, times[0], row)
+    return row
+
+
+def decoded(kind, times, row):
+    """Prints how long decoding takes, and how much memory."""
+    start, _ = measured([program, "0", "0", "0"], path)
+    _, peak = measured([program, "0", "0", "1"], path)
+    total = measured([program, "0", "0", str(times)], path)[0] - start
+    print(
+        f"{kind}, {row.size:,} bytes: decoded in {1000 * total / times:.2f} ms,"
+        f" {total / times / row.hashed:.2f} times sha256sum (from {total:.2f} s);"
+        f" peak memory {peak // 1024} MiB",
+        flush=True,
+    )
 
 
 for kind, reads, writes in [("records", 4, 24), ("bytes", 160, 160), ("types", 8, 24)]:
