@@ -1,10 +1,8 @@
 -- What a `decode` line prints, by the relations.
-use Rattle.std.proofs.Common.{refl, ◌≡◌, ℕ, false, List, [], ◌++◌, Some, None, Ok, Err, sym, ap, ◌∙◌}
-use Rattle.cd_types.specs.declared.entry.TyRef.{TyRef}
-use Rattle.cd_types.specs.declared.entry.Entry.{Entry}
+use Rattle.std.proofs.Common.{◌≡◌, ℕ, false, List, ap}
 use Rattle.cd_codec.specs.IsHeader.{IsHeader}
 use Rattle.cd_coerce.specs.Decoded.{decoded}
-use Rattle.ic_host.specs.Decoding.{Types, reading_text, answer_text, decode_text, types_of}
+use Rattle.ic_host.specs.Decoding.{Types, reading_text, answer_text, decode_text}
 use Rattle.ic_host.proofs.ExpectedTypes.{types_found}
 
 -- the types of the header are what the line is read at

@@ -14,7 +14,7 @@ use Rattle.ic_host.specs.Body.{body, body_of, whole_lines}
 use Rattle.ic_host.specs.EndPart.{end_part}
 use Rattle.ic_host.specs.Explained.{Explained, Explains, bad_stop, bad_stop_of, stop_of, rest_of}
 use Rattle.ic_host.specs.Options.{options_of}
-use Rattle.ic_host.specs.Out.{Output, out, out_of, output_of, ended}
+use Rattle.ic_host.specs.Out.{Output, out, out_of, output_of, ended_output}
 use Rattle.ic_host.specs.Script.{script, script_of, walk_of, lines_until}
 use Rattle.ic_host.specs.Sending.{Taken, Sent, Interrupts}
 use Rattle.ic_host.specs.State.{State}
@@ -91,16 +91,16 @@ module _ (words : List (List ℕ)) (options : Options) (accepted : options_of wo
 
   -- a way that stops
   pub out-stopped : (bytes printed : List ℕ) (last : Result State Bad) → walk_of options bytes ≡ behind printed (stopped last)
-      → out words bytes ≡ ended options printed last
+      → out words bytes ≡ ended_output options printed last
   out-stopped bytes printed last way =
-      out-accepted bytes ∙ ap (output_of options) way ∙ ap (λ text. ended options text last) (append-nil printed)
+      out-accepted bytes ∙ ap (output_of options) way ∙ ap (λ text. ended_output options text last) (append-nil printed)
 
   -- what is printed so far is a front of the answer
   pub out-front : (bytes printed : List ℕ) (way : Walk) → walk_of options bytes ≡ behind printed way
       → (rest : List ℕ) × ((out words bytes).bytes ≡ (printed ++ way.text) ++ rest)
   out-front bytes printed way is =
       let whole = ap (λ (o : Output). o.bytes) (out-accepted bytes ∙ ap (output_of options) is) in
-      let P = λ (o : Result State Bad). (rest : List ℕ) × ((ended options (printed ++ way.text) o).bytes ≡ (printed ++ way.text) ++ rest) in
+      let P = λ (o : Result State Bad). (rest : List ℕ) × ((ended_output options (printed ++ way.text) o).bytes ≡ (printed ++ way.text) ++ rest) in
       let tail : (o : Result State Bad) → P o = λ o. elim o as P [ Ok state ↦ (end_part options state, refl) | Err bad ↦ ((bad_output bad.line bad.cause).bytes, refl) ] in
       let found = tail way.last in
       (found.0, whole ∙ found.1)

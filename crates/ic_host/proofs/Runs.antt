@@ -5,8 +5,8 @@ use Rattle.std.specs.Io.KnownBytes.{prepend_known, IsAtEnd}
 use Rattle.std.proofs.lemmas.Bool.{false≢true}
 use Rattle.ic_outside.specs.Limits.{Limits, script_limits, Excess, LongLine, LongScript, excess, excess_of}
 use Rattle.ic_outside.specs.Pieces.{HasNoLf, pieces, line_of}
-use Rattle.ic_outside.specs.Reader.{Reader}
-use Rattle.ic_outside.specs.Reads.{HandsOut, Exceeds, Answers}
+use Rattle.ic_outside.specs.LineReader.{LineReader}
+use Rattle.ic_outside.specs.Reads.{HandsOut, Exceeds, AnswersBySeen}
 use Rattle.ic_outside.specs.declared.Line.{Line}
 use Rattle.ic_outside.specs.declared.LineFault.{LineFault}
 use Rattle.ic_outside.specs.declared.LineFault.TheVariants as fault
@@ -36,11 +36,11 @@ use Rattle.ic_host.proofs.SendLaws.{Sent-nil, Sent-append, Interrupts-after, Int
 use Rattle.ic_host.proofs.WalkLaws.{stopped, walk-nil, walk-excess}
 
 -- where the reader stands
-abbrev pub place_of : Options → State → Reader → Place
+abbrev pub place_of : Options → State → LineReader → Place
 place_of options state reader = record { options = options; state = state; number = reader.handed + 1; offset = reader.offset }
 
 -- before each line
-pub record Runs (options : Options) (left_before left : Option (List ℕ)) (before now : Taken) (state : State) (reader : Reader) : Type 0 where
+pub record Runs (options : Options) (left_before left : Option (List ℕ)) (before now : Taken) (state : State) (reader : LineReader) : Type 0 where
   pub handed : List ℕ
   pub printed : List ℕ
   pub was_read : left_before ≡ prepend_known (handed ++ reader.kept) left
@@ -83,7 +83,7 @@ at_end-kept : (left_before left : Option (List ℕ)) (read : List ℕ) → left_
 at_end-kept left_before left read taken none end =
     subst IsAtEnd (taken ∙ ap (λ l. prepend_known l left) none ∙ prepend_known-nil left) end
 
-module _ (options : Options) (left_before left left_after : Option (List ℕ)) (before now after : Taken) (state : State) (old new : Reader)
+module _ (options : Options) (left_before left left_after : Option (List ℕ)) (before now after : Taken) (state : State) (old new : LineReader)
     (runs : Runs options left_before left before now state old) where
   -- what was read so far
   read_so_far : (read : List ℕ) → left ≡ prepend_known read left_after → left_before ≡ prepend_known (runs.handed ++ (old.kept ++ read)) left_after
@@ -230,7 +230,7 @@ module _ (options : Options) (left_before left left_after : Option (List ℕ)) (
           (first.0, length-pieces (old.kept ++ read) first.0 first.1 seen, subst L runs.limits first.3)
 
       -- the reader answered a fault
-      pub explain-fault : (fault : LineFault) (status : Status) → Answers old (old.kept ++ read) left_after (Err fault) new → Stops now after fault status
+      pub explain-fault : (fault : LineFault) (status : Status) → AnswersBySeen old (old.kept ++ read) left_after (Err fault) new → Stops now after fault status
           → Explained words left_before left_after before after status
       explain-fault fault.ReadFault status answers stops =
           let P = λ (s : Status). Explained words left_before left_after before after s in

@@ -63,6 +63,6 @@ pub record Explained (words : List (List ℕ)) (left_before left : Option (List 
       → (after.faults ≡ before.faults) × (status ≢ WriteFault))
 
 -- The sink took the output and the status is its status, or memory was wanting.
-abbrev pub Gives : Output → Option (List ℕ) → Option (List ℕ) → Status → Type 0
-Gives output before after status =
+abbrev pub GivesOutput : Output → Option (List ℕ) → Option (List ℕ) → Status → Type 0
+GivesOutput output before after status =
     (status ≡ NoMemory) ⊎ ((status ≡ output.status) × (after ≡ append_known before output.bytes))

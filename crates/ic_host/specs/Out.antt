@@ -16,13 +16,13 @@ pub record Output : Type 0 where
   pub status : Status
 
 -- the end of a way: the end part, or the bad line
-abbrev pub ended : Options → List ℕ → Result State Bad → Output
-ended options text (Ok state) = record { bytes = text ++ end_part options state; status = Done }
-ended options text (Err bad) = record { bytes = text ++ bad_text bad.line bad.cause; status = BadLine bad.line bad.cause }
+abbrev pub ended_output : Options → List ℕ → Result State Bad → Output
+ended_output options text (Ok state) = record { bytes = text ++ end_part options state; status = Done }
+ended_output options text (Err bad) = record { bytes = text ++ bad_text bad.line bad.cause; status = BadLine bad.line bad.cause }
 
 -- the answer that a way through a script makes
 abbrev pub output_of : Options → Walk → Output
-output_of options way = ended options way.text way.last
+output_of options way = ended_output options way.text way.last
 
 -- the answer to a script with the options, or the usage line where the words are refused
 abbrev pub out_of : Option Options → List ℕ → Output

@@ -3,7 +3,7 @@ ghost use Rattle.ic_outside.specs.Faults.{Rose};
 ghost use Rattle.ic_host.specs.Acts.{Concludes, Turns, Stops, usage_output, bad_output, end_output};
 ghost use Rattle.ic_host.specs.AfterLine.{after_line};
 ghost use Rattle.ic_host.specs.Options.{options_of};
-ghost use Rattle.ic_host.specs.Explained.{Explained, Gives};
+ghost use Rattle.ic_host.specs.Explained.{Explained, GivesOutput};
 ghost use Rattle.ic_host.specs.Out.{out};
 ghost use Rattle.ic_host.specs.Sending.{sink_at};
 
@@ -36,7 +36,7 @@ pub fn replica<R: Threads + Sync, S: Source, K: Sink, G: Gate + Sync>(
     ensures headline { (Rose (S.faults source.old) (S.faults source.new) → ⊥)
         → (Rose (K.faults sink.old) (K.faults sink.new) → ⊥)
         → IfSome (S.left source.old) (λ script.
-        Gives (out (map string_bytes words.now) script) (K.taken sink.old) (K.taken sink.new) result) }
+        GivesOutput (out (map string_bytes words.now) script) (K.taken sink.old) (K.taken sink.new) result) }
 
     // What each status says of the bytes that were read and of those that were sent.
     ensures explained { Explained (map string_bytes words.now) (S.left source.old) (S.left source.new)
@@ -57,7 +57,7 @@ pub fn replica<R: Threads + Sync, S: Source, K: Sink, G: Gate + Sync>(
     // Where in addition the whole answer fits into the sink, it is given, and neither count rises.
     ensures complete { S.cannot_fail source.old → IfSome (S.left source.old) (λ script.
         IfSome (K.fits sink.old) (λ room. length (out (map string_bytes words.now) script).bytes ≤ room
-        → Gives (out (map string_bytes words.now) script) (K.taken sink.old) (K.taken sink.new) result
+        → GivesOutput (out (map string_bytes words.now) script) (K.taken sink.old) (K.taken sink.new) result
         × (S.faults source.new ≡ S.faults source.old)
         × (K.faults sink.new ≡ K.faults sink.old))) }
 {

@@ -5,8 +5,8 @@ use Rattle.std.proofs.lemmas.Bool.Decides.{nat_tests}
 use Rattle.std.proofs.Math.Nat.{eq-or-lt_of_le}
 use Rattle.ic_outside.specs.Limits.{Limits, Excess, LongLine, LongScript, excess, excess_of}
 use Rattle.ic_outside.specs.Pieces.{HasNoLf, pieces, line_of}
-use Rattle.ic_outside.specs.Reader.{Reader}
-use Rattle.ic_outside.specs.Reads.{HandsOut, Answers}
+use Rattle.ic_outside.specs.LineReader.{LineReader}
+use Rattle.ic_outside.specs.Reads.{HandsOut, AnswersBySeen}
 use Rattle.ic_outside.specs.Steps.{BeginsWithLine, fault_of, IsFaultOf, IsNear, handed_out}
 use Rattle.ic_outside.specs.declared.lines.Line.{Line}
 use Rattle.ic_outside.specs.declared.error.LineFault.{LineFault}
@@ -22,7 +22,7 @@ excess_of-line limits offset line n none len =
     ap (λ l. excess limits offset l (length (line ++ 10 ∷ []))) is_line ∙ ap (λ p. excess limits offset n p) is_piece
 
 -- a whole line that fits is handed out
-pub HandsOut-line : (old : Reader) (n : ℕ) (line : Line) (new : Reader) → BeginsWithLine old.kept n → length old.kept ≤ n + 65536
+pub HandsOut-line : (old : LineReader) (n : ℕ) (line : Line) (new : LineReader) → BeginsWithLine old.kept n → length old.kept ≤ n + 65536
     → excess old.limits old.offset n (n + 1) ≡ None → line.number ≡ old.handed + 1 → line.bytes ≡ take n old.kept
     → new ≡ handed_out old (n + 1) → HandsOut old old.kept line new
 HandsOut-line old n line new begins ahead fits number bytes is_new =
@@ -47,7 +47,7 @@ HandsOut-line old n line new begins ahead fits number bytes is_new =
     }
 
 -- the last line, which lacks its LF
-pub HandsOut-rest : (old : Reader) (line : Line) (new : Reader) → HasNoLf old.kept → 0 < length old.kept → IsTrue old.ended
+pub HandsOut-rest : (old : LineReader) (line : Line) (new : LineReader) → HasNoLf old.kept → 0 < length old.kept → IsTrue old.ended
     → excess old.limits old.offset (length old.kept) (length old.kept) ≡ None → line.number ≡ old.handed + 1
     → line.bytes ≡ take (length old.kept) old.kept → new ≡ handed_out old (length old.kept) → HandsOut old old.kept line new
 HandsOut-rest old line new none some ended fits number bytes is_new =
@@ -70,20 +70,20 @@ HandsOut-rest old line new none some ended fits number bytes is_new =
     }
 
 -- a fault of a limit that the first piece of what is kept passes, whatever follows
-Answers-passed : (old : Reader) (fault : LineFault) (left : Option (List ℕ)) (new : Reader) → IsNear old → (limit : Excess)
+AnswersBySeen-passed : (old : LineReader) (fault : LineFault) (left : Option (List ℕ)) (new : LineReader) → IsNear old → (limit : Excess)
     → fault ≡ fault_of limit (old.handed + 1)
     → ((more : List ℕ) → (piece : List ℕ) × (rest : List (List ℕ)) × (pieces (old.kept ++ more) ≡ piece ∷ rest) × (excess_of old.limits old.offset piece ≡ Some limit))
-    → Answers old old.kept left (Err fault) new
-Answers-passed old fault left new near LongLine is passes =
-    subst (λ f. Answers old old.kept left (Err f) new) (sym is) (record { passes = passes; number = refl }, near.line)
-Answers-passed old fault left new near LongScript is passes =
-    subst (λ f. Answers old old.kept left (Err f) new) (sym is) (record { passes = passes; number = refl }, near.script)
+    → AnswersBySeen old old.kept left (Err fault) new
+AnswersBySeen-passed old fault left new near LongLine is passes =
+    subst (λ f. AnswersBySeen old old.kept left (Err f) new) (sym is) (record { passes = passes; number = refl }, near.line)
+AnswersBySeen-passed old fault left new near LongScript is passes =
+    subst (λ f. AnswersBySeen old old.kept left (Err f) new) (sym is) (record { passes = passes; number = refl }, near.script)
 
 -- the whole line that is kept first passes a limit
-pub Answers-line : (old : Reader) (n : ℕ) (fault : LineFault) (left : Option (List ℕ)) (new : Reader) → BeginsWithLine old.kept n → IsNear old
-    → IsFaultOf (excess old.limits old.offset n (n + 1)) (old.handed + 1) fault → Answers old old.kept left (Err fault) new
-Answers-line old n fault left new begins near passed =
-    Answers-passed old fault left new near passed.0 passed.2 (λ more. (
+pub AnswersBySeen-line : (old : LineReader) (n : ℕ) (fault : LineFault) (left : Option (List ℕ)) (new : LineReader) → BeginsWithLine old.kept n → IsNear old
+    → IsFaultOf (excess old.limits old.offset n (n + 1)) (old.handed + 1) fault → AnswersBySeen old old.kept left (Err fault) new
+AnswersBySeen-line old n fault left new begins near passed =
+    AnswersBySeen-passed old fault left new near passed.0 passed.2 (λ more. (
       begins.line ++ 10 ∷ [],
       pieces (begins.rest ++ more),
       ap (λ l. pieces (l ++ more)) begins.whole ∙ ap pieces (append_assoc begins.line (10 ∷ begins.rest) more) ∙ pieces-line begins.line (begins.rest ++ more) begins.one_line,
@@ -96,15 +96,15 @@ unfolding excess
 excess-nothing limits offset limit inside passed = grind (arith, nat_tests)
 
 -- what is kept is the front of a line that passes a limit
-pub Answers-begun : (old : Reader) (fault : LineFault) (left : Option (List ℕ)) (new : Reader) → HasNoLf old.kept → IsNear old
-    → IsFaultOf (excess old.limits old.offset (length old.kept) (length old.kept)) (old.handed + 1) fault → Answers old old.kept left (Err fault) new
-Answers-begun old fault left new none near passed =
+pub AnswersBySeen-begun : (old : LineReader) (fault : LineFault) (left : Option (List ℕ)) (new : LineReader) → HasNoLf old.kept → IsNear old
+    → IsFaultOf (excess old.limits old.offset (length old.kept) (length old.kept)) (old.handed + 1) fault → AnswersBySeen old old.kept left (Err fault) new
+AnswersBySeen-begun old fault left new none near passed =
     let some : 0 < length old.kept =
     elim (eq-or-lt_of_le (omega arith)) [
       | inl zero ↦ absurd (excess-nothing old.limits old.offset passed.0 near.inside (ap (λ n. excess old.limits old.offset n n) zero ∙ passed.1))
       | inr lt ↦ lt
     ] in
-    Answers-passed old fault left new near passed.0 passed.2 (λ more.
+    AnswersBySeen-passed old fault left new near passed.0 passed.2 (λ more.
     let first = pieces-begun old.kept more none some in
     let is_line : length (line_of (old.kept ++ first.0)) ≡ length old.kept + length (line_of first.0) =
     ap length (line_of-append old.kept first.0 none) ∙ length-append old.kept (line_of first.0) in

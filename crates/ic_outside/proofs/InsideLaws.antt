@@ -4,13 +4,13 @@ use Rattle.std.proofs.lemmas.List.Elements.{All-nil}
 use Rattle.ic_outside.specs.Limits.{excess}
 use Rattle.ic_outside.specs.LinesInside.{reader_of, IsSound}
 use Rattle.ic_outside.specs.Pieces.{HasNoLf}
-use Rattle.ic_outside.specs.Reader.{Reader}
+use Rattle.ic_outside.specs.LineReader.{LineReader}
 use Rattle.ic_outside.specs.Steps.{IsBlock}
 use Rattle.ic_outside.specs.declared.lines.Lines.TheInside.{Inside}
 use Rattle.ic_outside.proofs.LimitLaws.{excess-none}
 
 -- a piece that fits was handed out
-pub IsSound-handed_out : (l : Inside) (now : Reader) (line piece : ℕ) (kept : List ℕ) → IsSound l → reader_of l ≡ now → line ≤ piece → 0 < piece
+pub IsSound-handed_out : (l : Inside) (now : LineReader) (line piece : ℕ) (kept : List ℕ) → IsSound l → reader_of l ≡ now → line ≤ piece → 0 < piece
     → length now.kept ≤ piece + 65536 → excess now.limits now.offset line piece ≡ None → kept ≡ drop piece l.kept
     → IsSound (record l { kept = kept; searched = 0; offset = l.offset + piece; handed = l.handed + 1 })
 IsSound-handed_out l now line piece kept sound is shorter some ahead fits is_kept =
@@ -28,7 +28,7 @@ IsSound-handed_out l now line piece kept sound is shorter some ahead fits is_kep
     }
 
 -- what was kept was searched, and at most one block came behind it
-pub IsSound-filled : (l : Inside) (now : Reader) (searched : ℕ) (read kept : List ℕ) (block : Vec ℕ Global) (ended : Bool) → IsSound l → reader_of l ≡ now
+pub IsSound-filled : (l : Inside) (now : LineReader) (searched : ℕ) (read kept : List ℕ) (block : Vec ℕ Global) (ended : Bool) → IsSound l → reader_of l ≡ now
     → HasNoLf now.kept → excess now.limits now.offset (length now.kept) (length now.kept) ≡ None → searched ≡ length l.kept
     → kept ≡ l.kept ++ read → length read ≤ 65536 → IsBlock (vec_len block)
     → IsSound (record l { kept = kept; searched = searched; block = block; ended = ended })

@@ -4,9 +4,9 @@ use Rattle.std.specs.Io.KnownBytes.{append_known}
 use Rattle.ic_outside.specs.Writing.{room_before}
 
 -- the bytes that a call moved: the first n of the buffer at `Ok(n)`, none at `Err`
-abbrev pub given : {E : Type 0} → Result ℕ E → List ℕ → List ℕ
-given (Ok n) bytes = take n bytes
-given (Err fault) bytes = []
+abbrev pub bytes_moved : {E : Type 0} → Result ℕ E → List ℕ → List ℕ
+bytes_moved (Ok n) bytes = take n bytes
+bytes_moved (Err fault) bytes = []
 
 -- a read that gives nothing into a buffer that is not empty gives the end
 abbrev pub gives_end : {E : Type 0} → Result ℕ E → List ℕ → Bool

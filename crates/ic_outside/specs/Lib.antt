@@ -9,7 +9,7 @@ pub mod Inner
 pub mod StdEnds
 pub mod Limits
 pub mod Pieces
-pub mod Reader
+pub mod LineReader
 pub mod Reads
 pub mod Steps
 pub mod LinesInside

@@ -1,12 +1,12 @@
 -- The fields of a reader of lines.
 use Rattle.std.specs.Prelude.{◌+◌, ◌-◌, ◌^◌, ◌<◌, ◌≤◌, length, take, vec_len}
 use Rattle.ic_outside.specs.Pieces.{HasNoLf}
-use Rattle.ic_outside.specs.Reader.{Reader}
+use Rattle.ic_outside.specs.LineReader.{LineReader}
 use Rattle.ic_outside.specs.Steps.{IsBlock}
 use Rattle.ic_outside.specs.declared.lines.Lines.TheInside.{Inside}
 
 -- what a reader of lines shows
-abbrev pub reader_of : Inside → Reader
+abbrev pub reader_of : Inside → LineReader
 reader_of l = record {
   limits = record { line = l.largest_line; script = l.largest_script };
   kept = l.kept;

@@ -1,7 +1,7 @@
 -- A sink over memory.
 use Rattle.std.specs.Prelude.{ℕ, ◌-◌, ◌==◌, Bool, ◌||◌, ◌&&◌, nat_lt, if◌then◌else◌, min, List, ◌++◌, length, take, Option, Some, None}
 use Rattle.std.specs.List.{list_any}
-use Rattle.ic_outside.specs.Faults.{counted}
+use Rattle.ic_outside.specs.Faults.{next_count}
 
 -- the bytes taken, the room left, the most that one write takes, the numbers of the calls that fail,
 -- how many calls were made, and how many failed
@@ -17,7 +17,7 @@ pub record MemoryWriter : Type 0 where
 -- to write and no room is left
 abbrev pub write_fails : MemoryWriter → List ℕ → Bool
 write_fails s bytes =
-    list_any (λ n. n == counted s.writes) s.failing || (nat_lt 0 (length bytes) && (s.room == 0))
+    list_any (λ n. n == next_count s.writes) s.failing || (nat_lt 0 (length bytes) && (s.room == 0))
 
 -- how many bytes a write takes
 abbrev pub write_size : MemoryWriter → List ℕ → ℕ
@@ -26,11 +26,11 @@ write_size s bytes = min (min s.piece (length bytes)) s.room
 -- the sink after a write
 abbrev pub after_write : MemoryWriter → List ℕ → MemoryWriter
 after_write s bytes =
-    if write_fails s bytes then record s { writes = counted s.writes; faults = counted s.faults }
+    if write_fails s bytes then record s { writes = next_count s.writes; faults = next_count s.faults }
     else record s {
       taken = s.taken ++ take (write_size s bytes) bytes;
       room = s.room - write_size s bytes;
-      writes = counted s.writes;
+      writes = next_count s.writes;
     }
 
 -- the room, where no call number is to fail

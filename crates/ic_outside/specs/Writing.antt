@@ -2,9 +2,9 @@
 use Rattle.std.specs.Prelude.{ℕ, ◌+◌, Option, Some, None, Result, Ok, Err}
 
 -- how many bytes a call moved
-abbrev pub moved : {E : Type 0} → Result ℕ E → ℕ
-moved (Ok n) = n
-moved (Err fault) = 0
+abbrev pub count_moved : {E : Type 0} → Result ℕ E → ℕ
+count_moved (Ok n) = n
+count_moved (Err fault) = 0
 
 -- the room before so many bytes were taken, by the room after; telling it never changes
 abbrev pub room_before : ℕ → Option ℕ → Option ℕ

@@ -3,7 +3,7 @@ ghost use Rattle.std.specs.Io.KnownBytes.{prepend_known, IsAtEnd};
 ghost use Rattle.ic_outside.specs.Faults.{Rose};
 ghost use Rattle.ic_outside.specs.Limits.{excess};
 ghost use Rattle.ic_outside.specs.Pieces.{HasNoLf};
-ghost use Rattle.ic_outside.specs.Reads.{Reads, Answers};
+ghost use Rattle.ic_outside.specs.Reads.{Reads, AnswersBySeen};
 ghost use Rattle.ic_outside.specs.Steps.{BeginsWithLine, IsFaultOf, IsNear, handed_out, IsBlock, Filled, Unfilled};
 
 use crate::kept::Kept;
@@ -46,9 +46,9 @@ pub struct Lines {
 }
 
 impl Model for Lines {
-    ghost use Rattle.ic_outside.specs.Reader.{Reader};
+    ghost use Rattle.ic_outside.specs.LineReader.{LineReader};
 
-    ghost Value = { Reader };
+    ghost Value = { LineReader };
 
     ghost use Rattle.ic_outside.specs.LinesInside.{reader_of, IsSound};
 
@@ -163,7 +163,7 @@ impl Lines {
         requires line { BeginsWithLine self.old.kept size }
         requires ahead { length self.old.kept ≤ size + 65536 }
         requires bound { size + 1 < 2 ^ 64 }
-        ensures answers { (left : Option (List ℕ)) → Answers self.old self.old.kept left result self.new }
+        ensures answers { (left : Option (List ℕ)) → AnswersBySeen self.old self.old.kept left result self.new }
         ensures fault { self.new.fault ≡ self.old.fault }
         ensures ended { self.new.ended ≡ self.old.ended }
         ensures read { result ≢ Err LineFault.ReadFault }
@@ -182,7 +182,7 @@ impl Lines {
     fn take_rest(&mut self) -> Result<Option<Line>, LineFault>
         requires one_line { HasNoLf self.old.kept }
         requires ended { IsTrue self.old.ended }
-        ensures answers { (left : Option (List ℕ)) → Answers self.old self.old.kept left result self.new }
+        ensures answers { (left : Option (List ℕ)) → AnswersBySeen self.old self.old.kept left result self.new }
         ensures fault { self.new.fault ≡ self.old.fault }
         ensures ended { self.new.ended ≡ self.old.ended }
         ensures read { result ≢ Err LineFault.ReadFault }

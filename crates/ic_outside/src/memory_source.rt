@@ -2,7 +2,7 @@ ghost use Rattle.std.specs.Prelude.{◌≡◌, [], ◌||◌, ◌<◌, ◌≤◌,
 ghost use Rattle.std.specs.Io.{ReadsAtMost};
 ghost use Rattle.std.specs.Io.KnownBytes.{prepend_known, IsAtEnd};
 ghost use Rattle.ic_outside.specs.Faults.{HasCause, capped};
-ghost use Rattle.ic_outside.specs.Given.{given, gives_end};
+ghost use Rattle.ic_outside.specs.Given.{bytes_moved, gives_end};
 ghost use Rattle.ic_outside.specs.Reading.{IsSure};
 ghost use Rattle.ic_outside.specs.MemoryReader.{read_fails, read_size, after_read};
 
@@ -82,7 +82,7 @@ impl Source for MemorySource {
 
     fn read(&mut self, buffer: &mut [u8]) -> Result<usize, Failed>
         ensures bound { ReadsAtMost result buffer.new }
-        ensures taken { Some self.old.left ≡ prepend_known (given result buffer.new) (Some self.new.left) }
+        ensures taken { Some self.old.left ≡ prepend_known (bytes_moved result buffer.new) (Some self.new.left) }
         ensures at_end { IfOk result (λ n. n ≡ 0 → 0 < length buffer.new → IsAtEnd (Some self.new.left)) }
         ensures ended { self.new.ended ≡ (self.old.ended || gives_end result buffer.new) }
         ensures cause { HasCause (capped self.old.faults) (capped self.new.faults) result }

@@ -1,9 +1,9 @@
 ghost use Rattle.std.specs.Prelude.{◌≡◌, ◌<◌, ◌≤◌, ◌^◌, ℕ, List, Option, length, IfOk, IfSome};
 ghost use Rattle.std.specs.Io.KnownBytes.{append_known};
 ghost use Rattle.ic_outside.specs.Faults.{HasCause};
-ghost use Rattle.ic_outside.specs.Given.{given};
+ghost use Rattle.ic_outside.specs.Given.{bytes_moved};
 ghost use Rattle.ic_outside.specs.Reading.{IsSure};
-ghost use Rattle.ic_outside.specs.Writing.{moved, room_before};
+ghost use Rattle.ic_outside.specs.Writing.{count_moved, room_before};
 
 use crate::Failed;
 
@@ -24,9 +24,9 @@ pub trait Sink {
     fn write(&mut self, piece: &[u8]) -> Result<usize, Failed>
         ensures bound { IfOk result (λ n. n ≤ length piece.now) }
         ensures some { IfOk result (λ n. 0 < length piece.now → 0 < n) }
-        ensures appended { taken self.new ≡ append_known (taken self.old) (given result piece.now) }
+        ensures appended { taken self.new ≡ append_known (taken self.old) (bytes_moved result piece.now) }
         ensures cause { HasCause (faults self.old) (faults self.new) result }
-        ensures room { fits self.old ≡ room_before (moved result) (fits self.new) }
+        ensures room { fits self.old ≡ room_before (count_moved result) (fits self.new) }
         // Where room is left, or there is nothing to write, it does not fail.
         ensures fitting { IfSome (fits self.old) (λ room. (0 < length piece.now → 0 < room)
             → IsSure (faults self.old) (faults self.new) result) };

@@ -2,7 +2,7 @@ ghost use Rattle.std.specs.Prelude.{◌≡◌, ◌||◌, ◌<◌, ◌^◌, ℕ, 
 ghost use Rattle.std.specs.Io.{ReadsAtMost};
 ghost use Rattle.std.specs.Io.KnownBytes.{prepend_known, IsAtEnd};
 ghost use Rattle.ic_outside.specs.Faults.{HasCause};
-ghost use Rattle.ic_outside.specs.Given.{given, gives_end};
+ghost use Rattle.ic_outside.specs.Given.{bytes_moved, gives_end};
 ghost use Rattle.ic_outside.specs.Reading.{IsSure};
 
 use crate::Failed;
@@ -25,7 +25,7 @@ pub trait Source {
     /// buffer that is not empty is the end. A read that fails takes nothing.
     fn read(&mut self, buffer: &mut [u8]) -> Result<usize, Failed>
         ensures bound { ReadsAtMost result buffer.new }
-        ensures taken { left self.old ≡ prepend_known (given result buffer.new) (left self.new) }
+        ensures taken { left self.old ≡ prepend_known (bytes_moved result buffer.new) (left self.new) }
         ensures at_end { IfOk result (λ n. n ≡ 0 → 0 < length buffer.new → IsAtEnd (left self.new)) }
         ensures ended { ended self.new ≡ (ended self.old || gives_end result buffer.new) }
         ensures cause { HasCause (faults self.old) (faults self.new) result }

@@ -2,7 +2,7 @@ ghost use Rattle.std.specs.Prelude.{◌≡◌, ◌||◌, ◌<◌, ◌^◌, ℕ, 
 ghost use Rattle.std.specs.Io.{ReadsAtMost};
 ghost use Rattle.std.specs.Io.KnownBytes.{prepend_known, IsAtEnd, ReadConsumes};
 ghost use Rattle.ic_outside.specs.Faults.{HasCause, capped, count_after};
-ghost use Rattle.ic_outside.specs.Given.{given, gives_end};
+ghost use Rattle.ic_outside.specs.Given.{bytes_moved, gives_end};
 ghost use Rattle.ic_outside.specs.Reading.{IsSure};
 ghost use Rattle.ic_outside.specs.StdEnds.{std_reader, source_faults, source_ended};
 
@@ -48,7 +48,7 @@ impl<R: Read> Source for StdSource<R> {
 
     fn read(&mut self, buffer: &mut [u8]) -> Result<usize, Failed>
         ensures bound { ReadsAtMost result buffer.new }
-        ensures taken { None ≡ prepend_known (given result buffer.new) None }
+        ensures taken { None ≡ prepend_known (bytes_moved result buffer.new) None }
         ensures at_end { IfOk result (λ n. n ≡ 0 → 0 < length buffer.new → IsAtEnd None) }
         ensures ended { source_ended self.new ≡ (source_ended self.old || gives_end result buffer.new) }
         ensures cause { HasCause (capped (source_faults self.old)) (capped (source_faults self.new)) result }

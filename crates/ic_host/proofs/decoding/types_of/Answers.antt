@@ -1,4 +1,4 @@
-use Rattle.std.proofs.Common.{◌≡◌, ◌<◌, ◌≤◌, false, length, take, ap, sym, subst, ◌∙◌, Some}
+use Rattle.std.proofs.Common.{◌<◌, ◌≤◌, false, length, ap, sym, subst, ◌∙◌, Some}
 use Rattle.std.proofs.lemmas.List.{take_all}
 use Rattle.cd_codec.specs.IsHeader.{IsHeader}
 use Rattle.cd_codec.specs.declared.header.Header.{Header}

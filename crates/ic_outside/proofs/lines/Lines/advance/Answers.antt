@@ -1,8 +1,8 @@
 use Rattle.std.proofs.Common.{◌≡◌, ◌+◌, length, None, false, ap, sym, subst, ◌∙◌}
 use Rattle.ic_outside.specs.Limits.{excess}
 use Rattle.ic_outside.specs.Steps.{IsFaultOf}
-use Rattle.ic_outside.proofs.AnswerLaws.{Answers-begun}
-use Rattle.ic_outside.proofs.Seen.{Reads-answered, Reads-unfilled, to_read-filled}
+use Rattle.ic_outside.proofs.AnswerLaws.{AnswersBySeen-begun}
+use Rattle.ic_outside.proofs.Seen.{Seen-filled, Reads-answered, Reads-unfilled, to_read-filled}
 use Rattle.ic_outside.proofs.lines.Lines.advance.Goals as goal
 
 pub returns-in-Some-clause-reads : goal.returns-in-Some-clause-reads
@@ -19,7 +19,7 @@ returns-in-Err-clause-reads g c =
     let size : length c.as_slice-size.result.now ≡ length now.kept = ap length c.as_slice-size.ensures ∙ ap (λ r. length r.kept) c.self.view_is in
     let passed = subst (λ n. IsFaultOf (excess now.limits now.offset n n) (now.handed + 1) c.in-Err.fault) size c.in-Err.ensures.err in
     Reads-answered _ _ _ _ _ _ now c.reading.source c.reading.invariant _ _
-    (Answers-begun now c.in-Err.fault (g.S.Source.left c.reading.source) now c.in_default.ensures c.check.ensures.near passed)
+    (AnswersBySeen-begun now c.in-Err.fault (g.S.Source.left c.reading.source) now c.in_default.ensures c.check.ensures.near passed)
 
 pub returns-in-Err-fill-clause-reads : goal.returns-in-Err-fill-clause-reads
 returns-in-Err-fill-clause-reads g c =
@@ -29,6 +29,12 @@ returns-in-Err-fill-clause-reads g c =
     let going : now.ended ≡ false = sym (ap (λ r. r.ended) c.self.view_is) ∙ c.if-self.false in
     Reads-unfilled _ _ _ _ _ _ now c.reading.source c.reading.invariant c.fill.new.source c.in-Err-fill.fault c.fill.new.self
     c.in_default.ensures going fits c.in-Err-fill.ensures.unfilled
+
+pub reading-preserved : goal.reading-preserved
+reading-preserved g c =
+    let going : c.reading.self.ended ≡ false = sym (ap (λ r. r.ended) c.self.view_is) ∙ c.if-self.false in
+    Seen-filled _ _ _ _ _ _ c.reading.self c.reading.source c.reading.invariant c.fill.new.self c.fill.new.source
+    c.in_default.ensures going c.in_default-fill.ensures.filled c.fill.ensures.later (λ h. let sure = c.fill.ensures.sure h in (sure.0, sure.1))
 
 pub reading-smaller : goal.reading-smaller
 reading-smaller g c =

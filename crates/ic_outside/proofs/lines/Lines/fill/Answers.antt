@@ -1,7 +1,7 @@
 use Rattle.std.proofs.Common.{◌≡◌, ℕ, ◌<◌, ◌≤◌, inl, inr, List, [], ◌++◌, length, take, ap, sym, subst, ◌∙◌, append-nil, length-take, vec_len, false, arith}
 use Rattle.ic_outside.specs.LinesInside.{IsSound, reader_of}
 use Rattle.std.specs.Io.KnownBytes.{prepend_known}
-use Rattle.ic_outside.specs.Reader.{Reader}
+use Rattle.ic_outside.specs.LineReader.{LineReader}
 use Rattle.ic_outside.specs.Steps.{IsBlock, Filled}
 use Rattle.ic_outside.proofs.Seen.{not_both}
 use Rattle.ic_outside.proofs.InsideLaws.{IsSound-filled}
@@ -41,16 +41,19 @@ returns-after-push-clause-filled g c =
     let bytes = take c.in-Ok.count c.deref.result.now in
     let going : l.ended ≡ false = ap (λ r. r.ended) c.self.view_is ∙ c.requires.going in
     let some : 0 < length bytes = omega (arith, length-take c.in-Ok.count c.deref.result.now, c.deref.ensures.len, c.in-Ok.ensures.bound, c.in-Ok.count-test.1) in
+    let block : IsBlock (vec_len c.read_block.new.block) = c.read_block.ensures.block in
+    let most : vec_len c.read_block.new.block ≤ 65536 = elim block [ inl e ↦ omega arith | inr e ↦ omega arith ] in
     let is_read : bytes ≡ take c.in-Ok.count c.read_block.new.block.items = ap (take c.in-Ok.count) c.deref.ensures.value in
     let before = g.S.Source.left c.args.source.now in
     let after = g.S.Source.left c.read_block.new.source in
     let new = record (reader_of l) { kept = c.push.new.self } in
-    let F : Reader → Type 0 = λ old. Filled old before after (g.S.Source.ended c.read_block.new.source) new in
+    let F : LineReader → Type 0 = λ old. Filled old before after (g.S.Source.ended c.read_block.new.source) new in
     let filled : c.push.new.self ≡ l.kept ++ bytes → F c.args.self.now = λ is_kept. subst F c.self.view_is (record {
       read = bytes;
       ended = l.ended;
       taken = c.in-Ok.ensures.taken ∙ ap (λ b. prepend_known b after) (sym is_read);
       reader = ap (λ k. record (reader_of l) { kept = k }) is_kept;
+      size = omega (arith, length-take c.in-Ok.count c.deref.result.now, c.deref.ensures.len, most);
       some = λ _. some;
       at_end = λ h. absurd (not_both l.ended h going);
     }) in

@@ -1,5 +1,5 @@
 use Rattle.std.proofs.Common.{subst, IsTrue, inl, ap}
-use Rattle.ic_outside.proofs.AnswerLaws.{HandsOut-line, Answers-line}
+use Rattle.ic_outside.proofs.AnswerLaws.{HandsOut-line, AnswersBySeen-line}
 use Rattle.ic_outside.proofs.lines.Lines.take_line.Goals as goal
 
 pub returns-in-Ok-hand_out-clause-answers : goal.returns-in-Ok-hand_out-clause-answers
@@ -12,4 +12,4 @@ returns-in-Ok-hand_out-clause-answers c =
 
 pub returns-in-Err-clause-answers : goal.returns-in-Err-clause-answers
 returns-in-Err-clause-answers c = λ left.
-    Answers-line c.args.self.now c.args.size c.in-Err.fault left c.args.self.now c.requires.line c.check.ensures.near c.in-Err.ensures.err
+    AnswersBySeen-line c.args.self.now c.args.size c.in-Err.fault left c.args.self.now c.requires.line c.check.ensures.near c.in-Err.ensures.err

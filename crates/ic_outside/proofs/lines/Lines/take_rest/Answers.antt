@@ -1,7 +1,7 @@
 use Rattle.std.proofs.Common.{◌≡◌, ◌+◌, length, subst, inl, ap, ◌∙◌, None, take, arith}
 use Rattle.ic_outside.specs.Limits.{excess}
 use Rattle.ic_outside.specs.Steps.{IsFaultOf, handed_out}
-use Rattle.ic_outside.proofs.AnswerLaws.{HandsOut-rest, Answers-begun}
+use Rattle.ic_outside.proofs.AnswerLaws.{HandsOut-rest, AnswersBySeen-begun}
 use Rattle.ic_outside.proofs.lines.Lines.take_rest.Goals as goal
 
 pub returns-in-Ok-hand_out-clause-answers : goal.returns-in-Ok-hand_out-clause-answers
@@ -20,4 +20,4 @@ returns-in-Err-clause-answers c =
     let old = c.args.self.now in
     let size : length c.as_slice-size.result.now ≡ length old.kept = ap length c.as_slice-size.ensures ∙ ap (λ r. length r.kept) c.self.view_is in
     let passed = subst (λ n. IsFaultOf (excess old.limits old.offset n n) (old.handed + 1) c.in-Err.fault) size c.in-Err.ensures.err in
-    λ left. Answers-begun old c.in-Err.fault left old c.requires.one_line c.check.ensures.near passed
+    λ left. AnswersBySeen-begun old c.in-Err.fault left old c.requires.one_line c.check.ensures.near passed
