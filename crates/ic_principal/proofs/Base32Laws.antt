@@ -115,11 +115,11 @@ eights-below bs = tt
 
 -- ---- characters
 -- whether each number below passes
-passes : (ℕ → Bool) → ℕ → Bool
+unfoldable pub passes : (ℕ → Bool) → ℕ → Bool
 passes p zero = true
 passes p (suc n) = p n && passes p n
 
-passes-below : (p : ℕ → Bool) (n : ℕ) → passes p n ≡ true → (k : ℕ) → k < n → p k ≡ true
+pub passes-below : (p : ℕ → Bool) (n : ℕ) → passes p n ≡ true → (k : ℕ) → k < n → p k ≡ true
 unfolding passes
 passes-below p n = (Decides-below_and p (λ k. p k ≡ true) (passes p) (λ k. ((λ h. h), (λ h. h))) refl (λ k. refl) n).0
 

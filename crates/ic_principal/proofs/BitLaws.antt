@@ -1,5 +1,5 @@
 -- Laws of bits, and of numbers as lists of bits.
-use Rattle.std.proofs.Common.{◌≡◌, ℕ, suc, zero, ◌+◌, ◌-◌, ◌*◌, ◌/◌, ◌%◌, ◌^◌, ◌<◌, ◌≤◌, Bool, true, false, List, [], ◌∷◌, ◌++◌, length, take, reverse, bit_or, add_comm, refl, sym, ap, ◌∙◌, subst, arith, length-append, append_assoc, append-nil, get_or}
+use Rattle.std.proofs.Common.{◌≡◌, ℕ, suc, zero, ◌+◌, ◌-◌, ◌*◌, ◌/◌, ◌%◌, ◌^◌, ◌<◌, ◌≤◌, Bool, true, false, List, [], ◌∷◌, ◌++◌, length, take, reverse, replicate, bit_or, add_comm, refl, sym, ap, ◌∙◌, subst, arith, length-append, append_assoc, append-nil, get_or}
 use Rattle.std.specs.Prelude.{◌==◌, if◌then◌else◌}
 use Rattle.std.specs.Int.{bit_at, to_be_bytes, bytes_high_first, w32}
 use Rattle.std.specs.List.{flat_map}
@@ -7,7 +7,7 @@ use Rattle.std.proofs.Math.Nat.{pow-suc, mod-eq_of_lt}
 use Rattle.std.proofs.lemmas.List.{reverse-append, take_more}
 use Rattle.std.proofs.lemmas.Grind.{flat_map-append}
 use Rattle.std.proofs.lemmas.Nat.{shr_split, mod-pow-add, mod_below, pow_pos, pow-add, shl_whole, or_shifted, mul-add-lt, shr_below}
-use Rattle.std.proofs.lemmas.Nat.Bits.{bit_at_cat_low, bit_at_cat_high, bit_at-lt}
+use Rattle.std.proofs.lemmas.Nat.Bits.{bit_at_cat_low, bit_at_cat_high, bit_at_above, bit_at-lt}
 use Rattle.ic_principal.specs.Bits.{bit, bits_of, bits, number}
 
 pub length-bits_of : (n v : ℕ) → length (bits_of n v) ≡ n
@@ -93,6 +93,17 @@ unfolding number
 number-lt [] = omega arith
 number-lt (true ∷ bs) = omega (arith, number-lt bs, pow-suc 2 (length bs))
 number-lt (false ∷ bs) = omega (arith, number-lt bs, pow-suc 2 (length bs))
+
+-- clear bits are zero
+pub bits_of-zero : (n : ℕ) → bits_of n 0 ≡ replicate n false
+unfolding bits_of
+bits_of-zero zero = refl
+bits_of-zero (suc n) = ap (λ x. (x == 1) ∷ bits_of n 0) (bit_at_above 0 n n (pow_pos n) (omega arith)) ∙ ap (λ bs. false ∷ bs) (bits_of-zero n)
+
+pub number-clear : (n : ℕ) → number (replicate n false) ≡ 0
+unfolding number
+number-clear zero = refl
+number-clear (suc n) = omega (arith, number-clear n)
 
 -- bits are read back from their number
 pub bits_of-number : (bs : List Bool) → bits_of (length bs) (number bs) ≡ bs

@@ -4,4 +4,6 @@ pub mod ChecksumLaws
 pub mod Base32Laws
 pub mod TextLaws
 pub mod PrincipalLaws
+pub mod ReadingLaws
+pub mod PlaceLaws
 pub mod CanisterIdLaws

@@ -76,7 +76,7 @@ kept-tells text bytes found e = go (nat_le (length bytes) 29) (bytes_eq (text_of
     go true false p q e = cc
     go false y p q e = cc
 
-none_found : (o : Option (List ℕ)) → ((p : List ℕ) → o ≡ Some p → ⊥) → o ≡ None
+pub none_found : (o : Option (List ℕ)) → ((p : List ℕ) → o ≡ Some p → ⊥) → o ≡ None
 none_found None h = refl
 none_found (Some p) h = absurd (h p refl)
 

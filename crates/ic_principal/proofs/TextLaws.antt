@@ -16,7 +16,7 @@ after_dash-append x (a ∷ b ∷ []) more = refl
 after_dash-append x (a ∷ b ∷ c ∷ []) more = refl
 after_dash-append x (a ∷ b ∷ c ∷ d ∷ xs) more = refl
 
-after_dash-dashed : (x : ℕ) (xs : List ℕ) → after_dash (dashed (x ∷ xs)) ≡ 45 ∷ dashed (x ∷ xs)
+pub after_dash-dashed : (x : ℕ) (xs : List ℕ) → after_dash (dashed (x ∷ xs)) ≡ 45 ∷ dashed (x ∷ xs)
 unfolding dashed
 after_dash-dashed x [] = refl
 after_dash-dashed x (a ∷ []) = refl

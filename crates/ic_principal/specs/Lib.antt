@@ -5,3 +5,4 @@ pub mod Base32
 pub mod Text
 pub mod IsPrincipal
 pub mod Padded
+pub mod HasChecksum

@@ -1,9 +1,9 @@
-ghost use Rattle.std.specs.Prelude.{◌≡◌, ℕ, ◌+◌, ◌*◌, ◌<◌, ◌≤◌, List, [], ◌∷◌, ◌++◌, length, map, IfSome, All};
-ghost use Rattle.std.specs.List.{flat_map, filter_map};
+ghost use Rattle.std.specs.Prelude.{◌≡◌, ◌≢◌, ℕ, ◌+◌, ◌*◌, ◌<◌, ◌≤◌, List, [], ◌∷◌, ◌++◌, length, map, IfSome, IfNone, All};
+ghost use Rattle.std.specs.List.{flat_map};
 ghost use Rattle.arrayvec.specs.ArrayString.{array_string_len};
 ghost use Rattle.arrayvec.specs.ArrayVec.{array_vec_len};
 ghost use Rattle.ic_principal.specs.Bits.{bits, bits_of};
-ghost use Rattle.ic_principal.specs.Base32.{character, value_of as value, fives, eights};
+ghost use Rattle.ic_principal.specs.Base32.{character, fives};
 ghost use Rattle.ic_principal.specs.Text.{dashed};
 
 use crate::bit_queue::BitQueue;
@@ -13,6 +13,21 @@ use arrayvec::{ArrayString, ArrayVec};
 pub type Values = ArrayVec<u8, 63>;
 
 const ALPHABET: &[u8; 32] = b"abcdefghijklmnopqrstuvwxyz234567";
+
+// The place of each byte in the alphabet, or 32 where it has none.
+static PLACES: [u8; 256] = [
+    32, 32, 32, 32, 32, 32, 32, 32, 32, 32, 32, 32, 32, 32, 32, 32, 32, 32, 32, 32, 32, 32, 32, 32,
+    32, 32, 32, 32, 32, 32, 32, 32, 32, 32, 32, 32, 32, 32, 32, 32, 32, 32, 32, 32, 32, 32, 32, 32,
+    32, 32, 26, 27, 28, 29, 30, 31, 32, 32, 32, 32, 32, 32, 32, 32, 32, 32, 32, 32, 32, 32, 32, 32,
+    32, 32, 32, 32, 32, 32, 32, 32, 32, 32, 32, 32, 32, 32, 32, 32, 32, 32, 32, 32, 32, 32, 32, 32,
+    32, 0, 1, 2, 3, 4, 5, 6, 7, 8, 9, 10, 11, 12, 13, 14, 15, 16, 17, 18, 19, 20, 21, 22, 23, 24,
+    25, 32, 32, 32, 32, 32, 32, 32, 32, 32, 32, 32, 32, 32, 32, 32, 32, 32, 32, 32, 32, 32, 32, 32,
+    32, 32, 32, 32, 32, 32, 32, 32, 32, 32, 32, 32, 32, 32, 32, 32, 32, 32, 32, 32, 32, 32, 32, 32,
+    32, 32, 32, 32, 32, 32, 32, 32, 32, 32, 32, 32, 32, 32, 32, 32, 32, 32, 32, 32, 32, 32, 32, 32,
+    32, 32, 32, 32, 32, 32, 32, 32, 32, 32, 32, 32, 32, 32, 32, 32, 32, 32, 32, 32, 32, 32, 32, 32,
+    32, 32, 32, 32, 32, 32, 32, 32, 32, 32, 32, 32, 32, 32, 32, 32, 32, 32, 32, 32, 32, 32, 32, 32,
+    32, 32, 32, 32, 32, 32, 32, 32, 32, 32, 32, 32, 32, 32,
+];
 
 /// The values of the bits of `front` and `back`.
 pub fn values_of(front: &[u8], back: &[u8]) -> Values
@@ -103,35 +118,53 @@ fn push_letter(text: &mut ArrayString<63>, letter: char)
     text.push(letter);
 }
 
-/// The values of the characters that have one: dashes and other characters are passed over.
-pub fn values_in(text: &[u8]) -> Values
+/// The values of a text's letters, where dashes stand as they should: one between five letters and
+/// those that follow, and nowhere else.
+pub fn values_in(text: &[u8]) -> Option<Values>
     requires { length text.now ≤ 63 }
-    ensures value { result.items ≡ filter_map value text.now }
-    ensures values { All (λ v. v < 32) result.items }
+    ensures some { IfSome result (λ values. All (λ v. v < 32) values.items
+        × (text.now ≡ dashed (map character values.items))) }
+    ensures none { IfNone result ((values : List ℕ) → All (λ v. v < 32) values
+        → text.now ≢ dashed (map character values)) }
 {
     let mut values = Values::new();
-    for letter in text {
-        if let Some(value) = value_of(*letter) {
-            values.push(value as u8);
+    let mut place = 0;
+    // How many letters were read since the last dash.
+    let mut letters = 0u8;
+    'letters: while place < text.len() {
+        if letters == 5 {
+            letters = 0;
+            place += 1;
+            if text[place - 1] != b'-' || place == text.len() {
+                return None;
+            }
         }
+        match value_of(text[place]) {
+            Some(value) => values.push(value),
+            None => return None,
+        }
+        letters += 1;
+        place += 1;
     }
-    values
+    Some(values)
 }
 
-// The place of a character in the alphabet.
-#[tactic(auto, unfolding(crate::specs::Base32::alphabet))]
-fn value_of(letter: u8) -> Option<usize>
-    ensures place { result ≡ value letter }
-    ensures value { IfSome result (λ v. v < 32) }
+// The value of a letter, if it has one.
+fn value_of(letter: u8) -> Option<u8>
+    ensures some { IfSome result (λ v. (v < 32) × (character v ≡ letter)) }
+    ensures none { IfNone result ((v : ℕ) → v < 32 → character v ≢ letter) }
 {
-    ALPHABET.iter().position(|other| *other == letter)
+    let value = PLACES[letter as usize];
+    if value < 32 { Some(value) } else { None }
 }
 
-/// The whole bytes that the values spell; up to seven last bits are left out.
-pub fn bytes_of(values: &[u8]) -> ArrayVec<u8, 39>
+/// The whole bytes that the values spell, and the bits behind them, of which there are fewer than 8.
+pub fn bytes_of(values: &[u8]) -> (ArrayVec<u8, 39>, BitQueue)
     requires few { length values.now ≤ 63 }
     requires values { All (λ v. v < 32) values.now }
-    ensures { result.items ≡ eights (flat_map (bits_of 5) values.now) }
+    ensures bits { bits result.0.items ++ result.1 ≡ flat_map (bits_of 5) values.now }
+    ensures bytes { All (λ b. b < 256) result.0.items }
+    ensures few { length result.1 < 8 }
 {
     let mut bytes = ArrayVec::new();
     let mut queue = BitQueue::new();
@@ -141,5 +174,5 @@ pub fn bytes_of(values: &[u8]) -> ArrayVec<u8, 39>
             bytes.push(queue.pop(8));
         }
     }
-    bytes
+    (bytes, queue)
 }

@@ -1,4 +1,4 @@
-ghost use Rattle.std.specs.Prelude.{◌≡◌, ℕ, ◌+◌, ◌^◌, ◌<◌, ◌≤◌, List, [], ◌++◌, length};
+ghost use Rattle.std.specs.Prelude.{◌≡◌, ℕ, ◌+◌, ◌^◌, ◌<◌, ◌≤◌, ◌↔◌, false, List, [], ◌++◌, length, replicate, IsTrue};
 ghost use Rattle.ic_principal.specs.Bits.{bits_of};
 
 use std::marker::Model;
@@ -33,6 +33,13 @@ impl BitQueue {
         ensures bound { result ≤ 12 }
     {
         self.count
+    }
+
+    /// Whether no bit is set.
+    pub fn is_clear(&self) -> bool
+        ensures { IsTrue result ↔ self.now ≡ replicate (length self.now) false }
+    {
+        self.value == 0
     }
 
     /// Appends the lowest `width` bits of `value`, from the highest of them down.

@@ -1,9 +1,10 @@
-ghost use Rattle.std.specs.Prelude.{◌≡◌, ℕ, ◌^◌, ◌<◌, ◌≤◌, length, drop, List, IfOk, OnErr};
+ghost use Rattle.std.specs.Prelude.{◌≡◌, ℕ, ◌^◌, ◌<◌, ◌≤◌, length, drop, List, All, IfOk, IfSome, IfNone, OnErr};
 ghost use Rattle.std.specs.Result.{result_ok};
 ghost use Rattle.ic_principal.specs.CanisterId.{canister_id_of};
+ghost use Rattle.ic_principal.specs.HasChecksum.{HasChecksum};
 ghost use Rattle.ic_principal.specs.IsPrincipal.{IsPrincipal};
 ghost use Rattle.ic_principal.specs.Padded.{padded as padded_bytes};
-ghost use Rattle.ic_principal.specs.Text.{IsText, text_of, bytes_read, principal_of};
+ghost use Rattle.ic_principal.specs.Text.{IsText, text_of, principal_of};
 
 use crate::base32::{bytes_of, spell, values_in, values_of};
 use crate::checksum::checksum;
@@ -134,29 +135,30 @@ fn named(text: &str) -> Option<Principal>
     if text.len() > LONGEST_TEXT {
         return None;
     }
-    let Ok(principal) = read(text) else {
+    let Some(values) = values_in(text.as_bytes()) else {
         return None;
     };
-    if principal.spelled().as_str() != text {
+    let (bytes, rest) = bytes_of(&values);
+    if rest.len() >= 5 || !rest.is_clear() {
         return None;
     }
-    Some(principal)
+    behind_checksum(&bytes)
 }
 
-// The principal that the characters spell, whatever its text is.
-fn read(text: &str) -> Result<Principal, TooLong>
-    requires { length text.now ≤ 63 }
-    ensures ok { IfOk result (λ p. (p ≡ bytes_read text.now) × IsPrincipal (bytes_read text.now)) }
-    ensures too_long { OnErr result (29 < length (bytes_read text.now)) }
+// The principal whose bytes stand behind the four of their checksum.
+fn behind_checksum(bytes: &[u8]) -> Option<Principal>
+    requires { All (λ b. b < 256) bytes.now }
+    ensures some { IfSome result (λ p. (p ≡ drop 4 bytes.now) × HasChecksum bytes.now × IsPrincipal p) }
+    ensures none { IfNone result (HasChecksum bytes.now → 29 < length (drop 4 bytes.now)) }
 {
-    let values = values_in(text.as_bytes());
-    Principal::from_bytes(after_checksum(&bytes_of(&values)))
-}
-
-fn after_checksum(bytes: &[u8]) -> &[u8]
-    ensures { result.now ≡ drop 4 bytes.now }
-{
-    &bytes[bytes.len().min(4)..]
+    if bytes.len() < 4 {
+        return None;
+    }
+    let (front, back) = bytes.split_at(4);
+    if front != checksum(back).to_be_bytes().as_slice() {
+        return None;
+    }
+    Principal::from_bytes(back).ok()
 }
 
 // The bytes with zeros behind.

@@ -1,11 +1,17 @@
-use Rattle.std.proofs.Common.{◌≡◌, ◌<◌, ◌≤◌, length, take}
-use Rattle.std.specs.List.{All, filter_map}
-use Rattle.ic_principal.specs.Base32.{value_of}
+use Rattle.std.proofs.Common.{◌≡◌, ◌-◌, ◌%◌, ◌<◌, ◌≤◌, length, take, map}
+use Rattle.std.specs.List.{All}
+use Rattle.ic_principal.specs.Base32.{character}
+use Rattle.ic_principal.specs.Text.{dashed}
 use Rattle.ic_principal.proofs.base32.values_in.Given as goal
 
-abbrev pub invariant-loop-letter : goal.invariant-loop-letter
-invariant-loop-letter l = record {
-  value : l.values.items ≡ filter_map value_of (take l.letter-index l.text);
+abbrev pub invariant-letters : goal.invariant-letters
+invariant-letters l = record {
+  front : take l.place l.text ≡ dashed (map character l.values.items);
   values : All (λ v. v < 32) l.values.items;
-  few : length l.values.items ≤ l.letter-index;
+  inside : l.place ≤ length l.text;
+  letters : l.place % 6 ≡ l.letters;
+  few : length l.values.items ≤ l.place;
 }
+
+abbrev pub decreases-letters : goal.decreases-letters
+decreases-letters l = length l.text - l.place
