@@ -10,13 +10,18 @@ use std::alloc::Global;
 /// For refused words.
 pub const USAGE: &str = "usage: replica\n";
 
+// Room for every text but the longest, so that its memory is taken once.
+const ROOM: usize = 96;
+
 /// For a call that was submitted, by its number from 0.
 #[tactic(auto, unfolding(crate::specs::Texts::accepted_text))]
 pub fn accepted_text(alloc: Global, number: usize) -> Result<Bytes, NoMemory>
     ensures { IfOk result (λ text. text ≡ accepted_text number) }
 {
+    let mut text = String::with_capacity(alloc, ROOM)?;
+    write!(text, "accepted {number}\n")?;
     Ok(Bytes {
-        items: format!(in alloc; "accepted {number}\n")?.into_bytes(),
+        items: text.into_bytes(),
     })
 }
 
@@ -25,10 +30,13 @@ pub fn accepted_text(alloc: Global, number: usize) -> Result<Bytes, NoMemory>
 pub fn no_canister_text(alloc: Global, number: usize, callee: &Principal) -> Result<Bytes, NoMemory>
     ensures { IfOk result (λ text. text ≡ no_canister_text number (text_of callee.now)) }
 {
+    let mut text = String::with_capacity(alloc, ROOM)?;
+    write!(
+        text,
+        "answer {number} rejected 3 \"no canister {callee}\"\n"
+    )?;
     Ok(Bytes {
-        items: format!(in alloc;
-            "answer {number} rejected 3 \"no canister {callee}\"\n"
-        )?.into_bytes(),
+        items: text.into_bytes(),
     })
 }
 
