@@ -1,12 +1,11 @@
-use crate::top_call::run;
+use crate::running::{compare, steady};
 use ic_host::Status;
-use std::alloc::Global;
 use std::process::Abort;
 use std::test::Fail;
 use std::thread::Threads;
 
 // Lines that read messages, and what each prints.
-const READ: [(&str, &str); 24] = [
+static READ: [(&str, &str); 24] = [
     // nat
     (
         "decode 4449444c00017d 4449444c00017d2a",
@@ -117,8 +116,12 @@ const READ: [(&str, &str); 24] = [
     ),
 ];
 
+fn readings() -> &'static [(&'static str, &'static str)] {
+    &READ
+}
+
 // The fronts of a message that end in its header.
-const NO_HEADER: [&str; 13] = [
+static NO_HEADER: [&str; 13] = [
     "-",
     "44",
     "4449",
@@ -134,67 +137,68 @@ const NO_HEADER: [&str; 13] = [
     "4449444c016c02007d017101",
 ];
 
+fn no_header() -> &'static [&'static str] {
+    &NO_HEADER
+}
+
 // The fronts that end in its values.
-const NO_VALUES: [&str; 4] = [
+static NO_VALUES: [&str; 4] = [
     "4449444c016c02007d01710100",
     "4449444c016c02007d0171010007",
     "4449444c016c02007d017101000702",
     "4449444c016c02007d01710100070268",
 ];
 
-// What a line prints, whatever the pieces.
-fn prints<R: Abort + Threads + Sync>(
+fn no_values() -> &'static [&'static str] {
+    &NO_VALUES
+}
+
+// Compares what a line prints.
+fn prints<R: Abort + Threads + Sync + AllocGlobal>(
     rt: &R,
-    alloc: Global,
     line: &str,
     printed: &str,
 ) -> Result<(), Fail> {
-    let script = format!(in alloc; "{line}\n")?;
-    let wanted = format!(in alloc; "{printed}\n")?;
-    let got = run(
+    let script = format!(in rt.alloc(); "{line}\n")?;
+    let wanted = format!(in rt.alloc(); "{printed}\n")?;
+    compare(
         rt,
-        alloc,
-        &["replica"],
         script.as_bytes(),
-        (65_536, 65_536),
-        (&[], &[]),
-        1000,
-    )?;
-    assert_eq!(rt; got.0.as_slice(), wanted.as_bytes(), "{line}");
-    assert_eq!(rt; got.1, Status::Done, "{line}");
-    Ok(())
+        &steady(65_536),
+        wanted.as_bytes(),
+        Status::Done,
+    )
 }
 
 #[test]
 fn read(rt: HostRuntime) -> Result<(), Fail> {
-    for (line, printed) in READ {
-        prints(&rt, rt.alloc(), line, printed)?;
+    for (line, printed) in readings() {
+        prints(&rt, line, printed)?;
     }
     Ok(())
 }
 
-fn front<R: Abort + Threads + Sync>(
+fn front<R: Abort + Threads + Sync + AllocGlobal>(
     rt: &R,
-    alloc: Global,
     digits: &str,
     printed: &str,
 ) -> Result<(), Fail> {
-    let line = format!(in alloc; "decode 4449444c016c01007d0100 {digits}")?;
-    prints(rt, alloc, &line, printed)
+    let line = format!(in rt.alloc(); "decode 4449444c016c01007d0100 {digits}")?;
+    prints(rt, &line, printed)
 }
 
 #[test]
 fn fronts(rt: HostRuntime) -> Result<(), Fail> {
-    for digits in NO_HEADER {
-        front(&rt, rt.alloc(), digits, "refused NotHeader")?;
+    for digits in no_header() {
+        front(&rt, digits, "refused NotHeader")?;
     }
     Ok(())
 }
 
 #[test]
 fn fronts_of_values(rt: HostRuntime) -> Result<(), Fail> {
-    for digits in NO_VALUES {
-        front(&rt, rt.alloc(), digits, "refused BadValue")?;
+    for digits in no_values() {
+        front(&rt, digits, "refused BadValue")?;
     }
     Ok(())
 }

@@ -1,12 +1,21 @@
 //! Tests of the crates of the host, beside them: a crate with tests of its own is proved twice.
+//!
+//! Tables stand behind functions without a contract, and a value that is dropped is asked about by a
+//! function that borrows it: written out in a test, both would be long to prove.
 #![tactic(auto)]
 
 #[cfg(test)]
 mod decode_lines;
 #[cfg(test)]
+mod failing_streams;
+#[cfg(test)]
 mod lines;
 #[cfg(test)]
 mod principals;
+#[cfg(test)]
+mod running;
+#[cfg(test)]
+mod standard_streams;
 #[cfg(test)]
 mod streams;
 #[cfg(test)]

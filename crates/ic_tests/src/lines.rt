@@ -1,13 +1,17 @@
 use ic_principal::Principal;
-use ic_script::{Command, LineError, parse_line};
+use ic_script::{Ask, Command, LineError, parse_line};
 use std::alloc::Global;
 use std::test::Fail;
 
 // Lines that ask for nothing.
-const NOTHING: [&[u8]; 4] = [b"", b"#", b"# call", b"#\xff\t"];
+static NOTHING: [&[u8]; 4] = [b"", b"#", b"# call", b"#\xff\t"];
+
+fn empty() -> &'static [&'static [u8]] {
+    &NOTHING
+}
 
 // Lines that are no command, and why.
-const FAULTY: [(&[u8], LineError); 37] = [
+static FAULTY: [(&[u8], LineError); 37] = [
     (b"hello", LineError::Form),
     (b" ", LineError::Form),
     (b" #", LineError::Form),
@@ -50,70 +54,94 @@ const FAULTY: [(&[u8], LineError); 37] = [
     (b"decode xx 0", LineError::Hex),
 ];
 
+fn faulty() -> &'static [(&'static [u8], LineError)] {
+    &FAULTY
+}
+
+fn says_nothing(alloc: Global, line: &[u8]) -> bool {
+    matches!(parse_line(alloc, line), Ok(Command::Nothing))
+}
+
+fn fault_of(alloc: Global, line: &[u8]) -> Option<LineError> {
+    parse_line(alloc, line).err()
+}
+
 #[test]
 fn nothing(rt: HostRuntime) {
-    for line in NOTHING {
-        assert!(rt; matches!(parse_line(rt.alloc(), line), Ok(Command::Nothing)));
+    for line in empty() {
+        assert!(rt; says_nothing(rt.alloc(), line), "{line:?}");
     }
 }
 
 #[test]
 fn faults(rt: HostRuntime) {
-    for (line, want) in FAULTY {
-        match parse_line(rt.alloc(), line) {
-            Ok(command) => panic!(rt; "{command:?}"),
-            Err(error) => assert_eq!(rt; error, want, "{line:?}"),
-        }
+    for (line, fault) in faulty() {
+        assert_eq!(rt; fault_of(rt.alloc(), line), Some(*fault), "{line:?}");
     }
 }
 
+// Lines that call `hello`, and the argument.
+static CALLS: [(&[u8], &[u8]); 3] = [
+    (b"call 2vxsx-fae rwlgt-iiaaa-aaaaa-aaaaa-cai hello -", b""),
+    (
+        b"call 2vxsx-fae rwlgt-iiaaa-aaaaa-aaaaa-cai hello 00fF",
+        &[0x00, 0xFF],
+    ),
+    (
+        b"call 2vxsx-fae rwlgt-iiaaa-aaaaa-aaaaa-cai hello ABCDEF0123456789",
+        &[0xAB, 0xCD, 0xEF, 0x01, 0x23, 0x45, 0x67, 0x89],
+    ),
+];
+
+fn asks() -> &'static [(&'static [u8], &'static [u8])] {
+    &CALLS
+}
+
+// Whether the anonymous principal asks canister 0 for `hello` with this argument.
+fn is_ask(ask: &Ask, arg: &[u8]) -> bool {
+    ask.sender.bytes() == [4].as_slice()
+        && ask.callee == Principal::canister_id(0)
+        && ask.method.items.as_str() == "hello"
+        && ask.arg.items.as_slice() == arg
+}
+
+fn command_of(alloc: Global, line: &[u8]) -> Option<Command> {
+    parse_line(alloc, line).ok()
+}
+
+fn asks_with(command: &Option<Command>, arg: &[u8]) -> bool {
+    matches!(command, Some(Command::Call(ask)) if is_ask(ask, arg))
+}
+
 #[test]
-fn calls(rt: HostRuntime) -> Result<(), Fail> {
-    let lines: [(&[u8], &[u8]); 3] = [
-        (b"call 2vxsx-fae rwlgt-iiaaa-aaaaa-aaaaa-cai hello -", b""),
-        (
-            b"call 2vxsx-fae rwlgt-iiaaa-aaaaa-aaaaa-cai hello 00fF",
-            &[0x00, 0xFF],
-        ),
-        (
-            b"call 2vxsx-fae rwlgt-iiaaa-aaaaa-aaaaa-cai hello ABCDEF0123456789",
-            &[0xAB, 0xCD, 0xEF, 0x01, 0x23, 0x45, 0x67, 0x89],
-        ),
-    ];
-    for (line, arg) in lines {
-        match parse_line(rt.alloc(), line) {
-            Ok(Command::Call(ask)) => {
-                assert_eq!(rt; ask.sender.bytes(), [4].as_slice());
-                assert_eq!(rt; ask.callee, Principal::canister_id(0));
-                assert_eq!(rt; ask.method.items.as_str(), "hello");
-                assert_eq!(rt; ask.arg.items.as_slice(), arg);
-            }
-            other => panic!(rt; "{other:?}"),
-        }
+fn calls(rt: HostRuntime) {
+    for (line, arg) in asks() {
+        let command = command_of(rt.alloc(), line);
+        assert!(rt; asks_with(&command, arg), "{line:?}");
     }
-    Ok(())
+}
+
+// Lines that decode, the bytes of the expected types, and the message.
+static DECODINGS: [(&[u8], &[u8], &[u8]); 3] = [
+    (b"decode - -", b"", b""),
+    (b"decode 4449444C0000 -", b"DIDL\0\0", b""),
+    (b"decode 00fF 07", &[0x00, 0xFF], &[0x07]),
+];
+
+fn readings() -> &'static [(&'static [u8], &'static [u8], &'static [u8])] {
+    &DECODINGS
+}
+
+fn decodes(command: &Option<Command>, types: &[u8], message: &[u8]) -> bool {
+    matches!(command, Some(Command::Decode { expected, bytes })
+        if expected.items.as_slice() == types && bytes.items.as_slice() == message)
 }
 
 #[test]
 fn decodings(rt: HostRuntime) {
-    let lines: [(&[u8], &[u8], &[u8]); 3] = [
-        (b"decode - -", b"", b""),
-        (b"decode 4449444C0000 -", b"DIDL\0\0", b""),
-        (b"decode 00fF 07", &[0x00, 0xFF], &[0x07]),
-    ];
-    for (line, expected, message) in lines {
-        match parse_line(rt.alloc(), line) {
-            Ok(
-                Command::Decode {
-                    expected: types,
-                    bytes,
-                },
-            ) => {
-                assert_eq!(rt; types.items.as_slice(), expected);
-                assert_eq!(rt; bytes.items.as_slice(), message);
-            }
-            other => panic!(rt; "{other:?}"),
-        }
+    for (line, types, message) in readings() {
+        let command = command_of(rt.alloc(), line);
+        assert!(rt; decodes(&command, types, message), "{line:?}");
     }
 }
 
@@ -127,17 +155,25 @@ fn long(alloc: Global, length: usize) -> Result<Vec<u8>, Fail> {
     Ok(line)
 }
 
+// The length of the method that a line calls.
+fn method_length(command: &Option<Command>) -> Option<usize> {
+    match command {
+        Some(Command::Call(ask)) => Some(ask.method.items.len()),
+        _ => None,
+    }
+}
+
 #[test]
 fn longest_method(rt: HostRuntime) -> Result<(), Fail> {
-    match parse_line(rt.alloc(), &long(rt.alloc(), 20_000)?) {
-        Ok(Command::Call(ask)) => assert_eq!(rt; ask.method.items.len(), 20_000),
-        other => panic!(rt; "{other:?}"),
-    }
-    assert!(rt;
-        matches!(
-            parse_line(rt.alloc(), &long(rt.alloc(), 20_001)?),
-            Err(LineError::Form)
-        )
-    );
+    let line = long(rt.alloc(), 20_000)?;
+    let command = command_of(rt.alloc(), &line);
+    assert_eq!(rt; method_length(&command), Some(20_000));
+    Ok(())
+}
+
+#[test]
+fn too_long_a_method(rt: HostRuntime) -> Result<(), Fail> {
+    let line = long(rt.alloc(), 20_001)?;
+    assert_eq!(rt; fault_of(rt.alloc(), &line), Some(LineError::Form));
     Ok(())
 }

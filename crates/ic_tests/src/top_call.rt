@@ -1,20 +1,26 @@
-use ic_host::{Status, replica};
-use ic_outside::{MemorySink, MemorySource, OpenGate, StdSource};
+use crate::running::{Streams, compare, compare_words, run_source, source_of, steady, texts};
+use ic_host::Status;
+use ic_outside::{MemorySource, Source};
 use ic_script::LineCause;
 use std::alloc::Global;
-use std::io;
-use std::io::Read;
 use std::process::Abort;
 use std::test::Fail;
 use std::thread::Threads;
+
+/// Words, a script, what is printed, and the status.
+type Row = (&'static [&'static str], &'static str, &'static str, Status);
 
 const BAD_FORM: Status = Status::BadLine {
     line: 1,
     cause: LineCause::Form,
 };
 
-// Words, a script, what is printed, and the status.
-const RUNS: [(&[&str], &str, &str, Status); 14] = [
+const BAD_PRINCIPAL: Status = Status::BadLine {
+    line: 1,
+    cause: LineCause::Principal,
+};
+
+static RUNS: [Row; 14] = [
     (&["replica"], "", "", Status::Done),
     (&[], "", "", Status::Done),
     (
@@ -47,19 +53,13 @@ const RUNS: [(&[&str], &str, &str, Status); 14] = [
         &["replica"],
         "call swlgt-iiaaa-aaaaa-aaaaa-cai aaaaa-aa hello -\n",
         "line 1: Principal\n",
-        Status::BadLine {
-            line: 1,
-            cause: LineCause::Principal,
-        },
+        BAD_PRINCIPAL,
     ),
     (
         &["replica"],
         "call 2VXSX-FAE aaaaa-aa hello -\n",
         "line 1: Principal\n",
-        Status::BadLine {
-            line: 1,
-            cause: LineCause::Principal,
-        },
+        BAD_PRINCIPAL,
     ),
     (
         &["replica"],
@@ -88,140 +88,187 @@ const RUNS: [(&[&str], &str, &str, Status); 14] = [
     (&["replica", ""], "", "usage: replica\n", Status::BadWords),
 ];
 
-const CALL: &str = "call 2vxsx-fae rwlgt-iiaaa-aaaaa-aaaaa-cai hello -\n";
-
-// Two calls over failing streams: the most bytes of a read and of a write, the reads and the writes
-// that fail, the sink's room, what it took, and the status.
-const FAILING: [(usize, usize, &[u64], &[u64], usize, &str, Status); 6] = [
-    (60, 100, &[2], &[], 1000, "accepted 0\n", Status::ReadFault),
-    (
-        60,
-        100,
-        &[3],
-        &[],
-        1000,
-        "accepted 0\naccepted 1\n",
-        Status::ReadFault,
-    ),
-    (60, 100, &[1], &[], 1000, "", Status::ReadFault),
-    (60, 1, &[], &[11], 1000, "accepted 0", Status::WriteFault),
-    (60, 100, &[], &[], 9, "accepted ", Status::WriteFault),
-    (
-        60,
-        100,
-        &[],
-        &[3],
-        1000,
-        "accepted 0\naccepted 1\n",
-        Status::WriteFault,
-    ),
-];
-
-// What a run printed, and its status.
-pub fn run<R: Abort + Threads + Sync>(
-    rt: &R,
-    alloc: Global,
-    words: &[&str],
-    script: &[u8],
-    pieces: (usize, usize),
-    failing: (&[u64], &[u64]),
-    room: usize,
-) -> Result<(Vec<u8>, Status), Fail> {
-    let (read, written) = pieces;
-    assert!(rt; read > 0 && written > 0);
-    let mut given = Vec::new(alloc);
-    for word in words {
-        given.push(String::from_str(alloc, word)?)?;
-    }
-    let mut source = MemorySource::new(
-        Vec::from_slice(alloc, script)?,
-        read,
-        Vec::from_slice(alloc, failing.0)?,
-    );
-    let mut sink = MemorySink::new(alloc, room, written, Vec::from_slice(alloc, failing.1)?)?;
-    let status = replica(alloc, rt, &given, &mut source, &mut sink, &OpenGate);
-    Ok((Vec::from_slice(alloc, sink.taken())?, status))
+fn rows() -> &'static [Row] {
+    &RUNS
 }
 
 #[test]
 fn runs(rt: HostRuntime) -> Result<(), Fail> {
-    for (words, script, printed, status) in RUNS {
-        for pieces in [(1, 1), (7, 7), (65_536, 65_536)] {
-            let got = run(
+    for (words, script, printed, status) in rows() {
+        for bytes in [1, 7, 65_536] {
+            compare_words(
                 &rt,
-                rt.alloc(),
                 words,
                 script.as_bytes(),
-                pieces,
-                (&[], &[]),
-                1000,
+                &steady(bytes),
+                printed.as_bytes(),
+                *status,
             )?;
-            assert_eq!(rt; got.0.as_slice(), printed.as_bytes(), "{script}");
-            assert_eq!(rt; got.1, status, "{script}");
         }
     }
     Ok(())
 }
 
-#[test]
-fn failing_streams(rt: HostRuntime) -> Result<(), Fail> {
-    let script = format!(in rt.alloc(); "{CALL}{CALL}")?;
-    for (read, written, reads, writes, room, printed, status) in FAILING {
-        let got = run(
-            &rt,
-            rt.alloc(),
-            &["replica"],
-            script.as_bytes(),
-            (read, written),
-            (reads, writes),
-            room,
-        )?;
-        assert_eq!(rt; got.0.as_slice(), printed.as_bytes(), "{printed}");
-        assert_eq!(rt; got.1, status, "{printed}");
-    }
-    Ok(())
+static CODES: [(Status, u8); 6] = [
+    (Status::Done, 0),
+    (Status::BadWords, 2),
+    (BAD_FORM, 3),
+    (Status::ReadFault, 4),
+    (Status::WriteFault, 5),
+    (Status::NoMemory, 6),
+];
+
+fn status_codes() -> &'static [(Status, u8)] {
+    &CODES
 }
 
 #[test]
 fn codes(rt: HostRuntime) {
-    let codes = [
-        (Status::Done, 0),
-        (Status::BadWords, 2),
-        (BAD_FORM, 3),
-        (Status::ReadFault, 4),
-        (Status::WriteFault, 5),
-        (Status::NoMemory, 6),
-    ];
-    for (status, code) in codes {
-        assert_eq!(rt; status.code(), code);
+    for (status, code) in status_codes() {
+        assert_eq!(rt; status.code(), *code);
     }
+}
+
+const CALL: &str = "call 2vxsx-fae rwlgt-iiaaa-aaaaa-aaaaa-cai hello -\n";
+
+// So many calls.
+fn calls(alloc: Global, count: usize) -> Result<String, Fail> {
+    let mut script = String::new(alloc);
+    for _ in 0..count {
+        script.push_str(CALL)?;
+    }
+    Ok(script)
+}
+
+// What so many calls print.
+fn answers(alloc: Global, count: usize) -> Result<String, Fail> {
+    let mut printed = String::new(alloc);
+    for number in 0..count {
+        printed.push_str(&format!(in alloc; "accepted {number}\n")?)?;
+    }
+    for number in 0..count {
+        printed.push_str(&format!(in alloc;
+            "answer {number} rejected 3 \"no canister rwlgt-iiaaa-aaaaa-aaaaa-cai\"\n"
+        )?)?;
+    }
+    Ok(printed)
 }
 
 // Twelve calls, so that the numbers have one digit and two.
 #[test]
 fn many_calls(rt: HostRuntime) -> Result<(), Fail> {
-    let mut script = Vec::new(rt.alloc());
-    let mut printed = String::new(rt.alloc());
-    for number in 0..12 {
-        script.extend_from_slice(CALL.as_bytes())?;
-        printed.push_str(&format!(in rt.alloc(); "accepted {number}\n")?)?;
-    }
-    for number in 0..12 {
-        printed.push_str(&format!(in rt.alloc();
-            "answer {number} rejected 3 \"no canister rwlgt-iiaaa-aaaaa-aaaaa-cai\"\n"
-        )?)?;
-    }
-    let got = run(
+    let script = calls(rt.alloc(), 12)?;
+    let printed = answers(rt.alloc(), 12)?;
+    compare(
         &rt,
-        rt.alloc(),
-        &["replica"],
-        &script,
-        (65_536, 65_536),
-        (&[], &[]),
-        2000,
-    )?;
-    assert_eq!(rt; got.0.as_slice(), printed.as_bytes());
-    assert_eq!(rt; got.1, Status::Done);
+        script.as_bytes(),
+        &steady(65_536),
+        printed.as_bytes(),
+        Status::Done,
+    )
+}
+
+// A front, so many times one byte, and an end.
+fn padded(alloc: Global, front: &str, byte: u8, count: usize, end: &str) -> Result<Vec<u8>, Fail> {
+    let mut script = Vec::from_slice(alloc, front.as_bytes())?;
+    for _ in 0..count {
+        script.push(byte)?;
+    }
+    script.extend_from_slice(end.as_bytes())?;
+    Ok(script)
+}
+
+/// What stands before and after so many bytes of one kind, and what is printed.
+type Padded = (&'static str, u8, usize, &'static str, &'static str, Status);
+
+// Lines of 8,388,608 bytes: a comment, and a call whose argument has 4,194,289 bytes; and a comment
+// with one byte more. Their answers show that no memory was wanting.
+static LONGEST: [Padded; 3] = [
+    ("", b'#', 8_388_608, "", "", Status::Done),
+    (
+        "call 2vxsx-fae aaaaa-aa hello ",
+        b'0',
+        8_388_578,
+        "\n",
+        "accepted 0\nanswer 0 rejected 3 \"no canister aaaaa-aa\"\n",
+        Status::Done,
+    ),
+    (
+        "",
+        b'#',
+        8_388_609,
+        "",
+        "line 1: LineTooLong\n",
+        Status::BadLine {
+            line: 1,
+            cause: LineCause::LineTooLong,
+        },
+    ),
+];
+
+fn longest() -> &'static [Padded] {
+    &LONGEST
+}
+
+#[test]
+fn longest_line(rt: HostRuntime) -> Result<(), Fail> {
+    for (front, byte, count, end, printed, status) in longest() {
+        let script = padded(rt.alloc(), front, *byte, *count, end)?;
+        compare(&rt, &script, &steady(65_536), printed.as_bytes(), *status)?;
+    }
+    Ok(())
+}
+
+// How many bytes are left of the source.
+fn left(source: &mut MemorySource) -> usize {
+    let mut buffer = [0; 1000];
+    let mut count = 0usize;
+    for _ in 0..1000 {
+        if let Ok(read) = source.read(&mut buffer) {
+            count = count.saturating_add(read);
+        }
+    }
+    count
+}
+
+// A bad line of so many bytes among 300,000, and how many of these a run reads. The source gives all
+// that it is asked for: 65,536 bytes at a time.
+static BAD_LINES: [(usize, usize); 3] = [(1, 65_536), (65_535, 65_536), (65_536, 131_072)];
+
+fn bad_lines() -> &'static [(usize, usize)] {
+    &BAD_LINES
+}
+
+#[test]
+fn read_past_bad_lines(rt: HostRuntime) -> Result<(), Fail> {
+    let words = texts(rt.alloc(), &["replica"])?;
+    for (size, read) in bad_lines() {
+        let line = padded(rt.alloc(), "", b'x', *size, "\n")?;
+        let script = filled(rt.alloc(), &line)?;
+        let mut source = source_of(&rt, &script, 300_000, &[])?;
+        compare_read(&rt, &words, &mut source, *read)?;
+    }
+    Ok(())
+}
+
+// The line, and comments up to 300,000 bytes in all.
+fn filled(alloc: Global, line: &[u8]) -> Result<Vec<u8>, Fail> {
+    let mut script = Vec::from_slice(alloc, line)?;
+    for _ in line.len()..300_000 {
+        script.push(b'#')?;
+    }
+    Ok(script)
+}
+
+fn compare_read<R: Abort + Threads + Sync + AllocGlobal>(
+    rt: &R,
+    words: &[String],
+    source: &mut MemorySource,
+    read: usize,
+) -> Result<(), Fail> {
+    let (_, status) = run_source(rt, words, source, &steady(100))?;
+    assert_eq!(rt; status, BAD_FORM, "{read}");
+    assert_eq!(rt; left(source), 300_000usize.saturating_sub(read), "{read}");
     Ok(())
 }
 
@@ -229,89 +276,10 @@ fn many_calls(rt: HostRuntime) -> Result<(), Fail> {
 // fails.
 #[test]
 fn failing_second_read(rt: HostRuntime) -> Result<(), Fail> {
-    let mut script = Vec::from_slice(rt.alloc(), CALL.as_bytes())?;
-    script.extend_from_slice(&comment(rt.alloc(), 70_000)?)?;
-    let got = run(
-        &rt,
-        rt.alloc(),
-        &["replica"],
-        &script,
-        (1_000_000, 100),
-        (&[2], &[]),
-        100,
-    )?;
-    assert_eq!(rt; got.0.as_slice(), b"accepted 0\n".as_slice());
-    assert_eq!(rt; got.1, Status::ReadFault);
-    Ok(())
-}
-
-// A reader of comments without an end, each as long as a read.
-#[derive(Drop)]
-struct Comments;
-
-impl Read for Comments {
-    fn read(&mut self, buffer: &mut [u8]) -> io::Result<usize> {
-        buffer.fill(b'#');
-        if let Some(last) = buffer.last_mut() {
-            *last = b'\n';
-        }
-        Ok(buffer.len())
-    }
-}
-
-// The reader of lines asks for 65,536 bytes at a time, so the largest script has 4,096 of them.
-#[test]
-fn script_too_long(rt: HostRuntime) -> Result<(), Fail> {
-    let words = vec![in rt.alloc(); String::from_str(rt.alloc(), "replica")?]?;
-    let mut source = StdSource::new(Comments);
-    let mut sink = MemorySink::new(rt.alloc(), 100, 100, Vec::new(rt.alloc()))?;
-    let status = replica(rt.alloc(), &rt, &words, &mut source, &mut sink, &OpenGate);
-    assert_eq!(rt; sink.taken(), b"line 4097: ScriptTooLong\n".as_slice());
-    assert_eq!(rt;
-        status,
-        Status::BadLine {
-            line: 4097,
-            cause: LineCause::ScriptTooLong,
-        }
-    );
-    Ok(())
-}
-
-// A comment of the largest length, and one byte more.
-#[test]
-fn longest_line(rt: HostRuntime) -> Result<(), Fail> {
-    let rows = [
-        (8_388_608, "", Status::Done),
-        (
-            8_388_609,
-            "line 1: LineTooLong\n",
-            Status::BadLine {
-                line: 1,
-                cause: LineCause::LineTooLong,
-            },
-        ),
-    ];
-    for (length, printed, status) in rows {
-        let script = comment(rt.alloc(), length)?;
-        let got = run(
-            &rt,
-            rt.alloc(),
-            &["replica"],
-            &script,
-            (65_536, 65_536),
-            (&[], &[]),
-            100,
-        )?;
-        assert_eq!(rt; got.0.as_slice(), printed.as_bytes());
-        assert_eq!(rt; got.1, status);
-    }
-    Ok(())
-}
-
-fn comment(alloc: Global, length: usize) -> Result<Vec<u8>, Fail> {
-    let mut script = Vec::new(alloc);
-    for _ in 0..length {
-        script.push(b'#')?;
-    }
-    Ok(script)
+    let script = padded(rt.alloc(), CALL, b'#', 70_000, "")?;
+    let streams = Streams {
+        failing_reads: &[2],
+        ..steady(1_000_000)
+    };
+    compare(&rt, &script, &streams, b"accepted 0\n", Status::ReadFault)
 }
