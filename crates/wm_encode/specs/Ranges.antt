@@ -43,7 +43,7 @@ RangedOperands (labels ls l) = All Is32 ls × Is32 l
 RangedOperands (type_index n) = Is32 n
 RangedOperands (memory m) = RangedMemArg m
 RangedOperands reserved = Unit {0}
-RangedOperands (prefixed n zeros) = Is32 n
+RangedOperands (prefixed n _) = Is32 n
 RangedOperands (number32 z) = FitsSigned w32 z
 RangedOperands (number64 z) = FitsSigned w64 z
 
