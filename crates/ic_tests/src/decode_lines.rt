@@ -1,11 +1,9 @@
 use crate::running::{compare, steady};
 use ic_host::Status;
-use std::process::Abort;
 use std::test::Fail;
-use std::thread::Threads;
 
 // Lines that read messages, and what each prints.
-static READ: [(&str, &str); 24] = [
+static READ: [(&str, &str); 41] = [
     // nat
     (
         "decode 4449444c00017d 4449444c00017d2a",
@@ -114,91 +112,81 @@ static READ: [(&str, &str); 24] = [
         "decode 4449444c016e7d020000 4449444c0000",
         "decoded 4449444c016e7d0200000000",
     ),
+    // fronts of a message that end in its header
+    ("decode 4449444c016c01007d0100 -", "refused NotHeader"),
+    ("decode 4449444c016c01007d0100 44", "refused NotHeader"),
+    ("decode 4449444c016c01007d0100 4449", "refused NotHeader"),
+    ("decode 4449444c016c01007d0100 444944", "refused NotHeader"),
+    (
+        "decode 4449444c016c01007d0100 4449444c",
+        "refused NotHeader",
+    ),
+    (
+        "decode 4449444c016c01007d0100 4449444c01",
+        "refused NotHeader",
+    ),
+    (
+        "decode 4449444c016c01007d0100 4449444c016c",
+        "refused NotHeader",
+    ),
+    (
+        "decode 4449444c016c01007d0100 4449444c016c02",
+        "refused NotHeader",
+    ),
+    (
+        "decode 4449444c016c01007d0100 4449444c016c0200",
+        "refused NotHeader",
+    ),
+    (
+        "decode 4449444c016c01007d0100 4449444c016c02007d",
+        "refused NotHeader",
+    ),
+    (
+        "decode 4449444c016c01007d0100 4449444c016c02007d01",
+        "refused NotHeader",
+    ),
+    (
+        "decode 4449444c016c01007d0100 4449444c016c02007d0171",
+        "refused NotHeader",
+    ),
+    (
+        "decode 4449444c016c01007d0100 4449444c016c02007d017101",
+        "refused NotHeader",
+    ),
+    // fronts that end in its values
+    (
+        "decode 4449444c016c01007d0100 4449444c016c02007d01710100",
+        "refused BadValue",
+    ),
+    (
+        "decode 4449444c016c01007d0100 4449444c016c02007d0171010007",
+        "refused BadValue",
+    ),
+    (
+        "decode 4449444c016c01007d0100 4449444c016c02007d017101000702",
+        "refused BadValue",
+    ),
+    (
+        "decode 4449444c016c01007d0100 4449444c016c02007d01710100070268",
+        "refused BadValue",
+    ),
 ];
 
 fn readings() -> &'static [(&'static str, &'static str)] {
     &READ
 }
 
-// The fronts of a message that end in its header.
-static NO_HEADER: [&str; 13] = [
-    "-",
-    "44",
-    "4449",
-    "444944",
-    "4449444c",
-    "4449444c01",
-    "4449444c016c",
-    "4449444c016c02",
-    "4449444c016c0200",
-    "4449444c016c02007d",
-    "4449444c016c02007d01",
-    "4449444c016c02007d0171",
-    "4449444c016c02007d017101",
-];
-
-fn no_header() -> &'static [&'static str] {
-    &NO_HEADER
-}
-
-// The fronts that end in its values.
-static NO_VALUES: [&str; 4] = [
-    "4449444c016c02007d01710100",
-    "4449444c016c02007d0171010007",
-    "4449444c016c02007d017101000702",
-    "4449444c016c02007d01710100070268",
-];
-
-fn no_values() -> &'static [&'static str] {
-    &NO_VALUES
-}
-
-// Compares what a line prints.
-fn prints<R: Abort + Threads + Sync + AllocGlobal>(
-    rt: &R,
-    line: &str,
-    printed: &str,
-) -> Result<(), Fail> {
-    let script = format!(in rt.alloc(); "{line}\n")?;
-    let wanted = format!(in rt.alloc(); "{printed}\n")?;
-    compare(
-        rt,
-        script.as_bytes(),
-        &steady(65_536),
-        wanted.as_bytes(),
-        Status::Done,
-    )
-}
-
 #[test]
 fn read(rt: HostRuntime) -> Result<(), Fail> {
     for (line, printed) in readings() {
-        prints(&rt, line, printed)?;
-    }
-    Ok(())
-}
-
-fn front<R: Abort + Threads + Sync + AllocGlobal>(
-    rt: &R,
-    digits: &str,
-    printed: &str,
-) -> Result<(), Fail> {
-    let line = format!(in rt.alloc(); "decode 4449444c016c01007d0100 {digits}")?;
-    prints(rt, &line, printed)
-}
-
-#[test]
-fn fronts(rt: HostRuntime) -> Result<(), Fail> {
-    for digits in no_header() {
-        front(&rt, digits, "refused NotHeader")?;
-    }
-    Ok(())
-}
-
-#[test]
-fn fronts_of_values(rt: HostRuntime) -> Result<(), Fail> {
-    for digits in no_values() {
-        front(&rt, digits, "refused BadValue")?;
+        let wanted = format!(in rt.alloc(); "{printed}\n")?;
+        compare(
+            &rt,
+            line.as_bytes(),
+            &steady(65_536),
+            wanted.as_bytes(),
+            Status::Done,
+        )?;
     }
     Ok(())
 }

@@ -1,103 +1,156 @@
+use crate::running::padded;
 use ic_principal::Principal;
 use ic_script::{Ask, Command, LineError, parse_line};
 use std::alloc::Global;
 use std::test::Fail;
 
-// Lines that ask for nothing.
-static NOTHING: [&[u8]; 4] = [b"", b"#", b"# call", b"#\xff\t"];
-
-fn empty() -> &'static [&'static [u8]] {
-    &NOTHING
+/// What a line is read as: nothing, a fault, a call of `hello` at canister 0 by the anonymous
+/// principal with this argument, or the bytes of types and of a message.
+enum Reads {
+    Nothing,
+    Fault(LineError),
+    Ask(&'static [u8]),
+    Decode(&'static [u8], &'static [u8]),
 }
 
-// Lines that are no command, and why.
-static FAULTY: [(&[u8], LineError); 37] = [
-    (b"hello", LineError::Form),
-    (b" ", LineError::Form),
-    (b" #", LineError::Form),
-    (b"call", LineError::Form),
-    (b"calls 2vxsx-fae aaaaa-aa hello -", LineError::Form),
-    (b"CALL 2vxsx-fae aaaaa-aa hello -", LineError::Form),
-    (b"call 2vxsx-fae aaaaa-aa hello", LineError::Form),
-    (b"call 2vxsx-fae aaaaa-aa hello - -", LineError::Form),
-    (b" call 2vxsx-fae aaaaa-aa hello -", LineError::Form),
-    (b"call 2vxsx-fae aaaaa-aa hello ", LineError::Form),
-    (b"call 2vxsx-fae aaaaa-aa hello - ", LineError::Form),
-    (b"call  2vxsx-fae aaaaa-aa hello -", LineError::Form),
-    (b"call 2vxsx-fae aaaaa-aa  -", LineError::Form),
-    (b"call\t2vxsx-fae aaaaa-aa hello -", LineError::Form),
-    (b"call 2vxsx-fae aaaaa-aa hello -\r", LineError::Form),
-    (b"call 2vxsx-fae aaaaa-aa h\x1fllo -", LineError::Form),
-    (b"call 2vxsx-fae aaaaa-aa h\x7fllo -", LineError::Form),
-    (b"call 2vxsx-fae aaaaa-aa h\xc3\xa9llo -", LineError::Form),
-    (b"call 2vxsx-fae aaaaa-aa h\xffllo -", LineError::Form),
-    (b"call 2vxsx-faf aaaaa-aa  abc", LineError::Form),
+static LINES: [(&[u8], Reads); 47] = [
+    (b"", Reads::Nothing),
+    (b"#", Reads::Nothing),
+    (b"# call", Reads::Nothing),
+    (b"#\xff\t", Reads::Nothing),
+    (b"hello", Reads::Fault(LineError::Form)),
+    (b" ", Reads::Fault(LineError::Form)),
+    (b" #", Reads::Fault(LineError::Form)),
+    (b"call", Reads::Fault(LineError::Form)),
+    (
+        b"calls 2vxsx-fae aaaaa-aa hello -",
+        Reads::Fault(LineError::Form),
+    ),
+    (
+        b"CALL 2vxsx-fae aaaaa-aa hello -",
+        Reads::Fault(LineError::Form),
+    ),
+    (
+        b"call 2vxsx-fae aaaaa-aa hello",
+        Reads::Fault(LineError::Form),
+    ),
+    (
+        b"call 2vxsx-fae aaaaa-aa hello - -",
+        Reads::Fault(LineError::Form),
+    ),
+    (
+        b" call 2vxsx-fae aaaaa-aa hello -",
+        Reads::Fault(LineError::Form),
+    ),
+    (
+        b"call 2vxsx-fae aaaaa-aa hello ",
+        Reads::Fault(LineError::Form),
+    ),
+    (
+        b"call 2vxsx-fae aaaaa-aa hello - ",
+        Reads::Fault(LineError::Form),
+    ),
+    (
+        b"call  2vxsx-fae aaaaa-aa hello -",
+        Reads::Fault(LineError::Form),
+    ),
+    (b"call 2vxsx-fae aaaaa-aa  -", Reads::Fault(LineError::Form)),
+    (
+        b"call\t2vxsx-fae aaaaa-aa hello -",
+        Reads::Fault(LineError::Form),
+    ),
+    (
+        b"call 2vxsx-fae aaaaa-aa hello -\r",
+        Reads::Fault(LineError::Form),
+    ),
+    (
+        b"call 2vxsx-fae aaaaa-aa h\x1fllo -",
+        Reads::Fault(LineError::Form),
+    ),
+    (
+        b"call 2vxsx-fae aaaaa-aa h\x7fllo -",
+        Reads::Fault(LineError::Form),
+    ),
+    (
+        b"call 2vxsx-fae aaaaa-aa h\xc3\xa9llo -",
+        Reads::Fault(LineError::Form),
+    ),
+    (
+        b"call 2vxsx-fae aaaaa-aa h\xffllo -",
+        Reads::Fault(LineError::Form),
+    ),
+    (
+        b"call 2vxsx-faf aaaaa-aa  abc",
+        Reads::Fault(LineError::Form),
+    ),
     (
         b"call swlgt-iiaaa-aaaaa-aaaaa-cai aaaaa-aa hello -",
-        LineError::Principal,
+        Reads::Fault(LineError::Principal),
     ),
-    (b"call 2VXSX-FAE aaaaa-aa hello -", LineError::Principal),
-    (b"call 2vxsx-fae - hello -", LineError::Principal),
-    (b"call 2vxsx-fae aaaaa-a hello abc", LineError::Principal),
-    (b"call 2vxsx-fae aaaaa-aa hello abc", LineError::Hex),
-    (b"call 2vxsx-fae aaaaa-aa hello 0g", LineError::Hex),
-    (b"call 2vxsx-fae aaaaa-aa hello --", LineError::Hex),
-    (b"call 2vxsx-fae aaaaa-aa hello -00", LineError::Hex),
-    (b"call 2vxsx-fae aaaaa-aa hello 0x00", LineError::Hex),
-    (b"decode", LineError::Form),
-    (b"decode 4449444c0000", LineError::Form),
-    (b"decode 4449444c0000 4449444c0000 -", LineError::Form),
-    (b"decode  4449444c0000", LineError::Form),
-    (b"decoded 4449444c0000 -", LineError::Form),
-    (b"decode 4449444c000 -", LineError::Hex),
-    (b"decode 4449444c0000 0", LineError::Hex),
-    (b"decode xx 0", LineError::Hex),
-];
-
-fn faulty() -> &'static [(&'static [u8], LineError)] {
-    &FAULTY
-}
-
-fn says_nothing(alloc: Global, line: &[u8]) -> bool {
-    matches!(parse_line(alloc, line), Ok(Command::Nothing))
-}
-
-fn fault_of(alloc: Global, line: &[u8]) -> Option<LineError> {
-    parse_line(alloc, line).err()
-}
-
-#[test]
-fn nothing(rt: HostRuntime) {
-    for line in empty() {
-        assert!(rt; says_nothing(rt.alloc(), line), "{line:?}");
-    }
-}
-
-#[test]
-fn faults(rt: HostRuntime) {
-    for (line, fault) in faulty() {
-        assert_eq!(rt; fault_of(rt.alloc(), line), Some(*fault), "{line:?}");
-    }
-}
-
-// Lines that call `hello`, and the argument.
-static CALLS: [(&[u8], &[u8]); 3] = [
-    (b"call 2vxsx-fae rwlgt-iiaaa-aaaaa-aaaaa-cai hello -", b""),
+    (
+        b"call 2VXSX-FAE aaaaa-aa hello -",
+        Reads::Fault(LineError::Principal),
+    ),
+    (
+        b"call 2vxsx-fae - hello -",
+        Reads::Fault(LineError::Principal),
+    ),
+    (
+        b"call 2vxsx-fae aaaaa-a hello abc",
+        Reads::Fault(LineError::Principal),
+    ),
+    (
+        b"call 2vxsx-fae aaaaa-aa hello abc",
+        Reads::Fault(LineError::Hex),
+    ),
+    (
+        b"call 2vxsx-fae aaaaa-aa hello 0g",
+        Reads::Fault(LineError::Hex),
+    ),
+    (
+        b"call 2vxsx-fae aaaaa-aa hello --",
+        Reads::Fault(LineError::Hex),
+    ),
+    (
+        b"call 2vxsx-fae aaaaa-aa hello -00",
+        Reads::Fault(LineError::Hex),
+    ),
+    (
+        b"call 2vxsx-fae aaaaa-aa hello 0x00",
+        Reads::Fault(LineError::Hex),
+    ),
+    (b"decode", Reads::Fault(LineError::Form)),
+    (b"decode 4449444c0000", Reads::Fault(LineError::Form)),
+    (
+        b"decode 4449444c0000 4449444c0000 -",
+        Reads::Fault(LineError::Form),
+    ),
+    (b"decode  4449444c0000", Reads::Fault(LineError::Form)),
+    (b"decoded 4449444c0000 -", Reads::Fault(LineError::Form)),
+    (b"decode 4449444c000 -", Reads::Fault(LineError::Hex)),
+    (b"decode 4449444c0000 0", Reads::Fault(LineError::Hex)),
+    (b"decode xx 0", Reads::Fault(LineError::Hex)),
+    (
+        b"call 2vxsx-fae rwlgt-iiaaa-aaaaa-aaaaa-cai hello -",
+        Reads::Ask(b""),
+    ),
     (
         b"call 2vxsx-fae rwlgt-iiaaa-aaaaa-aaaaa-cai hello 00fF",
-        &[0x00, 0xFF],
+        Reads::Ask(&[0x00, 0xFF]),
     ),
     (
         b"call 2vxsx-fae rwlgt-iiaaa-aaaaa-aaaaa-cai hello ABCDEF0123456789",
-        &[0xAB, 0xCD, 0xEF, 0x01, 0x23, 0x45, 0x67, 0x89],
+        Reads::Ask(&[0xAB, 0xCD, 0xEF, 0x01, 0x23, 0x45, 0x67, 0x89]),
     ),
+    (b"decode - -", Reads::Decode(b"", b"")),
+    (b"decode 4449444C0000 -", Reads::Decode(b"DIDL\0\0", b"")),
+    (b"decode 00fF 07", Reads::Decode(&[0x00, 0xFF], &[0x07])),
 ];
 
-fn asks() -> &'static [(&'static [u8], &'static [u8])] {
-    &CALLS
+fn lines() -> &'static [(&'static [u8], Reads)] {
+    &LINES
 }
 
-// Whether the anonymous principal asks canister 0 for `hello` with this argument.
 fn is_ask(ask: &Ask, arg: &[u8]) -> bool {
     ask.sender.bytes() == [4].as_slice()
         && ask.callee == Principal::canister_id(0)
@@ -105,75 +158,32 @@ fn is_ask(ask: &Ask, arg: &[u8]) -> bool {
         && ask.arg.items.as_slice() == arg
 }
 
-fn command_of(alloc: Global, line: &[u8]) -> Option<Command> {
-    parse_line(alloc, line).ok()
-}
-
-fn asks_with(command: &Option<Command>, arg: &[u8]) -> bool {
-    matches!(command, Some(Command::Call(ask)) if is_ask(ask, arg))
+fn is_read_as(alloc: Global, line: &[u8], reads: &Reads) -> bool {
+    let read = parse_line(alloc, line);
+    match reads {
+        Reads::Nothing => matches!(&read, Ok(Command::Nothing)),
+        Reads::Fault(fault) => matches!(&read, Err(error) if error == fault),
+        Reads::Ask(arg) => matches!(&read, Ok(Command::Call(ask)) if is_ask(ask, arg)),
+        Reads::Decode(types, message) => {
+            matches!(&read, Ok(Command::Decode { expected, bytes })
+                if expected.items.as_slice() == *types && bytes.items.as_slice() == *message)
+        }
+    }
 }
 
 #[test]
-fn calls(rt: HostRuntime) {
-    for (line, arg) in asks() {
-        let command = command_of(rt.alloc(), line);
-        assert!(rt; asks_with(&command, arg), "{line:?}");
+fn read(rt: HostRuntime) {
+    for (line, reads) in lines() {
+        assert!(rt; is_read_as(rt.alloc(), line, reads), "{line:?}");
     }
 }
 
-// Lines that decode, the bytes of the expected types, and the message.
-static DECODINGS: [(&[u8], &[u8], &[u8]); 3] = [
-    (b"decode - -", b"", b""),
-    (b"decode 4449444C0000 -", b"DIDL\0\0", b""),
-    (b"decode 00fF 07", &[0x00, 0xFF], &[0x07]),
-];
-
-fn readings() -> &'static [(&'static [u8], &'static [u8], &'static [u8])] {
-    &DECODINGS
-}
-
-fn decodes(command: &Option<Command>, types: &[u8], message: &[u8]) -> bool {
-    matches!(command, Some(Command::Decode { expected, bytes })
-        if expected.items.as_slice() == types && bytes.items.as_slice() == message)
-}
-
-#[test]
-fn decodings(rt: HostRuntime) {
-    for (line, types, message) in readings() {
-        let command = command_of(rt.alloc(), line);
-        assert!(rt; decodes(&command, types, message), "{line:?}");
-    }
-}
-
-// A call of a method of so many bytes.
-fn long(alloc: Global, length: usize) -> Result<Vec<u8>, Fail> {
-    let mut line = Vec::from_slice(alloc, b"call 2vxsx-fae aaaaa-aa ")?;
-    for _ in 0..length {
-        line.push(b'~')?;
-    }
-    line.extend_from_slice(b" -")?;
-    Ok(line)
-}
-
-// The length of the method that a line calls.
-fn method_length(command: &Option<Command>) -> Option<usize> {
-    match command {
-        Some(Command::Call(ask)) => Some(ask.method.items.len()),
-        _ => None,
-    }
-}
-
+// The largest method has 20,000 bytes.
 #[test]
 fn longest_method(rt: HostRuntime) -> Result<(), Fail> {
-    let line = long(rt.alloc(), 20_000)?;
-    let command = command_of(rt.alloc(), &line);
-    assert_eq!(rt; method_length(&command), Some(20_000));
-    Ok(())
-}
-
-#[test]
-fn too_long_a_method(rt: HostRuntime) -> Result<(), Fail> {
-    let line = long(rt.alloc(), 20_001)?;
-    assert_eq!(rt; fault_of(rt.alloc(), &line), Some(LineError::Form));
+    for (length, is_read) in [(20_000, true), (20_001, false)] {
+        let line = padded(rt.alloc(), "call 2vxsx-fae aaaaa-aa ", b'~', length, " -")?;
+        assert!(rt; parse_line(rt.alloc(), &line).is_ok() == is_read);
+    }
     Ok(())
 }

@@ -38,43 +38,6 @@ pub fn texts(alloc: Global, words: &[&str]) -> Result<Vec<String>, NoMemory> {
     Ok(texts)
 }
 
-/// What a run printed, and its status.
-pub fn run<R: Abort + Threads + Sync + AllocGlobal>(
-    rt: &R,
-    words: &[&str],
-    script: &[u8],
-    streams: &Streams,
-) -> Result<(Vec<u8>, Status), Fail> {
-    let words = texts(rt.alloc(), words)?;
-    run_words(rt, &words, script, streams)
-}
-
-fn run_words<R: Abort + Threads + Sync + AllocGlobal>(
-    rt: &R,
-    words: &[String],
-    script: &[u8],
-    streams: &Streams,
-) -> Result<(Vec<u8>, Status), Fail> {
-    let mut source = source_of(rt, script, streams.read, streams.failing_reads)?;
-    run_source(rt, words, &mut source, streams)
-}
-
-/// What a run over this source printed, and its status.
-pub fn run_source<R: Abort + Threads + Sync + AllocGlobal>(
-    rt: &R,
-    words: &[String],
-    source: &mut MemorySource,
-    streams: &Streams,
-) -> Result<(Vec<u8>, Status), Fail> {
-    let mut sink = sink_of(rt, streams)?;
-    let status = replica(rt.alloc(), rt, words, source, &mut sink, &OpenGate);
-    taken(rt.alloc(), &sink, status)
-}
-
-fn taken(alloc: Global, sink: &MemorySink, status: Status) -> Result<(Vec<u8>, Status), Fail> {
-    Ok((Vec::from_slice(alloc, sink.taken())?, status))
-}
-
 /// A source over these bytes.
 pub fn source_of<R: Abort + AllocGlobal>(
     rt: &R,
@@ -118,13 +81,41 @@ pub fn compare_words<R: Abort + Threads + Sync + AllocGlobal>(
     printed: &[u8],
     status: Status,
 ) -> Result<(), Fail> {
-    let (got, ended) = run(rt, words, script, streams)?;
-    compare_output(rt, &got, ended, printed, status);
+    let words = texts(rt.alloc(), words)?;
+    let mut source = source_of(rt, script, streams.read, streams.failing_reads)?;
+    compare_source(rt, &words, &mut source, streams, printed, status)
+}
+
+/// Runs the script of a source, and compares what it prints and its status.
+pub fn compare_source<R: Abort + Threads + Sync + AllocGlobal>(
+    rt: &R,
+    words: &[String],
+    source: &mut MemorySource,
+    streams: &Streams,
+    printed: &[u8],
+    status: Status,
+) -> Result<(), Fail> {
+    let mut sink = sink_of(rt, streams)?;
+    let ended = replica(rt.alloc(), rt, words, source, &mut sink, &OpenGate);
+    assert!(rt;
+        sink.taken() == printed && ended == status,
+        "{printed:?} {status:?}"
+    );
     Ok(())
 }
 
-/// Compares what was printed and the status.
-pub fn compare_output<R: Abort>(rt: &R, got: &[u8], ended: Status, printed: &[u8], status: Status) {
-    assert_eq!(rt; got, printed);
-    assert_eq!(rt; ended, status);
+/// A front, so many times one byte, and an end.
+pub fn padded(
+    alloc: Global,
+    front: &str,
+    byte: u8,
+    count: usize,
+    end: &str,
+) -> Result<Vec<u8>, Fail> {
+    let mut script = Vec::from_slice(alloc, front.as_bytes())?;
+    for _ in 0..count {
+        script.push(byte)?;
+    }
+    script.extend_from_slice(end.as_bytes())?;
+    Ok(script)
 }

@@ -1,4 +1,6 @@
-use crate::running::{Streams, compare, compare_words, run_source, source_of, steady, texts};
+use crate::running::{
+    Streams, compare, compare_source, compare_words, padded, source_of, steady, texts,
+};
 use ic_host::Status;
 use ic_outside::{MemorySource, Source};
 use ic_script::LineCause;
@@ -125,58 +127,11 @@ fn status_codes() -> &'static [(Status, u8)] {
 #[test]
 fn codes(rt: HostRuntime) {
     for (status, code) in status_codes() {
-        assert_eq!(rt; status.code(), *code);
+        assert!(rt; status.code() == *code);
     }
 }
 
 const CALL: &str = "call 2vxsx-fae rwlgt-iiaaa-aaaaa-aaaaa-cai hello -\n";
-
-// So many calls.
-fn calls(alloc: Global, count: usize) -> Result<String, Fail> {
-    let mut script = String::new(alloc);
-    for _ in 0..count {
-        script.push_str(CALL)?;
-    }
-    Ok(script)
-}
-
-// What so many calls print.
-fn answers(alloc: Global, count: usize) -> Result<String, Fail> {
-    let mut printed = String::new(alloc);
-    for number in 0..count {
-        printed.push_str(&format!(in alloc; "accepted {number}\n")?)?;
-    }
-    for number in 0..count {
-        printed.push_str(&format!(in alloc;
-            "answer {number} rejected 3 \"no canister rwlgt-iiaaa-aaaaa-aaaaa-cai\"\n"
-        )?)?;
-    }
-    Ok(printed)
-}
-
-// Twelve calls, so that the numbers have one digit and two.
-#[test]
-fn many_calls(rt: HostRuntime) -> Result<(), Fail> {
-    let script = calls(rt.alloc(), 12)?;
-    let printed = answers(rt.alloc(), 12)?;
-    compare(
-        &rt,
-        script.as_bytes(),
-        &steady(65_536),
-        printed.as_bytes(),
-        Status::Done,
-    )
-}
-
-// A front, so many times one byte, and an end.
-fn padded(alloc: Global, front: &str, byte: u8, count: usize, end: &str) -> Result<Vec<u8>, Fail> {
-    let mut script = Vec::from_slice(alloc, front.as_bytes())?;
-    for _ in 0..count {
-        script.push(byte)?;
-    }
-    script.extend_from_slice(end.as_bytes())?;
-    Ok(script)
-}
 
 /// What stands before and after so many bytes of one kind, and what is printed.
 type Padded = (&'static str, u8, usize, &'static str, &'static str, Status);
@@ -239,36 +194,44 @@ fn bad_lines() -> &'static [(usize, usize)] {
     &BAD_LINES
 }
 
-#[test]
-fn read_past_bad_lines(rt: HostRuntime) -> Result<(), Fail> {
-    let words = texts(rt.alloc(), &["replica"])?;
-    for (size, read) in bad_lines() {
-        let line = padded(rt.alloc(), "", b'x', *size, "\n")?;
-        let script = filled(rt.alloc(), &line)?;
-        let mut source = source_of(&rt, &script, 300_000, &[])?;
-        compare_read(&rt, &words, &mut source, *read)?;
-    }
-    Ok(())
-}
-
-// The line, and comments up to 300,000 bytes in all.
-fn filled(alloc: Global, line: &[u8]) -> Result<Vec<u8>, Fail> {
-    let mut script = Vec::from_slice(alloc, line)?;
-    for _ in line.len()..300_000 {
-        script.push(b'#')?;
+// 300,000 letters, with a line feed in the place of one.
+fn one_line_feed(alloc: Global, place: usize) -> Result<Vec<u8>, Fail> {
+    let mut script = padded(alloc, "", b'x', 300_000, "")?;
+    if let Some(byte) = script.get_mut(place) {
+        *byte = b'\n';
     }
     Ok(script)
 }
 
+#[test]
+fn read_past_bad_lines(rt: HostRuntime) -> Result<(), Fail> {
+    for (size, read) in bad_lines() {
+        let script = one_line_feed(rt.alloc(), *size)?;
+        compare_read(&rt, &script, *read)?;
+    }
+    Ok(())
+}
+
+// Compares how many bytes a run over a source that gives all at once reads.
 fn compare_read<R: Abort + Threads + Sync + AllocGlobal>(
     rt: &R,
-    words: &[String],
-    source: &mut MemorySource,
+    script: &[u8],
     read: usize,
 ) -> Result<(), Fail> {
-    let (_, status) = run_source(rt, words, source, &steady(100))?;
-    assert_eq!(rt; status, BAD_FORM, "{read}");
-    assert_eq!(rt; left(source), 300_000usize.saturating_sub(read), "{read}");
+    let words = texts(rt.alloc(), &["replica"])?;
+    let mut source = source_of(rt, script, 300_000, &[])?;
+    compare_source(
+        rt,
+        &words,
+        &mut source,
+        &steady(100),
+        b"line 1: Form\n",
+        BAD_FORM,
+    )?;
+    assert!(rt;
+        left(&mut source) == 300_000usize.saturating_sub(read),
+        "{read}"
+    );
     Ok(())
 }
 
