@@ -43,6 +43,7 @@ const unless_equal = [0x04, 0x40, 0, 0x0b]; // if unreachable end
 const is32 = (value) => [...c32(value), 0x47, ...unless_equal];
 const is64 = (value) => [...c64(value), 0x52, ...unless_equal];
 const load = (opcode, at, offset) => [...c32(at), opcode, 0, ...leb(offset)];
+const range = (x, y, size, opcode) => [...c32(x), ...c32(y), ...c32(size), 0xfc, opcode, 0, ...(opcode === 0x0a ? [0] : [])];
 const table_of = (index) => [0x02, 0x7f, 0x02, 0x7f, 0x02, 0x7f, ...c32(10), ...c32(index), 0x0e, 2, 0, 1, 2, 0x0b,
   ...c32(1), 0x6a, 0x0b, ...c32(1), 0x6a, 0x0b];
 
@@ -67,6 +68,15 @@ const bodies = {
   "i64.store16": [...c32(8), ...c64(-1), 0x3d, 0, 2, ...load(0x29, 8, 0), ...is64(0xffff0000n)],
   "i64.store32": [...c32(8), ...c64(-1), 0x3e, 0, 2, ...load(0x29, 8, 0), ...is64(0xffffffff0000n)],
   "the last bytes": [...c32(65532), ...c32(5), 0x36, 0, 0, ...load(0x29, 65528, 0), ...is64(0x500000000n)],
+  "i32.extend8_s": [...c32(0x12345680), 0xc0, ...is32(-128), ...c32(0x1234567f), 0xc0, ...is32(127)],
+  "i32.extend16_s": [...c32(0x12348000), 0xc1, ...is32(-32768), ...c32(0x12347fff), 0xc1, ...is32(32767)],
+  "i64.extend8_s": [...c64(0x1234567812345680n), 0xc2, ...is64(-128), ...c64(0x7f), 0xc2, ...is64(127)],
+  "i64.extend16_s": [...c64(0x1234567812348000n), 0xc3, ...is64(-32768), ...c64(0x7fff), 0xc3, ...is64(32767)],
+  "i64.extend32_s": [...c64(0x1234567880000000n), 0xc4, ...is64(-2147483648), ...c64(0x7fffffff), 0xc4, ...is64(0x7fffffff)],
+  "memory.copy": [...range(1, 0, 7, 0x0a), ...load(0x29, 0, 0), ...is64(0x0000fe017fff8080n),
+    ...range(0, 1, 7, 0x0a), ...load(0x29, 0, 0), ...is64(0x000000fe017fff80n), ...range(65536, 65536, 0, 0x0a)],
+  "memory.fill": [...range(1, 0x1ff, 3, 0x0b), ...load(0x29, 0, 0), ...is64(0x800000feffffff80n),
+    ...range(65528, 5, 8, 0x0b), ...load(0x29, 65528, 0), ...is64(0x0505050505050505n), ...range(65536, 5, 0, 0x0b)],
   "memory.size, memory.grow": [0x3f, 0, ...is32(1), ...c32(1), 0x40, 0, ...is32(1), ...c32(2), 0x40, 0, ...is32(-1),
     0x3f, 0, ...is32(2), ...load(0x28, 131068, 0), ...is32(0)],
   "locals": [0x20, 0, ...is32(0), ...c32(5), 0x21, 0, ...c32(6), 0x22, 0, ...is32(6), 0x20, 0, ...is32(6)],
