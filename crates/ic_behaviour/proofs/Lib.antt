@@ -1,0 +1,8 @@
+pub mod Weights
+pub mod Spots
+pub mod Counts
+pub mod Parts
+pub mod Listings
+pub mod Ties
+pub mod Changes
+mod Witness

@@ -1,0 +1,14 @@
+pub mod State
+pub mod Totals
+pub mod Items
+pub mod Sound
+pub mod Tallied
+pub mod Submitted
+pub mod Counted
+pub mod Texts
+pub mod Outcomes
+pub mod Entry
+pub mod Executing
+pub mod Closing
+pub mod Local
+pub mod Deliver

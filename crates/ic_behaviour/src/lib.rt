@@ -1,0 +1,25 @@
+//! What canisters do, as the IC Interface Specification defines it ("Abstract behavior"): the types
+//! of calls, and the definitions that every layer of the host is held to.
+//!
+//! A state (`specs/State`) has canisters with their call contexts, messages under way, and the
+//! requests of users. `specs/Sound` says what every state keeps: a call stands in one place, each
+//! context that is still open awaits a call, and cycles are neither made nor lost. `specs/Deliver`
+//! says what the delivery of a message changes. The rows of the System API and the management
+//! canister are arguments of these definitions.
+#![tactic(auto)]
+
+mod call;
+mod context;
+mod env;
+mod execution;
+mod laws;
+mod phase;
+mod request;
+
+pub use call::{Answered, CallId, Callback, Message, Origin, Response};
+pub use context::Context;
+pub use env::{Admitted, Env, Refusal};
+pub use execution::{Effects, EntryKind, OutCall, OutCalls, View};
+pub use laws::{changes_keep_counts, changes_keep_sound, sound_by_totals};
+pub use phase::{Controllers, Phase, Waiter, Waiters};
+pub use request::Request;
