@@ -25,6 +25,7 @@ use Rattle.ic_behaviour.specs.Submitted.{empty, submitted, timed, added, IsNew, 
 use Rattle.ic_behaviour.proofs.Weights.{total-append, total-map, total-at, total-below, bears-mentions, begins-mentions, found, each-map, each-back, nat-self, nat-is, at-is, same_id-self, same_id-is}
 use Rattle.ic_behaviour.proofs.Spots.{same_counter, total-spot}
 use Rattle.ic_behaviour.proofs.Counts.{counted_same}
+use Rattle.ic_behaviour.proofs.Inserts.{Gap, gap, sorted-insert}
 
 -- The empty state
 pub empty_tallied : Tallied empty
@@ -192,52 +193,6 @@ timed_tallied s time sound later small = record {
 
 -- A canister is added
 
--- where a new key goes
-record Gap (key : List ℕ) (es : List (List ℕ × Canister)) (v : Canister) : Type 0 where
-  before : List (List ℕ × Canister)
-  after : List (List ℕ × Canister)
-  whole : es ≡ before ++ after
-  made : insert_entry (slice_cmp nat_cmp) es key v ≡ before ++ (key, v) ∷ after
-
-gap : (key : List ℕ) (v : Canister) (es : List (List ℕ × Canister)) → AllByRecursion (λ (e : List ℕ × Canister). at key e.0 ≡ false) es → Gap key es v
-gap key v [] all = record { before = []; after = []; whole = refl; made = refl }
-gap key v (e ∷ es) all = by (slice_cmp nat_cmp key e.0) refl (gap key v es all.1) where
-  by : (o : Ordering) → slice_cmp nat_cmp key e.0 ≡ o → Gap key es v → Gap key (e ∷ es) v
-  by Less is rest = record { before = []; after = e ∷ es; whole = refl; made = ap (λ o. match_ordering o ((key, v) ∷ e ∷ es) ((e.0, v) ∷ es) (e ∷ insert_entry (slice_cmp nat_cmp) es key v)) is }
-  by Equal is rest = absurd (true≢false (sym (ap is_eq is) ∙ all.0))
-  by Greater is rest = record {
-    before = e ∷ rest.before;
-    after = rest.after;
-    whole = ap (λ l. e ∷ l) rest.whole;
-    made = ap (λ o. match_ordering o ((key, v) ∷ e ∷ es) ((e.0, v) ∷ es) (e ∷ insert_entry (slice_cmp nat_cmp) es key v)) is ∙ ap (λ l. e ∷ l) rest.made;
-  }
-
--- the keys still rise
-below-all : (k x : List ℕ) (ys : List (List ℕ)) → slice_cmp nat_cmp k x ≡ Less → AllByRecursion (λ y. slice_cmp nat_cmp x y ≡ Less) ys → AllByRecursion (λ y. slice_cmp nat_cmp k y ≡ Less) ys
-below-all k x [] less all = tt
-below-all k x (y ∷ ys) less all = (nat_list_cmp_total.trans k x y less all.0, below-all k x ys less all.1)
-
-keys_by : (k : List ℕ) (v : Canister) (e : List ℕ × Canister) (es more : List (List ℕ × Canister)) (P : List (List ℕ) → Type 0) (o : Ordering)
-    → (o ≡ Less → P (k ∷ e.0 ∷ keys_of es)) → (o ≡ Equal → P (e.0 ∷ keys_of es)) → (o ≡ Greater → P (e.0 ∷ keys_of more))
-    → P (keys_of (match_ordering o ((k, v) ∷ e ∷ es) ((e.0, v) ∷ es) (e ∷ more)))
-keys_by k v e es more P Less a b c = a refl
-keys_by k v e es more P Equal a b c = b refl
-keys_by k v e es more P Greater a b c = c refl
-
-all-insert : (P : List ℕ → Type 0) (k : List ℕ) (v : Canister) (es : List (List ℕ × Canister)) → P k → AllByRecursion P (keys_of es) → AllByRecursion P (keys_of (insert_entry (slice_cmp nat_cmp) es k v))
-all-insert P k v [] here all = (here, tt)
-all-insert P k v (e ∷ es) here all =
-    keys_by k v e es (insert_entry (slice_cmp nat_cmp) es k v) (AllByRecursion P) (slice_cmp nat_cmp k e.0) (λ o. (here, all)) (λ o. all) (λ o. (all.0, all-insert P k v es here all.1))
-
-sorted-insert : (k : List ℕ) (v : Canister) (es : List (List ℕ × Canister)) → IsStrictlySortedBy (slice_cmp nat_cmp) (keys_of es) → IsStrictlySortedBy (slice_cmp nat_cmp) (keys_of (insert_entry (slice_cmp nat_cmp) es k v))
-unfolding IsStrictlySortedBy
-sorted-insert k v [] sorted = (tt, tt)
-sorted-insert k v (e ∷ es) sorted =
-    keys_by k v e es (insert_entry (slice_cmp nat_cmp) es k v) (IsStrictlySortedBy (slice_cmp nat_cmp)) (slice_cmp nat_cmp k e.0)
-    (λ o. ((o, below-all k e.0 (keys_of es) o sorted.0), sorted))
-    (λ o. sorted)
-    (λ o. (all-insert (λ y. slice_cmp nat_cmp e.0 y ≡ Less) k v es (nat_list_cmp_total.antisymm e.0 k ∙ ap ordering_reverse o) sorted.0, sorted-insert k v es sorted.1))
-
 module _ (s : State) (c : Canister) (sound : Tallied s) (is_new : IsNew s.next_canister c) (room : HasRoom s c.balance) where
   abbrev key : List ℕ
   key = c.id
@@ -246,7 +201,7 @@ module _ (s : State) (c : Canister) (sound : Tallied s) (is_new : IsNew s.next_c
   not_older : (caller : List ℕ) → IsOfOlder caller s.next_canister → at caller key ≡ true → ⊥
   not_older caller old is = lt_irrefl s.next_canister (old s.next_canister (omega (arith, room.counter)) (at-is caller key is ∙ is_new.id))
 
-  new_key : AllByRecursion (λ (e : List ℕ × Canister). at key e.0 ≡ false) s.canisters
+  pub new_key : AllByRecursion (λ (e : List ℕ × Canister). at key e.0 ≡ false) s.canisters
   new_key = each-map (IsEntry s.next_canister) (λ (e : List ℕ × Canister). at key e.0 ≡ false) (λ e actor. differs e actor.named (at key e.0) refl) s.canisters sound.entries where
     differs : (e : List ℕ × Canister) → IsNamed s.next_canister e.0 → (b : Bool) → at key e.0 ≡ b → at key e.0 ≡ false
     differs e named false is = is

@@ -1,6 +1,7 @@
 pub mod Weights
 pub mod Spots
 pub mod Counts
+pub mod Inserts
 pub mod Parts
 pub mod Listings
 pub mod Ties
