@@ -68,7 +68,8 @@ is_management callee = at [] callee
 abbrev pub sent_back : Origin → (callee : List ℕ) → (cycles : ℕ) → State → State
 sent_back from callee cycles s = answered_by callee (record { origin = from; response = no_canister callee; refund = cycles }) s
 
--- where no canister has the callee's id all cycles go back; an answer has its caller's
+-- No canister has the callee's id: all cycles of a call go back. An answer is dropped, but no sound state has one whose
+-- caller is not there.
 abbrev pub handled_outside : Outside → (limit : ℕ) → State → Message → State
 handled_outside outside limit s (Call from sender callee method arg cycles) =
     cond (is_management callee) (outside limit s (Call from sender callee method arg cycles)) (sent_back from callee cycles s)

@@ -28,13 +28,14 @@ use Rattle.ic_behaviour.specs.State.{same_id, Code}
 use Rattle.ic_behaviour.specs.Counted.{CountedCanister}
 use Rattle.ic_behaviour.specs.Outcomes.{Outcome, Returns, Traps, Enters}
 
--- the canister, the calls and the answers that go out, what was used, and why the entry or the callback trapped
+-- the canister, the calls and the answers that go out, what was used, and the message's own context with the trap of its
+-- entry or callback, or none
 pub record Work : Type 0 where
   pub canister : CountedCanister
   pub calls : List Message
   pub answers : List Answered
   pub used : ℕ
-  pub trapped : Option Trap
+  pub trapped : Option (CallId × Trap)
 
 abbrev pub nothing : CountedCanister → Work
 nothing c = record { canister = c; calls = []; answers = []; used = 0; trapped = None }
@@ -83,10 +84,11 @@ change test f (x ∷ xs) = cond (test x) (f x ∷ xs) (x ∷ change test f xs)
 abbrev pub is_own : CallId → Context → Bool
 is_own own x = same_id own x.id
 
+-- an answer has sent back what was available
 abbrev pub served : Effects → Context → Context
 served e x = record x {
   must_respond = cond (is_some e.answer) false x.must_respond;
-  available = e.available;
+  available = cond (is_some e.answer) 0 e.available;
   outstanding = x.outstanding + length e.calls;
 }
 
@@ -119,22 +121,22 @@ returned c own x store e used = record {
 }
 
 -- what traps leaves all as before, but for the store that a cleanup leaves
-abbrev pub trapped_with : CountedCanister → Lists → Trap → ℕ → Work
-trapped_with c store cause used = record { canister = record c { store = store }; calls = []; answers = []; used = used; trapped = Some cause }
+abbrev pub trapped_with : CountedCanister → CallId → Lists → Trap → ℕ → Work
+trapped_with c own store cause used = record { canister = record c { store = store }; calls = []; answers = []; used = used; trapped = Some (own, cause) }
 
 -- ---- a call
 
 abbrev pub updated : CountedCanister → CallId → Context → Outcome → Work
 updated c own x (Returns store e used) = returned c own x store e used
-updated c own x (Traps cause used) = trapped_with c c.store cause used
+updated c own x (Traps cause used) = trapped_with c own c.store cause used
 
--- a query method keeps its answer alone
-abbrev pub answer_alone : CountedCanister → Effects → Effects
-answer_alone c e = record e { certified = c.certified; balance = c.balance; calls = [] }
+-- of a query method its answer alone is kept
+abbrev pub answer_alone : CountedCanister → Context → Effects → Effects
+answer_alone c x e = record e { balance = c.balance; available = x.available; calls = []; certified = c.certified }
 
 abbrev pub queried : CountedCanister → CallId → Context → Outcome → Work
-queried c own x (Returns store e used) = returned c own x c.store (answer_alone c e) used
-queried c own x (Traps cause used) = trapped_with c c.store cause used
+queried c own x (Returns store e used) = returned c own x c.store (answer_alone c x e) used
+queried c own x (Traps cause used) = trapped_with c own c.store cause used
 
 abbrev pub called : Enters → Env → CountedCanister → CallId → Context → (name arg : List ℕ) → Code → Admitted → Work
 called enters env c own x name arg code (method.Update f) =
@@ -145,19 +147,19 @@ called enters env c own x name arg code (method.Query f) =
 -- ---- an answer
 
 -- a cleanup that returns keeps its store, one that traps changes nothing
-abbrev pub cleaned : CountedCanister → Trap → ℕ → Outcome → Work
-cleaned c cause used (Returns store e more) = trapped_with c store cause (used + more)
-cleaned c cause used (Traps other more) = trapped_with c c.store cause (used + more)
+abbrev pub cleaned : CountedCanister → CallId → Trap → ℕ → Outcome → Work
+cleaned c own cause used (Returns store e more) = trapped_with c own store cause (used + more)
+cleaned c own cause used (Traps other more) = trapped_with c own c.store cause (used + more)
 
 -- the cleanup runs on the state before the callback, and may use all instructions again
-abbrev pub cleaned_up : Enters → Env → CountedCanister → View → Code → Trap → ℕ → Option (ℕ × ℕ) → Work
-cleaned_up enters env c v code cause used None = trapped_with c c.store cause used
-cleaned_up enters env c v code cause used (Some target) =
-    cleaned c cause used (enters code c.store (Element target.0 target.1) kind.Cleanup v env.limit)
+abbrev pub cleaned_up : Enters → Env → CountedCanister → CallId → View → Code → Trap → ℕ → Option (ℕ × ℕ) → Work
+cleaned_up enters env c own v code cause used None = trapped_with c own c.store cause used
+cleaned_up enters env c own v code cause used (Some target) =
+    cleaned c own cause used (enters code c.store (Element target.0 target.1) kind.Cleanup v env.limit)
 
 abbrev pub called_back : Enters → Env → CountedCanister → CallId → Context → View → Code → Option (ℕ × ℕ) → Outcome → Work
 called_back enters env c own x v code cleanup (Returns store e used) = returned c own x store e used
-called_back enters env c own x v code cleanup (Traps cause used) = cleaned_up enters env c v code cause used cleanup
+called_back enters env c own x v code cleanup (Traps cause used) = cleaned_up enters env c own v code cause used cleanup
 
 abbrev pub kind_of : Response → EntryKind
 kind_of (response.Reply arg) = kind.Reply

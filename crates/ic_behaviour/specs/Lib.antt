@@ -2,7 +2,6 @@ pub mod State
 pub mod Totals
 pub mod Items
 pub mod Sound
-pub mod Tallied
 pub mod Submitted
 pub mod Counted
 pub mod Texts
@@ -12,3 +11,4 @@ pub mod Executing
 pub mod Closing
 pub mod Local
 pub mod Deliver
+pub mod Tallied

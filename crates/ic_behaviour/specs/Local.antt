@@ -1,7 +1,6 @@
 -- A canister handles a message (IC Interface Specification, "Call context creation", "Message execution" and "Callback invocation").
 use Rattle.std.specs.Prelude.{ℕ, ◌+◌, ◌*◌, ◌-◌, nat_lt, true, false, cond, List, [], ◌∷◌, ◌++◌, Option, Some, None, Result, Ok, Err, find}
 use Rattle.ic_behaviour.specs.declared.call.CallId.{CallId}
-use Rattle.ic_behaviour.specs.declared.call.CallId.TheVariants as call_id
 use Rattle.ic_behaviour.specs.declared.call.Callback.{Callback}
 use Rattle.ic_behaviour.specs.declared.call.Origin.{Origin}
 use Rattle.ic_behaviour.specs.declared.call.Origin.TheVariants as origin
@@ -61,7 +60,7 @@ on_call enters env c own method arg admitted found code = nothing c
 
 abbrev pub begin_call : Enters → Env → CountedCanister → CallId → (method arg : List ℕ) → Admitted → Handled
 begin_call enters env c own method arg admitted =
-    finished env.price own (on_call enters env c own method arg admitted (find (is_own own) c.contexts) c.code)
+    finished env.price (on_call enters env c own method arg admitted (find (is_own own) c.contexts) c.code)
 
 abbrev pub local_call : Enters → Env → CountedCanister → Origin → (sender method arg : List ℕ) → ℕ → Result Admitted Refusal → Handled
 local_call enters env c from sender method arg cycles (Err refusal) = refused c from cycles (refuses refusal)
@@ -74,8 +73,9 @@ local_call enters env c from sender method arg cycles (Ok admitted) =
 abbrev pub one_less : Context → Context
 one_less x = record x { outstanding = x.outstanding - 1 }
 
-abbrev pub with_refund : CallId → (refund : ℕ) → CountedCanister → CountedCanister
-with_refund own refund c = record c { balance = c.balance + refund; contexts = change (is_own own) one_less c.contexts; outstanding = c.outstanding - 1 }
+-- the refund goes to the balance, and one call less has no answer
+abbrev pub with_answer : CallId → (refund : ℕ) → CountedCanister → CountedCanister
+with_answer own refund c = record c { balance = c.balance + refund; contexts = change (is_own own) one_less c.contexts; outstanding = c.outstanding - 1 }
 
 -- no callback runs for a deleted context
 abbrev pub on_answer : Enters → Env → CountedCanister → CallId → Callback → Response → ℕ → Option Context → Option Code → Work
@@ -85,13 +85,13 @@ on_answer enters env c own callback response refund found code = nothing c
 
 abbrev pub begin_answer : Enters → Env → CountedCanister → CallId → Callback → Response → (refund : ℕ) → Handled
 begin_answer enters env c own callback response refund =
-    finished env.price own (on_answer enters env c own callback response refund (find (is_own own) c.contexts) c.code)
+    finished env.price (on_answer enters env c own callback response refund (find (is_own own) c.contexts) c.code)
 
 -- ---- the whole
 
 -- it depends on the canister with its counts, the message, the time, the limit and the price alone
 unfoldable pub local : Enters → Env → CountedCanister → Message → Handled
 local enters env c (Call from sender callee method arg cycles) = local_call enters env c from sender method arg cycles (admit c method)
-local enters env c (Answer (origin.Ingress k) sender response refund) = finished env.price (call_id.Ingress k) (nothing c)
+local enters env c (Answer (origin.Ingress k) sender response refund) = finished env.price (nothing c)
 local enters env c (Answer (origin.Canister caller n own callback) sender response refund) =
-    begin_answer enters env (with_refund own refund c) own callback response refund
+    begin_answer enters env (with_answer own refund c) own callback response refund

@@ -88,7 +88,8 @@ abbrev pub caller_of : Origin → List ℕ
 caller_of (origin.Ingress k) = []
 caller_of (origin.Canister caller n context callback) = caller
 
--- a call goes to its callee, an answer to the caller
+-- A call goes to its callee, an answer to the caller. An answer to a user would go to the management canister, which has no
+-- bytes either; no sound state has one.
 abbrev pub callee_of : Message → List ℕ
 callee_of (Call from sender callee method arg cycles) = callee
 callee_of (Answer from sender response refund) = caller_of from

@@ -32,11 +32,12 @@ added s c = record s {
 
 -- ---- when a canister may be added
 
--- it has the next id, is running and has no context
+-- it has the next id, is running, has no context and has made no call
 pub record IsNew (next : ℕ) (c : Canister) : Type 0 where
   pub id : c.id ≡ canister_id_of next
   pub running : c.phase ≡ Running
   pub contexts : c.contexts ≡ []
+  pub next_call : c.next_call ≡ 0
 
 pub record HasRoom (s : State) (balance : ℕ) : Type 0 where
   pub canisters : length s.canisters < 64

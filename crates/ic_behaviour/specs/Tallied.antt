@@ -1,4 +1,4 @@
--- The same as `Sound`, in totals of weights: what a move changes is then a sum. No standard has this.
+-- A form of `Sound` for proofs, which says the same (`sound_by_totals`) in totals of weights: what a move changes is then a sum. No standard has it.
 use Rattle.std.specs.Prelude.{◌≡◌, ℕ, ◌+◌, ◌-◌, ◌<◌, ◌≤◌, ◌^◌, nat_lt, Bool, true, false, not, ◌&&◌, List, length}
 use Rattle.std.specs.List.{AllByRecursion}
 use Rattle.std.specs.List.Sorted.{IsStrictlySortedBy}

@@ -11,7 +11,7 @@ pub struct Context {
     pub caller: Principal,
     /// Whether the call has no answer yet.
     pub must_respond: bool,
-    /// Whether the code that it belongs to is gone, so that no callback runs.
+    /// Whether the canister was uninstalled since it was made, so that no callback runs.
     pub deleted: bool,
     /// The cycles of the call that may still be accepted.
     pub available: u128,

@@ -94,7 +94,7 @@ unmapped : (key : List ℕ) (es : List (List ℕ × StoredCanister)) → AllByRe
 unmapped key [] all = tt
 unmapped key (e ∷ es) all = (all.0, unmapped key es all.1)
 
-module _ (p q : Parts) (c : StoredCanister) (is : IsWorld p) (is_new : IsNew p.next_canister (dropped (seen c))) (unused : c.outstanding ≡ 0) (keeps : IsCanister c)
+module _ (p q : Parts) (c : StoredCanister) (is : IsWorld p) (is_new : IsNew p.next_canister (dropped (seen c))) (keeps : IsCanister c)
     (room : HasRoom (state_of p) c.balance) (made : q.canisters.entries ≡ insert_entry (slice_cmp nat_cmp) p.canisters.entries c.id c) (now : state_of q ≡ added (state_of p) (dropped (seen c))) where
   each-added : (P : List ℕ × StoredCanister → Type 0) → P (c.id, c) → AllByRecursion P p.canisters.entries → AllByRecursion P q.canisters.entries
   each-added P here all =
@@ -103,6 +103,9 @@ module _ (p q : Parts) (c : StoredCanister) (is : IsWorld p) (is_new : IsNew p.n
 
   counts : (key : List ℕ) (b : Canister) → counted (state_of q) key b ≡ counted (state_of p) key b
   counts key b = ap (λ s. counted s key b) now ∙ added_counts (state_of p) (dropped (seen c)) (tallied (state_of p) is.sound) is_new room key b
+
+  unused : c.outstanding ≡ 0
+  unused = keeps.counts ∙ ap (total (λ (x : Context). x.outstanding)) (no_contexts c.contexts is_new.contexts)
 
   pub added_world : IsWorld q
   added_world = record {
@@ -153,9 +156,9 @@ no_length (x ∷ xs) h =
     let no : 0 < 0 = omega (arith, e) in absurd (not-suc-le-zero no)
 
 pub drained_yes : (p : Parts) (s : State) (a b : Bool) → state_of p ≡ s → a ≡ (length p.messages == 0) → a ≡ true → b ≡ list_all is_calm (values_of p.canisters.entries) → OnTrue b (Drained s)
-drained_yes p s a true now empty is all =
-    subst Drained now (record { messages = no_length p.messages (sym empty ∙ is); waiters = nobody p.canisters.entries (sym all) })
-drained_yes p s a false now empty is all = tt
+drained_yes p s a true now no_messages is all =
+    subst Drained now (record { messages = no_length p.messages (sym no_messages ∙ is); waiters = nobody p.canisters.entries (sym all) })
+drained_yes p s a false now no_messages is all = tt
 
 pub drained_no : (p : Parts) (s : State) (b : Bool) → state_of p ≡ s → b ≡ list_all is_calm (values_of p.canisters.entries) → OnFalse b (¬ Drained s)
 drained_no p s true now all = tt
@@ -163,10 +166,10 @@ drained_no p s false now all = λ d. true≢false (sym (all_calm p.canisters.ent
 
 -- ---- as the code has them
 
-pub added_now : (p q : Parts) (c : StoredCanister) (s : State) → state_of p ≡ s → IsWorld p → IsNew s.next_canister (dropped (seen c)) → c.outstanding ≡ 0 → IsCanister c → HasRoom s c.balance
+pub added_now : (p q : Parts) (c : StoredCanister) (s : State) → state_of p ≡ s → IsWorld p → IsNew s.next_canister (dropped (seen c)) → IsCanister c → HasRoom s c.balance
     → q.canisters.entries ≡ insert_entry (slice_cmp nat_cmp) p.canisters.entries c.id c → state_of q ≡ added (state_of p) (dropped (seen c)) → IsWorld q
-added_now p q c s view is is_new unused keeps room made now =
-    added_world p q c is (subst (λ t. IsNew t.next_canister (dropped (seen c))) (sym view) is_new) unused keeps (subst (λ t. HasRoom t c.balance) (sym view) room) made now
+added_now p q c s view is is_new keeps room made now =
+    added_world p q c is (subst (λ t. IsNew t.next_canister (dropped (seen c))) (sym view) is_new) keeps (subst (λ t. HasRoom t c.balance) (sym view) room) made now
 
 pub submitted_now : (p q : Parts) (sender callee method arg copied_method copied_arg : List ℕ) (s : State) → state_of p ≡ s → IsWorld p → length s.requests < 2 ^ 20
     → copied_method ≡ method → copied_arg ≡ arg → q.canisters.entries ≡ p.canisters.entries

@@ -196,7 +196,6 @@ impl World {
     /// A new canister with the next number, whose balance was created.
     pub fn add(self, canister: Canister) -> Result<World, NoMemory>
         requires new { IsNew self.next_canister (dropped (seen canister)) }
-        requires unused { (canister.outstanding ≡ 0) × (canister.next_call ≡ 0) }
         requires keeps { IsCanister canister }
         requires room { HasRoom self canister.balance }
         ensures { IfOk result (λ w. w ≡ added self (dropped (seen canister))) }
