@@ -23,17 +23,25 @@ use Rattle.ic_behaviour.specs.Closing.{Handled, finished}
 
 -- ---- a call that is refused
 
-abbrev pub or_no_method : Option Admitted → Result Admitted Refusal
-or_no_method None = Err NoMethod
-or_no_method (Some admitted) = Ok admitted
+abbrev pub or_no_method : Code → Option Admitted → Result (Code × Admitted) Refusal
+or_no_method code None = Err NoMethod
+or_no_method code (Some function) = Ok (code, function)
 
-abbrev pub admitted_by : Phase → Option Code → (method : List ℕ) → Result Admitted Refusal
+abbrev pub admitted_by : Phase → Option Code → (method : List ℕ) → Result (Code × Admitted) Refusal
 admitted_by Running None method = Err NoModule
-admitted_by Running (Some code) method = or_no_method (method_of code method)
+admitted_by Running (Some code) method = or_no_method code (method_of code method)
 admitted_by phase code method = Err NotRunning
 
+-- the code, and the function that the method is
+abbrev pub admitted : CountedCanister → (method : List ℕ) → Result (Code × Admitted) Refusal
+admitted c method = admitted_by c.phase c.code method
+
+abbrev pub function_of : Result (Code × Admitted) Refusal → Result Admitted Refusal
+function_of (Ok entry) = Ok entry.1
+function_of (Err refusal) = Err refusal
+
 abbrev pub admit : CountedCanister → (method : List ℕ) → Result Admitted Refusal
-admit c method = admitted_by c.phase c.code method
+admit c method = function_of (admitted c method)
 
 -- the cycles go back, and no context is made
 abbrev pub refused : CountedCanister → Origin → ℕ → Response → Handled
@@ -51,22 +59,19 @@ refused c from cycles response = record {
 abbrev pub context_of : Origin → (sender : List ℕ) → (cycles : ℕ) → Context
 context_of from sender cycles = record { id = id_of from; origin = from; caller = sender; must_respond = true; deleted = false; available = cycles; outstanding = 0 }
 
-abbrev pub with_context : Origin → (sender : List ℕ) → (cycles : ℕ) → CountedCanister → CountedCanister
-with_context from sender cycles c = record c { contexts = c.contexts ++ context_of from sender cycles ∷ [] }
+abbrev pub with_context : Context → CountedCanister → CountedCanister
+with_context x c = record c { contexts = c.contexts ++ x ∷ [] }
 
-abbrev pub on_call : Enters → Env → CountedCanister → CallId → (method arg : List ℕ) → Admitted → Option Context → Option Code → Work
-on_call enters env c own method arg admitted (Some x) (Some code) = called enters env c own x method arg code admitted
-on_call enters env c own method arg admitted found code = nothing c
+-- the context is appended, and the entry runs
+abbrev pub begin_call : Enters → Env → CountedCanister → Context → (method arg : List ℕ) → Code × Admitted → Handled
+begin_call enters env c x method arg entry =
+    finished env.price (called enters env (with_context x c) x.id x method arg entry.0 entry.1)
 
-abbrev pub begin_call : Enters → Env → CountedCanister → CallId → (method arg : List ℕ) → Admitted → Handled
-begin_call enters env c own method arg admitted =
-    finished env.price (on_call enters env c own method arg admitted (find (is_own own) c.contexts) c.code)
-
-abbrev pub local_call : Enters → Env → CountedCanister → Origin → (sender method arg : List ℕ) → ℕ → Result Admitted Refusal → Handled
+abbrev pub local_call : Enters → Env → CountedCanister → Origin → (sender method arg : List ℕ) → ℕ → Result (Code × Admitted) Refusal → Handled
 local_call enters env c from sender method arg cycles (Err refusal) = refused c from cycles (refuses refusal)
-local_call enters env c from sender method arg cycles (Ok admitted) =
+local_call enters env c from sender method arg cycles (Ok entry) =
     cond (nat_lt c.balance (env.limit * env.price)) (refused c from cycles out_of_cycles)
-    (begin_call enters env (with_context from sender cycles c) (id_of from) method arg admitted)
+    (begin_call enters env c (context_of from sender cycles) method arg entry)
 
 -- ---- an answer
 
@@ -91,7 +96,7 @@ begin_answer enters env c own callback response refund =
 
 -- it depends on the canister with its counts, the message, the time, the limit and the price alone
 unfoldable pub local : Enters → Env → CountedCanister → Message → Handled
-local enters env c (Call from sender callee method arg cycles) = local_call enters env c from sender method arg cycles (admit c method)
+local enters env c (Call from sender callee method arg cycles) = local_call enters env c from sender method arg cycles (admitted c method)
 local enters env c (Answer (origin.Ingress k) sender response refund) = finished env.price (nothing c)
 local enters env c (Answer (origin.Canister caller n own callback) sender response refund) =
     begin_answer enters env (with_answer own refund c) own callback response refund
