@@ -17,3 +17,6 @@ pub use ic_behaviour::{
 };
 pub use lists::{AnsweredList, Contexts, Messages, Requests};
 pub use world::{Parts, Totals, World};
+
+#[cfg(test)]
+mod tests;
