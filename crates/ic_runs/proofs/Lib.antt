@@ -1,0 +1,5 @@
+pub mod Lists
+pub mod Delivers
+pub mod Chains
+pub mod SomeTurn
+pub mod RunLaws
