@@ -1,0 +1,16 @@
+pub mod Fills
+pub mod Spots
+pub mod Holds
+pub mod Takes
+pub mod Exact
+pub mod Amid
+pub mod Ends
+pub mod Places
+pub mod Starts
+pub mod Works
+pub mod Locals
+pub mod Ended
+pub mod Delivers
+pub mod Counts
+pub mod Trapped
+pub mod Drains

@@ -1,0 +1,4 @@
+pub mod EntryKeeps
+pub mod Advances
+pub mod TrapKeeps
+pub mod AllDone
