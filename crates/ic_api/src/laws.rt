@@ -1,0 +1,41 @@
+//! What holds of the host and of executions: each function does nothing, and its contract is the law.
+
+ghost use Rattle.std.specs.Prelude.{◌≡◌, ℕ, List};
+ghost use Rattle.wm_store.specs.Lists.{Lists};
+ghost use Rattle.wm_semantics.specs.declared.target.Target.{Target as ATarget};
+ghost use Rattle.wm_semantics.specs.Fuel.{IsFunctional, AgreesWith, Rises};
+ghost use Rattle.ic_behaviour.specs.declared.execution.EntryKind.{EntryKind as AKind};
+ghost use Rattle.ic_behaviour.specs.declared.execution.View.{View as AView};
+ghost use Rattle.ic_behaviour.specs.declared.execution.Effects.{Effects as SomeEffects};
+ghost use Rattle.ic_behaviour.specs.State.{Code as SomeCode};
+ghost use Rattle.ic_behaviour.specs.Outcomes.{Returns};
+ghost use Rattle.ic_behaviour.specs.Entry.{enters_by};
+ghost use Rattle.ic_api.specs.Running.{Running, starting, api_reply, Meets};
+ghost use Rattle.ic_api.specs.Effects.{effects_of};
+ghost use Rattle.ic_api.specs.Kept.{RunKept};
+ghost use Rattle.ic_api.specs.Executed.{Executed};
+ghost use Rattle.ic_api.specs.System.{system_api};
+
+/// The host is the function `api_reply`.
+pub fn host_is_function()
+    ensures agrees { AgreesWith api_reply Meets }
+    ensures functional { IsFunctional Meets }
+    ensures rises { Rises api_reply }
+{}
+
+/// Each reply keeps what a run keeps, whatever the record, the call and its arguments are.
+pub fn replies_keep()
+    ensures { (h : Running) (import : ℕ) (args : List ℕ) (s : Lists) (limit used : ℕ) → RunKept h (api_reply h import args s limit used).host }
+{}
+
+/// What a run keeps of its host, an execution keeps from what it sees to its effects.
+pub fn executions_keep()
+    ensures { (kind : AKind) (view : AView) (h : Running) → RunKept (starting kind view) h → Executed kind view (effects_of h) }
+{}
+
+/// Whatever code is entered, with whatever store and view: what it does makes and loses no cycles,
+/// and answers once.
+pub fn entries_are_lawful()
+    ensures { (code : SomeCode) (s : Lists) (target : ATarget) (kind : AKind) (view : AView) (limit : ℕ) (t : Lists) (e : SomeEffects) (used : ℕ)
+        → enters_by system_api code s target kind view limit ≡ Returns t e used → Executed kind view e }
+{}

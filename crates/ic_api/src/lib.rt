@@ -1,0 +1,28 @@
+//! The System API (IC Interface Specification, "System API"): what a canister's code may ask of its
+//! host.
+//!
+//! `specs/Meaning` says of each call what it answers and what it changes, in the order of the table
+//! (`wm_valid::system_api`); `specs/Kinds` says which entry points may use it, and `specs/Charges`
+//! what it costs. `Api` is the host that runs the calls. What happens in an execution is kept in its
+//! record, and `finish` gives the effects. `specs/Executed` says what every execution keeps.
+#![tactic(auto)]
+
+mod act;
+mod answering;
+mod api;
+mod calling;
+mod charges;
+mod cycles;
+mod execution;
+mod kinds;
+mod laws;
+mod memory;
+mod rest;
+mod run;
+mod stable;
+
+pub use api::Api;
+pub use ic_behaviour::{
+    Callback, Controllers, Effects, EntryKind, OutCall, OutCalls, Response, View,
+};
+pub use laws::{entries_are_lawful, executions_keep, host_is_function, replies_keep};
