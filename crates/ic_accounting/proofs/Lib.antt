@@ -14,3 +14,4 @@ pub mod Delivers
 pub mod Counts
 pub mod Trapped
 pub mod Drains
+pub mod Histories
