@@ -69,7 +69,7 @@ impl Execution {
                 args[1],
                 args[2],
             ),
-            SystemCall::MsgReplyDataAppend => self.append_reply(alloc, args[0], args[1], store),
+            SystemCall::MsgReplyDataAppend => self.append_reply(args[0], args[1], store),
             SystemCall::MsgReply => Ok(self.reply(alloc)),
             SystemCall::MsgReject => self.reject(alloc, args[0], args[1], store),
             SystemCall::MsgCyclesAvailable => Ok(amount(self.view.available)),
@@ -88,7 +88,7 @@ impl Execution {
             SystemCall::CanisterCycleBalance => Ok(amount(self.view.balance)),
             SystemCall::CanisterCycleBalance128 => put(store, args[0], self.view.balance),
             SystemCall::CanisterStatus => Ok(HostAnswer::Number(self.view.phase_number as u64)),
-            SystemCall::IsController => self.is_controller(alloc, args[0], args[1], store),
+            SystemCall::IsController => Ok(self.is_controller(args[0], args[1], store)),
             SystemCall::MsgMethodNameSize => Ok(size_of(self.view.method.items.as_bytes())),
             SystemCall::MsgMethodNameCopy => copy(
                 store,
@@ -110,7 +110,7 @@ impl Execution {
                 self.begin_call(alloc, callee, name, callback_of(args), store)
             }
             SystemCall::CallOnCleanup => Ok(self.set_cleanup(args[0] as u32, args[1] as u32)),
-            SystemCall::CallDataAppend => self.append_arg(alloc, args[0], args[1], store),
+            SystemCall::CallDataAppend => self.append_arg(args[0], args[1], store),
             SystemCall::CallCyclesAdd => Ok(self.add_cycles(args[0] as u128)),
             SystemCall::CallCyclesAdd128 => Ok(self.add_cycles(whole(args[0], args[1]))),
             SystemCall::CallPerform => self.perform(),

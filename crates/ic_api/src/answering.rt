@@ -6,7 +6,7 @@ use crate::execution::Execution;
 use crate::memory::{read, refused, text_of};
 use ic_base::NoMemory;
 use ic_behaviour::Response;
-use ic_principal::Bytes;
+use ic_principal::{Bytes, Text};
 use std::alloc::Global;
 use wm_semantics::HostAnswer;
 use wm_store::Store;
@@ -19,7 +19,6 @@ const CANISTER_REJECT: u32 = 4;
 impl Execution {
     pub fn append_reply(
         &mut self,
-        alloc: Global,
         src: u64,
         size: u64,
         store: &Store,
@@ -30,13 +29,13 @@ impl Execution {
         if self.view.responded {
             return Ok(refused());
         }
-        let Some(bytes) = read(alloc, store, src, size)? else {
+        let Some(bytes) = read(store, src, size) else {
             return Ok(refused());
         };
-        if self.appended.items.len() as u128 + bytes.items.len() as u128 > MOST_BYTES {
+        if self.appended.items.len() as u128 + bytes.len() as u128 > MOST_BYTES {
             return Ok(refused());
         }
-        self.appended.items.extend_from_slice(&bytes.items)?;
+        self.appended.items.extend_from_slice(bytes)?;
         Ok(HostAnswer::Nothing)
     }
 
@@ -80,14 +79,17 @@ impl Execution {
         if self.view.responded {
             return Ok(refused());
         }
-        let Some(bytes) = read(alloc, store, src, size)? else {
+        let Some(bytes) = read(store, src, size) else {
             return Ok(refused());
         };
-        if bytes.items.len() as u128 > MOST_BYTES {
+        if bytes.len() as u128 > MOST_BYTES {
             return Ok(refused());
         }
         let Some(message) = text_of(bytes) else {
             return Ok(refused());
+        };
+        let message = Text {
+            items: String::from_str(alloc, message)?,
         };
         self.respond(
             alloc,

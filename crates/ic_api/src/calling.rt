@@ -8,13 +8,13 @@ use crate::execution::Execution;
 use crate::memory::{read, refused, text_of};
 use ic_base::NoMemory;
 use ic_behaviour::{Callback, OutCall};
-use ic_principal::{Bytes, Principal};
+use ic_principal::{Bytes, Principal, Text};
 use std::alloc::Global;
 use wm_semantics::HostAnswer;
 use wm_store::Store;
 
 /// The most bytes of a method's name.
-const LONGEST_NAME: u64 = 20_000;
+const LONGEST_NAME: usize = 20_000;
 
 /// The most calls of a canister that have no answer yet.
 const MOST_CALLS: u64 = 500;
@@ -49,20 +49,23 @@ impl Execution {
         ensures did { Does result self.new (call_new callee.src callee.size name.src name.size callback store.now.lists.memory self.old) }
         ensures same { OnErr result (self.new ≡ self.old) }
     {
-        let Some(id) = read(alloc, store, callee.src, callee.size)? else {
+        let Some(id) = read(store, callee.src, callee.size) else {
             return Ok(refused());
         };
-        let Some(name) = read(alloc, store, name.src, name.size)? else {
+        let Some(name) = read(store, name.src, name.size) else {
             return Ok(refused());
         };
-        let Ok(callee) = Principal::from_bytes(&id.items) else {
+        let Ok(callee) = Principal::from_bytes(id) else {
             return Ok(refused());
         };
-        if name.items.len() as u64 > LONGEST_NAME {
+        if name.len() > LONGEST_NAME {
             return Ok(refused());
         }
         let Some(method) = text_of(name) else {
             return Ok(refused());
+        };
+        let method = Text {
+            items: String::from_str(alloc, method)?,
         };
         self.abandon();
         self.begun = Some(OutCall {
@@ -92,27 +95,21 @@ impl Execution {
         HostAnswer::Nothing
     }
 
-    pub fn append_arg(
-        &mut self,
-        alloc: Global,
-        src: u64,
-        size: u64,
-        store: &Store,
-    ) -> Result<HostAnswer, NoMemory>
+    pub fn append_arg(&mut self, src: u64, size: u64, store: &Store) -> Result<HostAnswer, NoMemory>
         ensures did { Does result self.new (call_data_append src size store.now.lists.memory self.old) }
         ensures same { OnErr result (self.new ≡ self.old) }
     {
         let Some(call) = &self.begun else {
             return Ok(refused());
         };
-        let Some(bytes) = read(alloc, store, src, size)? else {
+        let Some(bytes) = read(store, src, size) else {
             return Ok(refused());
         };
-        if call.arg.items.len() as u128 + bytes.items.len() as u128 > MOST_BYTES {
+        if call.arg.items.len() as u128 + bytes.len() as u128 > MOST_BYTES {
             return Ok(refused());
         }
         if let Some(call) = &mut self.begun {
-            call.arg.items.extend_from_slice(&bytes.items)?;
+            call.arg.items.extend_from_slice(bytes)?;
         }
         Ok(HostAnswer::Nothing)
     }

@@ -1,7 +1,7 @@
 //! Reads and writes of memory, and numbers as answers.
-ghost use Rattle.std.specs.Prelude.{◌≡◌, ◌+◌, ◌*◌, ◌^◌, is_some, IfOk, IfSome};
+ghost use Rattle.std.specs.Prelude.{◌≡◌, ◌+◌, ◌*◌, ◌^◌, true, false, MatchOption, option_copied};
 ghost use Rattle.std.specs.Str.{is_utf8};
-ghost use Rattle.wm_store.specs.Lists.{part};
+ghost use Rattle.wm_store.specs.Lists.{part as bytes_at};
 ghost use Rattle.wm_semantics.specs.declared.trap.Trap.TheVariants as trap;
 ghost use Rattle.wm_semantics.specs.declared.host.HostAnswer.TheVariants as answer;
 ghost use Rattle.ic_api.specs.Did.{Does};
@@ -9,12 +9,8 @@ ghost use Rattle.ic_api.specs.Memory.{writes, source_copy, length_answer, amount
 ghost use Rattle.ic_api.specs.Cycles.{whole as whole_number};
 
 use ic_base::NoMemory;
-use ic_principal::{Bytes, Text};
-use std::alloc::Global;
 use wm_semantics::{HostAnswer, Trap};
 use wm_store::Store;
-
-const PAGE: u128 = 65_536;
 
 /// The trap of a call that is refused.
 pub fn refused() -> HostAnswer
@@ -23,37 +19,21 @@ pub fn refused() -> HostAnswer
     HostAnswer::Trap(Trap::Api)
 }
 
-/// Bytes of memory; none where they pass its end. The end is looked at before memory is taken.
-pub fn read(alloc: Global, store: &Store, src: u64, size: u64) -> Result<Option<Bytes>, NoMemory>
-    ensures { IfOk result (λ read. read ≡ part src size store.now.lists.memory) }
+/// Bytes of a list; none where they pass its end.
+pub fn part(bytes: &[u8], at: u64, size: u64) -> Option<&[u8]>
+    ensures { option_copied result ≡ bytes_at at size bytes.now }
 {
-    if src as u128 + size as u128 > store.pages() as u128 * PAGE {
-        return Ok(None);
+    if at as u128 + size as u128 > bytes.len() as u128 {
+        return None;
     }
-    let mut items = Vec::from_elem(alloc, 0u8, size as usize)?;
-    match store.copy_out(src, &mut items) {
-        Some(()) => Ok(Some(Bytes { items })),
-        None => Ok(None),
-    }
+    Some(&bytes[at as usize..(at + size) as usize])
 }
 
-/// Bytes of stable memory; none where they pass its end.
-pub fn read_stable(
-    alloc: Global,
-    store: &Store,
-    offset: u64,
-    size: u64,
-) -> Result<Option<Bytes>, NoMemory>
-    ensures { IfOk result (λ read. read ≡ part offset size store.now.lists.stable) }
+/// Bytes of memory; none where they pass its end.
+pub fn read(store: &Store, src: u64, size: u64) -> Option<&[u8]>
+    ensures { option_copied result ≡ bytes_at src size store.now.lists.memory }
 {
-    if offset as u128 + size as u128 > store.stable_pages() as u128 * PAGE {
-        return Ok(None);
-    }
-    let mut items = Vec::from_elem(alloc, 0u8, size as usize)?;
-    match store.stable_read(offset, &mut items) {
-        Some(()) => Ok(Some(Bytes { items })),
-        None => Ok(None),
-    }
+    part(store.memory(), src, size)
 }
 
 /// Writes bytes to memory.
@@ -78,14 +58,10 @@ pub fn copy(
     ensures did { Does result store.new.lists (source_copy source.now dst offset size store.old.lists) }
     ensures begun { store.new.begun ≡ store.old.begun }
 {
-    if offset as u128 + size as u128 > source.len() as u128 {
-        return Ok(refused());
+    match part(source, offset, size) {
+        Some(bytes) => write(store, dst, bytes),
+        None => Ok(refused()),
     }
-    write(
-        store,
-        dst,
-        &source[offset as usize..(offset + size) as usize],
-    )
 }
 
 /// Writes the number as sixteen bytes.
@@ -132,12 +108,11 @@ pub fn whole(high: u64, low: u64) -> u128
 }
 
 /// The text that the bytes spell; none where they are no UTF-8.
-pub fn text_of(bytes: Bytes) -> Option<Text>
-    ensures utf8 { is_some result ≡ is_utf8 bytes }
-    ensures text { IfSome result (λ text. text ≡ bytes) }
+pub fn text_of(bytes: &[u8]) -> Option<&str>
+    ensures { MatchOption result (is_utf8 bytes.now ≡ false) (λ text. (text.now ≡ bytes.now) × (is_utf8 bytes.now ≡ true)) }
 {
-    match String::from_utf8(bytes.items) {
-        Ok(items) => Some(Text { items }),
+    match str::from_utf8(bytes) {
+        Ok(text) => Some(text),
         Err(_) => None,
     }
 }

@@ -7,7 +7,7 @@ use crate::execution::Execution;
 use crate::memory::{read, refused, text_of};
 use ic_base::NoMemory;
 use ic_behaviour::EntryKind;
-use ic_principal::Principal;
+use ic_principal::{Bytes, Principal, Text};
 use std::alloc::Global;
 use wm_semantics::{HostAnswer, Trap};
 use wm_store::Store;
@@ -26,23 +26,17 @@ impl Execution {
         }
     }
 
-    pub fn is_controller(
-        &self,
-        alloc: Global,
-        src: u64,
-        size: u64,
-        store: &Store,
-    ) -> Result<HostAnswer, NoMemory>
-        ensures { IfOk result (λ a. a ≡ controller_answer src size store.now.lists.memory self.now) }
+    pub fn is_controller(&self, src: u64, size: u64, store: &Store) -> HostAnswer
+        ensures { result ≡ controller_answer src size store.now.lists.memory self.now }
     {
-        let Some(bytes) = read(alloc, store, src, size)? else {
-            return Ok(refused());
+        let Some(bytes) = read(store, src, size) else {
+            return refused();
         };
-        let Ok(id) = Principal::from_bytes(&bytes.items) else {
-            return Ok(refused());
+        let Ok(id) = Principal::from_bytes(bytes) else {
+            return refused();
         };
         let controls = self.view.controllers.items.contains(&id);
-        Ok(HostAnswer::Number(if controls { 1 } else { 0 }))
+        HostAnswer::Number(if controls { 1 } else { 0 })
     }
 
     pub fn accept_message(&mut self) -> HostAnswer
@@ -68,10 +62,12 @@ impl Execution {
         if size > MOST_CERTIFIED {
             return Ok(refused());
         }
-        let Some(bytes) = read(alloc, store, src, size)? else {
+        let Some(bytes) = read(store, src, size) else {
             return Ok(refused());
         };
-        self.view.certified = bytes;
+        self.view.certified = Bytes {
+            items: Vec::from_slice(alloc, bytes)?,
+        };
         Ok(HostAnswer::Nothing)
     }
 }
@@ -80,14 +76,17 @@ impl Execution {
 pub fn trap(alloc: Global, src: u64, size: u64, store: &Store) -> Result<Trap, NoMemory>
     ensures { IfOk result (λ t. t ≡ trap_with src size store.now.lists.memory) }
 {
-    let Some(bytes) = read(alloc, store, src, size)? else {
+    let Some(bytes) = read(store, src, size) else {
         return Ok(Trap::Api);
     };
-    if bytes.items.len() > LONGEST_MESSAGE {
+    if bytes.len() > LONGEST_MESSAGE {
         return Ok(Trap::Api);
     }
     match text_of(bytes) {
-        Some(message) => Ok(Trap::Explicit(message)),
+        Some(message) => {
+            let items = String::from_str(alloc, message)?;
+            Ok(Trap::Explicit(Text { items }))
+        }
         None => Ok(Trap::Api),
     }
 }
