@@ -1,6 +1,6 @@
 -- The laws of runs.
-use Rattle.std.proofs.Common.{◌≡◌, ℕ, zero, suc, ◌<◌, ◌≤◌, false, ◌⊎◌, List, [], ◌∷◌, ◌++◌, map, length, length-append, slice_get, take, Option, Some, None, is_some, refl, sym, ap, ◌∙◌, subst, arith, inl, inr, true≢false, not-suc-le-zero, MatchOption}
-use Rattle.std.specs.List.{flat_map, list_any}
+use Rattle.std.proofs.Common.{◌≡◌, ℕ, zero, suc, ◌<◌, ◌≤◌, ◌⊎◌, List, [], ◌∷◌, ◌++◌, map, length, length-append, slice_get, Option, Some, None, refl, sym, ap, ◌∙◌, subst, arith, inl, inr, not-suc-le-zero, MatchOption}
+use Rattle.std.specs.List.{flat_map}
 use Rattle.std.proofs.lemmas.Bool.{cases_lt}
 use Rattle.std.proofs.lemmas.List.Sums.{fold-append}
 use Rattle.ic_behaviour.specs.declared.call.CallId.{CallId}
@@ -18,7 +18,9 @@ use Rattle.ic_behaviour.proofs.Weights.{total-append, total-map, total-below, be
 use Rattle.ic_behaviour.proofs.Ties.{tallied, sound as sound_from}
 use Rattle.ic_behaviour.proofs.Changes.{empty_tallied, submitted_tallied, submit_places, timed_tallied}
 use Rattle.ic_accounting.specs.Advances.{ends, Advances}
-use Rattle.ic_accounting.specs.Runs.{Rules, Act, Delivers, Submits, SetsTime, after_act, after, same_way, IsEligible, HasMessage, IsAllowed, AreAllowed, IsAnyRun, state_of, RulesKeep, AnswersCall}
+use Rattle.ic_runs.specs.Steps.{Rules}
+use Rattle.ic_runs.specs.Runs.{Act, Delivers, Submits, SetsTime, after_act, after, HasMessage, IsAllowed, AreAllowed, IsAnyRun, last_state}
+use Rattle.ic_accounting.specs.RulesKeep.{RulesKeep, AnswersCall}
 use Rattle.ic_accounting.proofs.Fills.{total-remove}
 use Rattle.ic_accounting.proofs.Delivers.{deliver_advances, deliver_none}
 
@@ -61,21 +63,6 @@ module _ (rules : Rules) where
 
   split_state : (s : State) (front back : List Act) (id : CallId) → places (after rules s (front ++ back)) id ≡ places (after rules (after rules s front) back) id
   split_state s front back id = ap (λ (u : State). places u id) (fold-append (after_act rules) s front back)
-
-  -- an eligible place has a message
-  has_message : (s : State) (place : ℕ) → IsEligible s place → HasMessage s place
-  has_message s place eligible = by s.messages place (slice_get s.messages place) refl (λ m. list_any (same_way m) (take place s.messages) ≡ false) eligible where
-    by : (ms : List Message) (i : ℕ) (o : Option Message) → slice_get ms i ≡ o → (P : Message → Type 0) → MatchOption o ⊥ P → i < length ms
-    by [] i None e P h = absurd h
-    by [] i (Some m) e P h = absurd (true≢false (sym (ap is_some e)))
-    by (x ∷ ms) zero o e P h = omega arith
-    by (x ∷ ms) (suc i) o e P h = (let inner = by ms i o e P h in omega (arith, inner))
-
-  pub any_allowed : (s : State) (acts : List Act) → AreAllowed IsEligible rules s acts → AreAllowed HasMessage rules s acts
-  any_allowed s [] allowed = tt
-  any_allowed s (Delivers place ∷ acts) allowed = (has_message s place allowed.0, any_allowed (after_act rules s (Delivers place)) acts allowed.1)
-  any_allowed s (Submits sender callee method arg ∷ acts) allowed = (allowed.0, any_allowed (after_act rules s (Submits sender callee method arg)) acts allowed.1)
-  any_allowed s (SetsTime time ∷ acts) allowed = (allowed.0, any_allowed (after_act rules s (SetsTime time)) acts allowed.1)
 
   module _ (keep : RulesKeep rules) where
     delivery : (s : State) (place : ℕ) (m : Message) → Sound s → slice_get s.messages place ≡ Some m → Advances s (after_act rules s (Delivers place)) (callee_of m) (ends m)
@@ -136,13 +123,13 @@ module _ (rules : Rules) where
 
     -- from the empty state
 
-    pub run_sound : (acts : List Act) → IsAnyRun rules acts → Sound (state_of rules acts)
+    pub run_sound : (acts : List Act) → IsAnyRun rules acts → Sound (last_state rules acts)
     run_sound acts run = (all_acted empty acts (sound_from empty empty_tallied) run).sound
 
-    pub run_consecutive : (front middle back : List Act) (id : CallId) → IsAnyRun rules (front ++ (middle ++ back)) → places (state_of rules front) id ≡ 1
-        → places (state_of rules (front ++ (middle ++ back))) id ≡ 1 → places (state_of rules (front ++ middle)) id ≡ 1
+    pub run_consecutive : (front middle back : List Act) (id : CallId) → IsAnyRun rules (front ++ (middle ++ back)) → places (last_state rules front) id ≡ 1
+        → places (last_state rules (front ++ (middle ++ back))) id ≡ 1 → places (last_state rules (front ++ middle)) id ≡ 1
     run_consecutive front middle back id run first last =
-        let s : State = state_of rules front in
+        let s : State = last_state rules front in
         let parts = allowed_parts HasMessage empty front (middle ++ back) run in
         let sound = run_sound front parts.0 in
         let rest = allowed_parts HasMessage s middle back parts.1 in
@@ -160,16 +147,16 @@ module _ (rules : Rules) where
           split_state empty front middle id,
         )
 
-    pub run_ends : (acts : List Act) (act : Act) (id : CallId) → IsAnyRun rules (acts ++ act ∷ []) → places (state_of rules acts) id ≡ 1
-        → places (state_of rules (acts ++ act ∷ [])) id ≡ 0 → (place : ℕ) × (act ≡ Delivers place) × AnswersCall (state_of rules acts) place id
+    pub run_ends : (acts : List Act) (act : Act) (id : CallId) → IsAnyRun rules (acts ++ act ∷ []) → places (last_state rules acts) id ≡ 1
+        → places (last_state rules (acts ++ act ∷ [])) id ≡ 0 → (place : ℕ) × (act ≡ Delivers place) × AnswersCall (last_state rules acts) place id
     run_ends acts act id run first last =
         let parts = allowed_parts HasMessage empty acts (act ∷ []) run in
-        ends_by (state_of rules acts) act (run_sound acts parts.0) parts.1.0 id first (sym (split_state empty acts (act ∷ []) id) ∙ last)
+        ends_by (last_state rules acts) act (run_sound acts parts.0) parts.1.0 id first (sym (split_state empty acts (act ∷ []) id) ∙ last)
 
-    pub run_answered : (front back : List Act) (place : ℕ) (id : CallId) → IsAnyRun rules (front ++ Delivers place ∷ back) → AnswersCall (state_of rules front) place id
-        → (places (state_of rules front) id ≡ 1) × (places (state_of rules (front ++ Delivers place ∷ back)) id ≡ 0)
+    pub run_answered : (front back : List Act) (place : ℕ) (id : CallId) → IsAnyRun rules (front ++ Delivers place ∷ back) → AnswersCall (last_state rules front) place id
+        → (places (last_state rules front) id ≡ 1) × (places (last_state rules (front ++ Delivers place ∷ back)) id ≡ 0)
     run_answered front back place id run answers_call =
-        let s : State = state_of rules front in
+        let s : State = last_state rules front in
         let parts = allowed_parts HasMessage empty front (Delivers place ∷ back) run in
         let sound = run_sound front parts.0 in
         let first = answer_ends s place sound id answers_call in

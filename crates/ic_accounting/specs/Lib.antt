@@ -2,4 +2,4 @@ pub mod EntryKeeps
 pub mod Advances
 pub mod TrapKeeps
 pub mod AllDone
-pub mod Runs
+pub mod RulesKeep

@@ -12,4 +12,4 @@ mod runs;
 pub use laws::{
     absent_keeps, delivery_keeps_counts, delivery_keeps_sound, drained_is_done, trap_keeps,
 };
-pub use runs::{every_call_in_a_run, every_run, run_is_any_run};
+pub use runs::{every_call_in_a_run, every_run};

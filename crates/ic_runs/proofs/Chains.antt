@@ -13,14 +13,14 @@ use Rattle.std.proofs.lemmas.List.Kept.{IsStrictlySortedBy-filter}
 use Rattle.ic_behaviour.specs.declared.call.Message.{Message}
 use Rattle.ic_behaviour.specs.State.{at, callee_of, State}
 use Rattle.ic_behaviour.proofs.Weights.{laws, at-self, at-is, at-back}
-use Rattle.ic_runs.specs.Steps.{Rules, step, sender_of, same_way, Eligible, along, AreEligible}
+use Rattle.ic_runs.specs.Steps.{Rules, step, sender_of, same_way, IsEligible, along, AreEligible}
 use Rattle.ic_runs.specs.Round.{goes, sweep, first_phase, second_phase, round, turns, busy, has_message, first_for}
 use Rattle.ic_runs.proofs.Lists.{First, first, first_place, slice_get_at, take_front, remove_at, any_stays}
 use Rattle.ic_runs.proofs.Delivers.{is_there, there_by_keys, Left, deliver_left}
 
 -- ---- the second phase
 
-goes_eligible : (s : State) (place : ℕ) → goes s place (slice_get s.messages place) ≡ true → Eligible s place
+goes_eligible : (s : State) (place : ℕ) → goes s place (slice_get s.messages place) ≡ true → IsEligible s place
 goes_eligible s place go = found (slice_get s.messages place) go where
   found : (o : Option Message) → goes s place o ≡ true → MatchOption o ⊥ (λ m. list_any (same_way m) (take place s.messages) ≡ false)
   found None go = cc
@@ -68,7 +68,7 @@ module _ (rules : Rules) (s : State) (key : List ℕ) (there : is_there s key) (
       let differs : at (callee_of m) (callee_of x) ≡ false = at-back (callee_of x) (callee_of m) (laws.symm (callee_of x) (callee_of m) ∙ sym (laws.congr key (callee_of m) (callee_of x) is) ∙ parts.0) in
       or_from _ _ (and_right (at (sender_of m) (sender_of x)) (at (callee_of m) (callee_of x)) differs) (found_none front m parts.1 is)
 
-  found_eligible : Eligible s (first_for key s.messages)
+  found_eligible : IsEligible s (first_for key s.messages)
   found_eligible =
       let none : list_any (same_way found.it) (take (first_for key s.messages) s.messages) ≡ false =
       rw (found_place, found.whole, take_front) (found_none found.front found.it found.none_before found.passes) in

@@ -3,8 +3,8 @@ use Rattle.std.proofs.Common.{◌≡◌, ◌<◌, ℕ, suc, zero, List, [], ◌�
 use Rattle.std.specs.Prelude.{slice_get, MatchOption}
 use Rattle.ic_behaviour.specs.State.{State}
 use Rattle.ic_behaviour.specs.Submitted.{empty}
-use Rattle.ic_runs.specs.Steps.{Rules, step, Eligible, along, AreEligible}
-use Rattle.ic_runs.specs.Runs.{Act, Delivers, Submits, SetsTime, after_act, after, AllowedWhere, AreAllowed, AllStates, AllDeliveries, OfDelivery, IsRun, IsAnyRun}
+use Rattle.ic_runs.specs.Steps.{Rules, step, IsEligible, along, AreEligible}
+use Rattle.ic_runs.specs.Runs.{Act, Delivers, Submits, SetsTime, after_act, after, IsAllowed, AreAllowed, AllStates, AllDeliveries, OfDelivery, HasMessage, IsRun, IsAnyRun}
 
 pub along-append : (rules : Rules) (s : State) (xs ys : List ℕ) → along rules s (xs ++ ys) ≡ along rules (along rules s xs) ys
 along-append rules s [] ys = refl
@@ -15,7 +15,7 @@ pub after_delivers : (rules : Rules) (s : State) (places : List ℕ) → after r
 after_delivers rules s [] = refl
 after_delivers rules s (place ∷ places) = after_delivers rules (step rules s place) places
 
-pub delivers_allowed : (rules : Rules) (s : State) (places : List ℕ) → AreEligible rules s places → AreAllowed Eligible rules s (map Delivers places)
+pub delivers_allowed : (rules : Rules) (s : State) (places : List ℕ) → AreEligible rules s places → AreAllowed IsEligible rules s (map Delivers places)
 delivers_allowed rules s [] eligible = tt
 delivers_allowed rules s (place ∷ places) eligible = (eligible.0, delivers_allowed rules (step rules s place) places eligible.1)
 
@@ -34,18 +34,18 @@ within [] place P h = absurd h
 within (x ∷ xs) zero P h = omega arith
 within (x ∷ xs) (suc place) P h = omega (arith, within xs place P h)
 
-any_act : (s : State) (act : Act) → AllowedWhere Eligible s act → AllowedWhere (λ t place. place < length t.messages) s act
+any_act : (s : State) (act : Act) → IsAllowed IsEligible s act → IsAllowed HasMessage s act
 any_act s (Delivers place) allowed = within s.messages place _ allowed
 any_act s (Submits sender callee method arg) allowed = allowed
 any_act s (SetsTime time) allowed = allowed
 
-pub any_allowed : (rules : Rules) (s : State) (acts : List Act) → AreAllowed Eligible rules s acts → AreAllowed (λ t place. place < length t.messages) rules s acts
+pub any_allowed : (rules : Rules) (s : State) (acts : List Act) → AreAllowed IsEligible rules s acts → AreAllowed HasMessage rules s acts
 any_allowed rules s [] allowed = tt
 any_allowed rules s (act ∷ acts) allowed = (any_act s act allowed.0, any_allowed rules (after_act rules s act) acts allowed.1)
 
 -- what the first state has and every allowed act keeps, each state has
 pub all_states : (P : State → Type 0) (may : State → ℕ → Type 0) (rules : Rules)
-    → ((s : State) (act : Act) → P s → AllowedWhere may s act → P (after_act rules s act))
+    → ((s : State) (act : Act) → P s → IsAllowed may s act → P (after_act rules s act))
     → (s : State) (acts : List Act) → P s → AreAllowed may rules s acts → AllStates P rules s acts
 all_states P may rules keeps s [] here allowed = here
 all_states P may rules keeps s (act ∷ acts) here allowed =

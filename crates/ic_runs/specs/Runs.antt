@@ -3,7 +3,7 @@ use Rattle.std.specs.Prelude.{ℕ, ◌<◌, ◌≤◌, ◌^◌, List, [], ◌∷
 use Rattle.std.specs.List.{fold}
 use Rattle.ic_behaviour.specs.State.{State}
 use Rattle.ic_behaviour.specs.Submitted.{empty, submitted, timed}
-use Rattle.ic_runs.specs.Steps.{Rules, step, Eligible}
+use Rattle.ic_runs.specs.Steps.{Rules, step, IsEligible}
 
 -- the message at a place is delivered, a user calls, or time goes on
 pub data Act : Type 0 where
@@ -20,23 +20,26 @@ abbrev pub after : Rules → State → List Act → State
 after rules s acts = fold (after_act rules) s acts
 
 -- a message may be delivered where its place passes the test, a user may call below 2^20 requests, and time does not go back
-abbrev pub AllowedWhere : (may : State → ℕ → Type 0) → State → Act → Type 0
-AllowedWhere may s (Delivers place) = may s place
-AllowedWhere may s (Submits sender callee method arg) = length s.requests < 2 ^ 20
-AllowedWhere may s (SetsTime time) = (s.time ≤ time) × (time ≤ 9223372036854775807)
+abbrev pub IsAllowed : (may : State → ℕ → Type 0) → State → Act → Type 0
+IsAllowed may s (Delivers place) = may s place
+IsAllowed may s (Submits sender callee method arg) = length s.requests < 2 ^ 20
+IsAllowed may s (SetsTime time) = (s.time ≤ time) × (time ≤ 9223372036854775807)
 
 -- each act is allowed in its turn
 abbrev pub AreAllowed : (may : State → ℕ → Type 0) → Rules → State → List Act → Type 0
 AreAllowed may rules s [] = Unit {0}
-AreAllowed may rules s (act ∷ acts) = AllowedWhere may s act × AreAllowed may rules (after_act rules s act) acts
+AreAllowed may rules s (act ∷ acts) = IsAllowed may s act × AreAllowed may rules (after_act rules s act) acts
 
 -- in a run each message is delivered after those of its sender to its callee
 abbrev pub IsRun : Rules → List Act → Type 0
-IsRun rules acts = AreAllowed Eligible rules empty acts
+IsRun rules acts = AreAllowed IsEligible rules empty acts
+
+abbrev pub HasMessage : State → (place : ℕ) → Type 0
+HasMessage s place = place < length s.messages
 
 -- any message of the list may be delivered: this covers every order that the specification allows
 abbrev pub IsAnyRun : Rules → List Act → Type 0
-IsAnyRun rules acts = AreAllowed (λ s place. place < length s.messages) rules empty acts
+IsAnyRun rules acts = AreAllowed HasMessage rules empty acts
 
 abbrev pub last_state : Rules → List Act → State
 last_state rules acts = after rules empty acts

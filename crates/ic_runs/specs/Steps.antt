@@ -28,8 +28,8 @@ abbrev pub same_way : Message → Message → Bool
 same_way m other = at (sender_of m) (sender_of other) && at (callee_of m) (callee_of other)
 
 -- there is a message at this place, and no earlier one has its sender and its callee
-abbrev pub Eligible : State → (place : ℕ) → Type 0
-Eligible s place = MatchOption (slice_get s.messages place) ⊥ (λ m. list_any (same_way m) (take place s.messages) ≡ false)
+abbrev pub IsEligible : State → (place : ℕ) → Type 0
+IsEligible s place = MatchOption (slice_get s.messages place) ⊥ (λ m. list_any (same_way m) (take place s.messages) ≡ false)
 
 -- the messages at these places are delivered, each in the state as it then is
 abbrev pub along : Rules → State → (places : List ℕ) → State
@@ -38,4 +38,4 @@ along rules s places = fold (step rules) s places
 -- each place is eligible in its turn
 abbrev pub AreEligible : Rules → State → (places : List ℕ) → Type 0
 AreEligible rules s [] = Unit {0}
-AreEligible rules s (place ∷ places) = Eligible s place × AreEligible rules (step rules s place) places
+AreEligible rules s (place ∷ places) = IsEligible s place × AreEligible rules (step rules s place) places

@@ -1,6 +1,6 @@
 use Rattle.ic_behaviour.proofs.Ties.{tallied}
 use Rattle.ic_behaviour.specs.Submitted.{empty}
-use Rattle.ic_accounting.specs.Runs.{HasMessage, state_of}
+use Rattle.ic_runs.specs.Runs.{HasMessage, last_state}
 use Rattle.ic_accounting.proofs.Drains.{drained_done}
 use Rattle.ic_accounting.proofs.Histories.{allowed_parts, run_sound}
 use Rattle.ic_accounting.proofs.runs.every_run.Goals as goal
@@ -15,4 +15,4 @@ pub returns-clause-cycles : goal.returns-clause-cycles
 returns-clause-cycles c = λ rules acts keep run. (run_sound rules keep acts run).cycles.conserved
 
 pub returns-clause-done : goal.returns-clause-done
-returns-clause-done c = λ rules acts keep run drained. drained_done (state_of rules acts) (tallied (state_of rules acts) (run_sound rules keep acts run)) drained
+returns-clause-done c = λ rules acts keep run drained. drained_done (last_state rules acts) (tallied (last_state rules acts) (run_sound rules keep acts run)) drained
