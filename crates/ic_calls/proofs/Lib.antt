@@ -1,0 +1,4 @@
+pub mod Splits
+pub mod Keeps
+pub mod Opens
+pub mod Receives
