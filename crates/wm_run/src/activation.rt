@@ -1,4 +1,4 @@
-use crate::spot::Layout;
+use crate::spot::{Exit, Layout};
 use wm_semantics::Ended;
 
 /// A function that runs, or waits for the one that it called.
@@ -11,6 +11,13 @@ pub(crate) struct Activation {
     pub(crate) place: usize,
     /// The place on the stack behind its topmost operand.
     pub(crate) top: usize,
+}
+
+/// Where a body was left, and why.
+#[derive(Clone, Copy)]
+pub(crate) struct Halt {
+    pub(crate) why: Exit,
+    pub(crate) at: Activation,
 }
 
 /// What comes after a body was left.

@@ -8,7 +8,7 @@ ghost use Rattle.wm_run.specs.Agree.{none_answers, alone_at};
 ghost use Rattle.wm_run.specs.Activations.{CanEnter, Entered, IsRoom, Stopped, Follows, Pays, trapped_by};
 
 use crate::activation::{Activation, Next};
-use crate::stack::lay;
+use crate::stack::{Stacks, lay};
 use ic_base::NoMemory;
 use wm_numeric::Failure;
 use wm_semantics::{Ended, Meter, Trap};
@@ -56,21 +56,25 @@ pub(crate) fn trap_of(failure: Failure) -> Trap
 #[inline(always)]
 pub(crate) fn enter(
     valid: &Valid,
-    stack: &mut Vec<u64>,
-    callers: &mut Vec<Activation>,
+    stacks: &mut Stacks,
     here: Activation,
     function: u32,
 ) -> Result<Next, NoMemory>
-    requires can { CanEnter valid.now function here.top stack.old.items }
+    requires can { CanEnter valid.now function here.top stacks.old.operands.items }
     requires short { here.place < 2 ^ 63 }
     ensures { IfOk result (λ next. (code : Flat) → slice_get valid.now.codes function ≡ Some code
-        → Entered (nat_le 512 (suc (length (reverse callers.old.items)))) code.frame function here (reverse callers.old.items) (reverse callers.new.items) stack.old.items stack.new.items next) }
+        → Entered (nat_le 512 (suc (length (reverse stacks.old.callers.items)))) code.frame function here (reverse stacks.old.callers.items) (reverse stacks.new.callers.items) stacks.old.operands.items stacks.new.operands.items next) }
 {
-    if callers.len() + 1 >= DEPTH {
+    if stacks.callers.len() + 1 >= DEPTH {
         return Ok(trapped(Trap::Depth));
     }
-    let called = lay(stack, frame_of(valid, function), function, here.top)?;
-    callers.push(Activation {
+    let called = lay(
+        &mut stacks.operands,
+        frame_of(valid, function),
+        function,
+        here.top,
+    )?;
+    stacks.callers.push(Activation {
         place: here.place + 1,
         top: called.layout.locals,
         ..here
@@ -81,16 +85,15 @@ pub(crate) fn enter(
 /// Calls a defined function.
 pub(crate) fn call(
     valid: &Valid,
-    stack: &mut Vec<u64>,
-    callers: &mut Vec<Activation>,
+    stacks: &mut Stacks,
     meter: &mut Meter,
     here: Activation,
     function: u32,
 ) -> Result<Next, NoMemory>
-    requires stopped { (s : Lists) × (c : Config) × Stopped valid.now here (reverse callers.old.items) stack.old.items s meter.old.used c (op.Call function) }
+    requires stopped { (s : Lists) × (c : Config) × Stopped valid.now here (reverse stacks.old.callers.items) stacks.old.operands.items s meter.old.used c (op.Call function) }
     requires short { here.place < 2 ^ 63 }
-    ensures follows { IfOk result (λ next. (s : Lists) (c : Config) → Stopped valid.now here (reverse callers.old.items) stack.old.items s meter.old.used c (op.Call function)
-        → Follows none_answers valid.now meter.old.limit (alone_at s meter.old.used c) next (reverse callers.new.items) stack.new.items tt s meter.new.used) }
+    ensures follows { IfOk result (λ next. (s : Lists) (c : Config) → Stopped valid.now here (reverse stacks.old.callers.items) stacks.old.operands.items s meter.old.used c (op.Call function)
+        → Follows none_answers valid.now meter.old.limit (alone_at s meter.old.used c) next (reverse stacks.new.callers.items) stacks.new.operands.items tt s meter.new.used) }
     ensures limit { meter.new.limit ≡ meter.old.limit }
     ensures paid { IfOk result (λ next. Pays next meter.old.used meter.new.used) }
     ensures rises { meter.old.used ≤ meter.new.used }
@@ -98,5 +101,5 @@ pub(crate) fn call(
     if !meter.charge(1) {
         return Ok(trapped(Trap::Limit));
     }
-    enter(valid, stack, callers, here, function)
+    enter(valid, stacks, here, function)
 }

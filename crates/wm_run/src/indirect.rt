@@ -1,4 +1,4 @@
-ghost use Rattle.std.specs.Prelude.{◌≡◌, ◌+◌, ◌-◌, ◌≤◌, ◌<◌, ◌^◌, reverse, length, slice_get, IfOk};
+ghost use Rattle.std.specs.Prelude.{◌≡◌, ◌+◌, ◌-◌, ◌≤◌, ◌<◌, ◌^◌, ℕ, reverse, length, slice_get, IfOk};
 ghost use Rattle.wm_typing.specs.declared.op.Op.TheVariants as op;
 ghost use Rattle.wm_valid.specs.Bodies.{hosts_of};
 ghost use Rattle.wm_semantics.specs.Configs.{Config};
@@ -9,8 +9,9 @@ ghost use Rattle.wm_run.specs.Callees.{callee_of};
 use crate::activation::{Activation, Callee, Next};
 use crate::calls::{enter, trapped};
 use crate::hosts::ask;
-use crate::stack::topmost;
+use crate::stack::{Stacks, topmost};
 use crate::table::look_up;
+use crate::word::number_at;
 use ic_base::NoMemory;
 use wm_semantics::{Host, Meter, Trap};
 use wm_store::Store;
@@ -34,22 +35,20 @@ pub(crate) fn callee(valid: &Valid, function: u32) -> Callee
     }
 }
 
-/// Calls the function at the place of the table that the topmost operand names, by the type of that
-/// index.
+/// Calls the function at the place of the table that the topmost operand names, by the type whose index
+/// stands in the word.
 pub(crate) fn call_indirect<H: Host>(
     valid: &Valid,
-    stack: &mut Vec<u64>,
-    callers: &mut Vec<Activation>,
+    stacks: &mut Stacks,
     store: &mut Store,
     host: &mut H,
     meter: &mut Meter,
     here: Activation,
-    index: u32,
 ) -> Result<Next, NoMemory>
-    requires stopped { (c : Config) × Stopped valid.now here (reverse callers.old.items) stack.old.items store.old.lists meter.old.used c (op.CallIndirect index) }
+    requires stopped { (c : Config) × (index : ℕ) × Stopped valid.now here (reverse stacks.old.callers.items) stacks.old.operands.items store.old.lists meter.old.used c (op.CallIndirect index) }
     requires short { here.place < 2 ^ 63 }
-    ensures follows { IfOk result (λ next. (c : Config) → Stopped valid.now here (reverse callers.old.items) stack.old.items store.old.lists meter.old.used c (op.CallIndirect index)
-        → Follows H.answers valid.now meter.old.limit (state host.old store.old.lists meter.old.used c) next (reverse callers.new.items) stack.new.items host.new store.new.lists meter.new.used) }
+    ensures follows { IfOk result (λ next. (c : Config) (index : ℕ) → Stopped valid.now here (reverse stacks.old.callers.items) stacks.old.operands.items store.old.lists meter.old.used c (op.CallIndirect index)
+        → Follows H.answers valid.now meter.old.limit (state host.old store.old.lists meter.old.used c) next (reverse stacks.new.callers.items) stacks.new.operands.items host.new store.new.lists meter.new.used) }
     ensures begun { store.new.begun ≡ store.old.begun }
     ensures limit { meter.new.limit ≡ meter.old.limit }
     ensures paid { IfOk result (λ next. Pays next meter.old.used meter.new.used) }
@@ -58,15 +57,16 @@ pub(crate) fn call_indirect<H: Host>(
     if !meter.charge(1) {
         return Ok(trapped(Trap::Limit));
     }
-    let place = topmost(stack.as_slice(), here.top);
+    let index = number_at(valid, here);
+    let place = topmost(stacks.operands.as_slice(), here.top);
     let below = Activation {
         top: here.top - 1,
         ..here
     };
     match look_up(valid, store.table(), index, place) {
         Ok(function) => match callee(valid, function) {
-            Callee::Own(number) => enter(valid, stack, callers, below, number),
-            Callee::Host(number) => ask(stack, store, host, meter, below, number),
+            Callee::Own(number) => enter(valid, stacks, below, number),
+            Callee::Host(number) => ask(&mut stacks.operands, store, host, meter, below, number),
         },
         Err(trap) => Ok(trapped(trap)),
     }

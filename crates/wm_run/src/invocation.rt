@@ -1,4 +1,4 @@
-ghost use Rattle.std.specs.Prelude.{◌≡◌, ◌≤◌, ℕ, Some, IfOk};
+ghost use Rattle.std.specs.Prelude.{◌≡◌, ◌≤◌, ℕ, [], Some, IfOk};
 ghost use Rattle.wm_valid.specs.IsValid.{Validated};
 ghost use Rattle.wm_store.specs.Lists.{HoldsBytes};
 ghost use Rattle.wm_store.specs.Fits.{Fits};
@@ -11,7 +11,7 @@ use crate::activation::Callee;
 use crate::calls::frame_of;
 use crate::indirect::callee;
 use crate::machine::run;
-use crate::stack::lay;
+use crate::stack::{Stacks, lay};
 use crate::table::look_up_callback;
 use ic_base::NoMemory;
 use std::alloc::Global;
@@ -44,31 +44,30 @@ fn call_alone<H: Host>(
     }
 }
 
-/// Runs a function that gives nothing, and takes one i32 at most.
+/// Runs a function that gives nothing, and takes one i32 at most, which is the only operand.
 fn run_function<H: Host>(
-    alloc: Global,
     valid: &Valid,
+    stacks: Stacks,
     store: &mut Store,
     host: &mut H,
     meter: &mut Meter,
     function: u32,
-    args: Vec<u64>,
 ) -> Result<Ended, NoMemory>
-    requires first { IsFirst valid.now store.old.lists function args.items }
-    ensures ends { IfOk result (λ ended. EndsIn H.answers valid.now meter.old.limit host.old store.old.lists meter.old.used function args.items (outcome ended host.new store.new.lists meter.new.used)) }
+    requires first { IsFirst valid.now store.old.lists function stacks.operands.items }
+    requires alone { stacks.callers.items ≡ [] }
+    ensures ends { IfOk result (λ ended. EndsIn H.answers valid.now meter.old.limit host.old store.old.lists meter.old.used function stacks.operands.items (outcome ended host.new store.new.lists meter.new.used)) }
     ensures begun { store.new.begun ≡ store.old.begun }
     ensures limit { meter.new.limit ≡ meter.old.limit }
     ensures rises { meter.old.used ≤ meter.new.used }
 {
     match callee(valid, function) {
         Callee::Own(number) => {
-            let mut stack = args;
-            let top = stack.len();
-            let first = lay(&mut stack, frame_of(valid, number), number, top)?;
-            let mut callers = Vec::new(alloc);
-            run(valid, &mut stack, &mut callers, store, host, meter, first)
+            let mut stacks = stacks;
+            let top = stacks.operands.len();
+            let first = lay(&mut stacks.operands, frame_of(valid, number), number, top)?;
+            run(valid, &mut stacks, store, host, meter, first)
         }
-        Callee::Host(number) => call_alone(args.as_slice(), store, host, meter, number),
+        Callee::Host(number) => call_alone(stacks.operands.as_slice(), store, host, meter, number),
     }
 }
 
@@ -91,14 +90,18 @@ fn run_target<H: Host>(
     let _module = valid.module();
     match target {
         Target::Function(function) => {
-            let args = Vec::new(alloc);
-            run_function(alloc, valid, store, host, meter, function, args)
+            let operands = Vec::new(alloc);
+            let callers = Vec::new(alloc);
+            let stacks = Stacks { operands, callers };
+            run_function(valid, stacks, store, host, meter, function)
         }
         Target::Element { index, env } => match look_up_callback(valid, store.table(), index) {
             Ok(function) => {
-                let mut args = Vec::new(alloc);
-                args.push(u64::from(env))?;
-                run_function(alloc, valid, store, host, meter, function, args)
+                let mut operands = Vec::new(alloc);
+                operands.push(u64::from(env))?;
+                let callers = Vec::new(alloc);
+                let stacks = Stacks { operands, callers };
+                run_function(valid, stacks, store, host, meter, function)
             }
             Err(trap) => Ok(Ended::Trapped(trap)),
         },

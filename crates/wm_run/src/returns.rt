@@ -7,37 +7,31 @@ ghost use Rattle.wm_run.specs.Activations.{Stopped, Follows, Drops, Pays};
 
 use crate::activation::{Activation, Next};
 use crate::calls::{frame_of, trapped};
-use crate::stack::leave;
+use crate::stack::{Stacks, leave};
 use wm_semantics::{Meter, Trap};
 use wm_valid::Valid;
 
 /// Leaves the function behind the last word of its body.
-pub(crate) fn finish(
-    valid: &Valid,
-    stack: &mut Vec<u64>,
-    callers: &mut Vec<Activation>,
-    here: Activation,
-) -> Next
-    requires stopped { (s : Lists) × (used : ℕ) × (c : Config) × Stopped valid.now here (reverse callers.old.items) stack.old.items s used c op.Finish }
-    ensures follows { (s : Lists) (used limit : ℕ) (c : Config) → used ≤ limit → Stopped valid.now here (reverse callers.old.items) stack.old.items s used c op.Finish
-        → Follows none_answers valid.now limit (alone_at s used c) result (reverse callers.new.items) stack.new.items tt s used }
-    ensures drops { Drops result (length callers.old.items) (length callers.new.items) }
+pub(crate) fn finish(valid: &Valid, stacks: &mut Stacks, here: Activation) -> Next
+    requires stopped { (s : Lists) × (used : ℕ) × (c : Config) × Stopped valid.now here (reverse stacks.old.callers.items) stacks.old.operands.items s used c op.Finish }
+    ensures follows { (s : Lists) (used limit : ℕ) (c : Config) → used ≤ limit → Stopped valid.now here (reverse stacks.old.callers.items) stacks.old.operands.items s used c op.Finish
+        → Follows none_answers valid.now limit (alone_at s used c) result (reverse stacks.new.callers.items) stacks.new.operands.items tt s used }
+    ensures drops { Drops result (length stacks.old.callers.items) (length stacks.new.callers.items) }
 {
     let gives = frame_of(valid, here.function).result;
-    leave(stack, callers, here.top, gives)
+    leave(stacks, here.top, gives)
 }
 
 /// Leaves the function at a `return`.
 pub(crate) fn return_early(
     valid: &Valid,
-    stack: &mut Vec<u64>,
-    callers: &mut Vec<Activation>,
+    stacks: &mut Stacks,
     meter: &mut Meter,
     here: Activation,
 ) -> Next
-    requires stopped { (s : Lists) × (c : Config) × Stopped valid.now here (reverse callers.old.items) stack.old.items s meter.old.used c op.Return }
-    ensures follows { (s : Lists) (c : Config) → Stopped valid.now here (reverse callers.old.items) stack.old.items s meter.old.used c op.Return
-        → Follows none_answers valid.now meter.old.limit (alone_at s meter.old.used c) result (reverse callers.new.items) stack.new.items tt s meter.new.used }
+    requires stopped { (s : Lists) × (c : Config) × Stopped valid.now here (reverse stacks.old.callers.items) stacks.old.operands.items s meter.old.used c op.Return }
+    ensures follows { (s : Lists) (c : Config) → Stopped valid.now here (reverse stacks.old.callers.items) stacks.old.operands.items s meter.old.used c op.Return
+        → Follows none_answers valid.now meter.old.limit (alone_at s meter.old.used c) result (reverse stacks.new.callers.items) stacks.new.operands.items tt s meter.new.used }
     ensures limit { meter.new.limit ≡ meter.old.limit }
     ensures paid { Pays result meter.old.used meter.new.used }
     ensures rises { meter.old.used ≤ meter.new.used }
@@ -46,5 +40,5 @@ pub(crate) fn return_early(
         return trapped(Trap::Limit);
     }
     let gives = frame_of(valid, here.function).result;
-    leave(stack, callers, here.top, gives)
+    leave(stacks, here.top, gives)
 }

@@ -22,7 +22,7 @@ returns-in-Function-clause-outcome g c =
     if_ok c.run_function.result _ _ (λ ended e.
     subst (λ (t : Target). Invokes g.H.Host.answers v.module limit host s used t (outcome ended r.host r.store.lists r.meter.used)) (sym c.in-Function.is)
     (function_invokes v c.module-module.ensures.valid s c.requires.fits c.requires.bytes g.H.Host.answers limit host used (outcome ended r.host r.store.lists r.meter.used) f
-    (subst (λ (ns : List ℕ). EndsIn g.H.Host.answers v limit host s used f ns (outcome ended r.host r.store.lists r.meter.used)) c.new-args.ensures.items e))) c.run_function.ensures.ends
+    (subst (λ (ns : List ℕ). EndsIn g.H.Host.answers v limit host s used f ns (outcome ended r.host r.store.lists r.meter.used)) c.new-operands.ensures.items e))) c.run_function.ensures.ends
 
 pub returns-in_ok-push-in-Ok-clause-outcome : goal.returns-in_ok-push-in-Ok-clause-outcome
 returns-in_ok-push-in-Ok-clause-outcome g c =
@@ -37,7 +37,7 @@ returns-in_ok-push-in-Ok-clause-outcome g c =
     let r = c.run_function-in-Ok.new in
     let found : FoundBy (look_up v.module s.table callback_type i) (Ok f) = subst (λ (ts : List (Option ℕ)). FoundBy (look_up v.module ts callback_type i) (Ok f)) c.table.ensures c.in-Ok.ensures in
     let args : c.push.new.self.items ≡ env ∷ [] =
-    c.in_ok-push-in-Ok.ensures.items ∙ ap (λ (xs : List ℕ). xs ++ (c.from.result ∷ [])) c.new-args-in-Ok.ensures.items ∙ ap (λ (k : ℕ). k ∷ []) c.from.ensures in
+    c.in_ok-push-in-Ok.ensures.items ∙ ap (λ (xs : List ℕ). xs ++ (c.from.result ∷ [])) c.new-operands-in-Ok.ensures.items ∙ ap (λ (k : ℕ). k ∷ []) c.from.ensures in
     if_ok c.run_function-in-Ok.result _ _ (λ ended e.
     subst (λ (t : Target). Invokes g.H.Host.answers v.module limit host s used t (outcome ended r.host r.store.lists r.meter.used)) (sym c.in-Element.is)
     (element_invokes v c.module-module.ensures.valid s c.requires.fits c.requires.bytes g.H.Host.answers limit host used (outcome ended r.host r.store.lists r.meter.used) i env f found
