@@ -1,4 +1,4 @@
-use crate::spot::{Exit, Layout};
+use crate::registers::{Exit, Layout};
 use wm_semantics::Ended;
 
 /// A function that runs, or waits for the one that it called.

@@ -8,7 +8,7 @@ ghost use Rattle.wm_run.specs.Agree.{none_answers, alone_at};
 ghost use Rattle.wm_run.specs.Activations.{CanEnter, Entered, IsRoom, Stopped, Follows, Pays, trapped_by};
 
 use crate::activation::{Activation, Next};
-use crate::stack::{Stacks, lay};
+use crate::stack::{Stacks, push_frame};
 use ic_base::NoMemory;
 use wm_numeric::Failure;
 use wm_semantics::{Ended, Meter, Trap};
@@ -68,7 +68,7 @@ pub(crate) fn enter(
     if stacks.callers.len() + 1 >= DEPTH {
         return Ok(trapped(Trap::Depth));
     }
-    let called = lay(
+    let called = push_frame(
         &mut stacks.operands,
         frame_of(valid, function),
         function,

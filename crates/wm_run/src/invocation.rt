@@ -11,7 +11,7 @@ use crate::activation::Callee;
 use crate::calls::frame_of;
 use crate::indirect::callee;
 use crate::machine::run;
-use crate::stack::{Stacks, lay};
+use crate::stack::{Stacks, push_frame};
 use crate::table::look_up_callback;
 use ic_base::NoMemory;
 use std::alloc::Global;
@@ -64,7 +64,7 @@ fn run_function<H: Host>(
         Callee::Own(number) => {
             let mut stacks = stacks;
             let top = stacks.operands.len();
-            let first = lay(&mut stacks.operands, frame_of(valid, number), number, top)?;
+            let first = push_frame(&mut stacks.operands, frame_of(valid, number), number, top)?;
             run(valid, &mut stacks, store, host, meter, first)
         }
         Callee::Host(number) => call_alone(stacks.operands.as_slice(), store, host, meter, number),

@@ -4,6 +4,7 @@
 mod activation;
 mod calls;
 mod code;
+mod dispatch;
 mod entry;
 mod frame;
 mod growth;
@@ -12,11 +13,10 @@ mod indirect;
 mod invocation;
 mod machine;
 mod ranges;
+mod registers;
 mod returns;
-mod spot;
 mod stack;
 mod table;
-mod turn;
 mod word;
 
 pub use entry::{entry_target, start_target};

@@ -9,7 +9,7 @@ ghost use Rattle.wm_run.specs.Ranges.{op_of_range, range_written};
 
 use crate::activation::{Activation, Next};
 use crate::calls::{trap_of, trapped};
-use crate::spot::Range;
+use crate::registers::Range;
 use crate::stack::operand;
 use ic_base::NoMemory;
 use wm_numeric::Failure;

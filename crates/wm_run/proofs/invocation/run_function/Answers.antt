@@ -12,8 +12,8 @@ use Rattle.wm_run.proofs.invocation.run_function.Goals as goal
 pub frame_of-requires : goal.frame_of-requires
 frame_of-requires g c = there c.args.valid.now c.args.store.now.lists c.args.function c.args.stacks.operands.items c.requires.first c.in-Own.number c.in-Own.ensures
 
-pub lay-requires-clause-arguments : goal.lay-requires-clause-arguments
-lay-requires-clause-arguments g c =
+pub push_frame-requires-clause-arguments : goal.push_frame-requires-clause-arguments
+push_frame-requires-clause-arguments g c =
     omega (
       arith,
       c.len-top.ensures,
@@ -21,8 +21,8 @@ lay-requires-clause-arguments g c =
       params_there c.args.valid.now c.args.store.now.lists c.args.function c.args.stacks.operands.items c.requires.first c.in-Own.number c.in-Own.ensures c.frame_of.result c.frame_of.ensures,
     )
 
-pub lay-requires-clause-locals : goal.lay-requires-clause-locals
-lay-requires-clause-locals g c =
+pub push_frame-requires-clause-locals : goal.push_frame-requires-clause-locals
+push_frame-requires-clause-locals g c =
     params_fit c.args.valid.now c.args.store.now.lists c.args.function c.args.stacks.operands.items c.requires.first c.in-Own.number c.in-Own.ensures c.frame_of.result c.frame_of.ensures
 
 pub run-requires : goal.run-requires
@@ -33,7 +33,7 @@ run-requires g c =
     let args = c.args.stacks.operands.items in
     let n = c.in-Own.number in
     let b = c.in_ok-first-in-Own.first in
-    let stack = c.lay.new.stack.items in
+    let stack = c.push_frame.new.stack.items in
     let used = c.args.meter.now.used in
     let top : c.len-top.result ≡ length args = omega (arith, c.len-top.ensures, c.args.stacks.operands.ok.0) in
     record {
@@ -64,7 +64,7 @@ returns-in_ok-first-in-Own-clause-ends g c =
     let args = c.args.stacks.operands.items in
     let n = c.in-Own.number in
     let b = c.in_ok-first-in-Own.first in
-    let stack = c.lay.new.stack.items in
+    let stack = c.push_frame.new.stack.items in
     let used = c.args.meter.now.used in
     let limit = c.args.meter.now.limit in
     let host = c.args.host.now in
