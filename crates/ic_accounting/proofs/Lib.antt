@@ -15,3 +15,4 @@ pub mod Counts
 pub mod Trapped
 pub mod Drains
 pub mod Histories
+pub mod Systems

@@ -26,7 +26,8 @@ use Rattle.ic_behaviour.specs.Local.{on_answer}
 use Rattle.ic_behaviour.specs.Deliver.{filled, routed}
 use Rattle.ic_behaviour.proofs.Weights.{same_id-is}
 use Rattle.std.specs.Option.{is_some}
-use Rattle.ic_accounting.specs.EntryKeeps.{EntryKeeps, EntriesKeep, refund_of}
+use Rattle.ic_accounting.specs.EntryKeeps.{EntryKeeps, EntriesKeep}
+use Rattle.ic_api.specs.IsRecord.{refund_of}
 use Rattle.ic_accounting.proofs.Amid.{Scene}
 use Rattle.ic_accounting.proofs.Works.{At, Fits, left, split, amid_applied}
 

@@ -10,7 +10,7 @@ use Rattle.std.proofs.lemmas.List.Sums.{fold-append}
 use Rattle.std.proofs.lemmas.Grind.{flat_map-append}
 use Rattle.ic_behaviour.specs.declared.call.Origin.TheVariants as origin
 use Rattle.ic_accounting.proofs.Amid.{Amid, Scene, amid_burned, amid_dropped, amid_performed, amid_released, amid_responded, amid_shifted}
-use Rattle.ic_accounting.specs.EntryKeeps.{refund_of}
+use Rattle.ic_api.specs.IsRecord.{refund_of}
 use Rattle.ic_behaviour.specs.Closing.{response_for, charge, empty_reply, finished, is_open, phase_after, rejected, released, releases}
 use Rattle.ic_behaviour.specs.Counted.{CountedCanister}
 use Rattle.ic_behaviour.specs.Deliver.{filled, filled_by, routed, routed_by}

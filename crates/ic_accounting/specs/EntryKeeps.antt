@@ -1,5 +1,5 @@
 -- What code keeps when it is entered, whatever it is (IC Interface Specification, "Abstract Canisters"): it makes and loses no cycles, and answers once.
-use Rattle.std.specs.Prelude.{◌≡◌, ℕ, ◌+◌, ◌≤◌, true, [], Option, Some, None, length}
+use Rattle.std.specs.Prelude.{◌≡◌, ℕ, ◌+◌, ◌≤◌, true, [], Some, None, length}
 use Rattle.wm_store.specs.Lists.{Lists}
 use Rattle.wm_semantics.specs.declared.target.Target.{Target}
 use Rattle.ic_behaviour.specs.declared.call.Response.{Response}
@@ -11,10 +11,7 @@ use Rattle.ic_behaviour.specs.declared.execution.Effects.{Effects}
 use Rattle.ic_behaviour.specs.Totals.{total}
 use Rattle.ic_behaviour.specs.State.{Code}
 use Rattle.ic_behaviour.specs.Outcomes.{Returns, Enters}
-
-abbrev pub refund_of : Option (Response × ℕ) → ℕ
-refund_of None = 0
-refund_of (Some answer) = answer.1
+use Rattle.ic_api.specs.IsRecord.{refund_of}
 
 -- the effects, at what was seen
 pub record EntryKeeps (k : EntryKind) (v : View) (e : Effects) : Type 0 where

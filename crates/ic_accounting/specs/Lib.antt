@@ -3,3 +3,4 @@ pub mod Advances
 pub mod TrapKeeps
 pub mod AllDone
 pub mod RulesKeep
+pub mod System
