@@ -77,8 +77,9 @@ fn try_row(
     let asked = ask_row(rt, &mut machine, row, kind, may, limit);
     let runs = may && limit >= row.charge;
     let left = if runs { row.left } else { UNTOUCHED };
+    asked?;
     check_end(rt, row.call, machine, &left);
-    asked
+    Ok(())
 }
 
 fn try_row_in_kinds(rt: &impl Abort, alloc: Global, row: &Row) -> Result<(), NoMemory> {
