@@ -2,3 +2,4 @@ pub mod Splits
 pub mod Keeps
 pub mod Opens
 pub mod Receives
+pub mod Sends
