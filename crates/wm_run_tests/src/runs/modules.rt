@@ -20,6 +20,9 @@ static BEFORE: [Section; 6] = [
 
 static TABLE: Section = (9, b"\x01\x00\x41\x01\x0b\x03\x01\x04\x03");
 
+// One data segment is counted before the codes.
+static DATA_COUNT: Section = (12, b"\x01");
+
 static DATA: Section = (
     11,
     b"\x01\x00\x41\x00\x0b\x08\x80\xff\x7f\x01\xfe\x00\x00\x80",
@@ -62,6 +65,7 @@ pub fn module(alloc: Global, begins: u8, body: &[u8]) -> Result<Vec<u8>, NoMemor
     push_section(&mut bytes, 7, &export)?;
     push_section(&mut bytes, 8, &[begins])?;
     push_section(&mut bytes, TABLE.0, TABLE.1)?;
+    push_section(&mut bytes, DATA_COUNT.0, DATA_COUNT.1)?;
     push_section(&mut bytes, 10, &codes(alloc, body)?)?;
     push_section(&mut bytes, DATA.0, DATA.1)?;
     Ok(bytes)
