@@ -25,7 +25,8 @@ use Rattle.cd_types.specs.IsTable.{names_inside, has_funcs, is_well_formed, is_t
 use Rattle.cd_codec.specs.declared.codes.Kind.{Kind}
 use Rattle.cd_codec.specs.declared.codes.Kind.TheVariants as kinds
 use Rattle.cd_codec.specs.Basic.{SpellsCounted}
-use Rattle.cd_codec.specs.Codes.{primitive_named, primitive_code, reference_number, kind_named, kind_code, kind_of}
+use Rattle.cd_types.specs.PrimitiveCode.{primitive_code}
+use Rattle.cd_codec.specs.Codes.{primitive_named, reference_number, kind_named, kind_code, kind_of}
 use Rattle.cd_codec.specs.IsHeader.{magic, SpellsReference, SpellsTypes, SpellsField, SpellsMethod, SpellsBody, SpellsKind, SpellsEntry, SpellsFew, are_inside, IsHeader}
 use Rattle.cd_codec.specs.Spelling.{counted}
 use Rattle.cd_codec.specs.HeaderSpelling.{list_spelling, reference_spelling, field_spelling, method_spelling, kind_spelling, body_spelling, entry_spelling, header_spelling}

@@ -1,6 +1,7 @@
 ghost use Rattle.std.specs.Prelude.{◌≡◌, ◌-◌, ◌^◌, nat_lt, slice_get, option_map, Some, None, pos, negsuc, ◌<ℤ◌, if◌then◌else◌};
 ghost use Rattle.std.specs.Option.{option_flatten};
-ghost use Rattle.cd_codec.specs.Codes.{primitive_numbers, kind_numbers, is_float, primitive_named, reference_named, kind_named, kind_of, primitive_code, reference_number, kind_code};
+ghost use Rattle.cd_types.specs.PrimitiveCode.{primitive_code};
+ghost use Rattle.cd_codec.specs.Codes.{primitive_numbers, kind_numbers, is_float, primitive_named, reference_named, kind_named, kind_of, reference_number, kind_code};
 
 use cd_types::{Entry, Prim, TyRef};
 

@@ -14,7 +14,7 @@ use Rattle.cd_codec.specs.Content.{Content}
 use Rattle.cd_coerce.specs.Missing.{missing}
 use Rattle.cd_coerce.specs.Coerce.{IsReadAs}
 use Rattle.cd_coerce.specs.Read.{Setting, coerced}
-use Rattle.cd_coerce.specs.Place.{setting}
+use Rattle.cd_coerce.specs.Step.{setting}
 use Rattle.cd_coerce.specs.Decodes.{Fits, IsArgument}
 use Rattle.cd_coerce.specs.Decoded.{fits, unfit_from, argument_at, arguments_from}
 

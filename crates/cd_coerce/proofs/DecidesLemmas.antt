@@ -13,7 +13,7 @@ use Rattle.cd_sub.specs.Parts.{verdict}
 use Rattle.cd_sub.specs.PartFree.{is_top, part_free}
 use Rattle.cd_coerce.specs.BelowOutside.{below_outside}
 use Rattle.cd_coerce.specs.Decides.{Decides}
-use Rattle.cd_coerce.specs.Place.{setting}
+use Rattle.cd_coerce.specs.Step.{setting}
 
 by_test : {S : Type 0} (yes : Bool) → (IsTrue yes ↔ S) → ((yes ≡ true) × S) ⊎ ((yes ≡ false) × (S → ⊥))
 by_test true is = inl (refl, is.0 refl)

@@ -13,7 +13,7 @@ use Rattle.cd_coerce.specs.Missing.{missing}
 use Rattle.cd_coerce.specs.Parts.{values_of, field_values, byte_value, items_of, with_fields, under}
 use Rattle.cd_coerce.specs.Coerce.{Coerce, CoerceAll, CoerceFields}
 use Rattle.cd_coerce.specs.Read.{Way, to_reserved, to_opt, to_own, way}
-use Rattle.cd_coerce.proofs.ShapeLemmas.{full_way}
+use Rattle.cd_coerce.proofs.ShapeLemmas.{constituent_way}
 
 -- the levels that a type may add
 abbrev pub room : Way → ℕ
@@ -41,9 +41,9 @@ byte_deep B lower upper (blob s) b t u (w, x, at, is, byte, inl e) = absurd cc
 byte_deep B lower upper (blob s) b t u (w, x, at, is, byte, inr e) = absurd (let k : plain (nat8 b) ≡ list no_content = e.0 in cc)
 byte_deep B lower upper none b t u h = room_least (way (shape upper u))
 byte_deep B lower upper (some r) b t u (w, is, inl (x, y, at, e, below, h)) = absurd cc
-byte_deep B lower upper (some r) b t u (w, is, inr (full, solid, below, h)) =
+byte_deep B lower upper (some r) b t u (w, is, inr (is_it, solid, below, h)) =
     let inner = byte_deep B lower upper r b t w h in
-    let one : room (way (shape upper w)) ≡ 1 = ap room (full_way _ solid) in
+    let one : room (way (shape upper w)) ≡ 1 = ap room (constituent_way _ solid) in
     let two = room_opt (shape upper u) w is in
     omega arith
 byte_deep B lower upper (list rs) b t u (w, x, at, is, other, vs, e, all) = absurd cc
@@ -108,9 +108,9 @@ mutual
       let two = room_opt (shape upper u) w is in
       let one : nesting v ≡ suc (nesting y) = ap nesting e in
       omega arith
-  deep B lower upper (some r) v t u (w, is, inr (full, solid, below, h)) =
+  deep B lower upper (some r) v t u (w, is, inr (is_it, solid, below, h)) =
       let inner = deep B lower upper r v t w h in
-      let one : room (way (shape upper w)) ≡ 1 = ap room (full_way _ solid) in
+      let one : room (way (shape upper w)) ≡ 1 = ap room (constituent_way _ solid) in
       let two = room_opt (shape upper u) w is in
       omega arith
   deep B lower upper (list rs) v t u (w, x, at, is, other, vs, e, all) =

@@ -20,10 +20,10 @@ use Rattle.cd_codec.specs.Plain.{HasShape}
 use Rattle.cd_codec.specs.Wire.{is_nat8, Wire, WireAll, WireParts}
 use Rattle.cd_coerce.specs.Small.{IsSmallPlain, IsSmall, AreSmall, PartsAreSmall}
 use Rattle.cd_coerce.specs.Missing.{missing}
-use Rattle.cd_coerce.specs.Parts.{values_of, field_values, byte_value, is_full, with_fields, under, case_from}
+use Rattle.cd_coerce.specs.Parts.{values_of, field_values, byte_value, is_constituent, with_fields, under, case_from}
 use Rattle.cd_coerce.specs.Coerce.{Coerce, CoerceAll, CoerceFields}
 use Rattle.cd_coerce.specs.Read.{Way, to_reserved, to_opt, to_own, way}
-use Rattle.cd_coerce.proofs.ShapeLemmas.{way_reserved, way_opt, full_way}
+use Rattle.cd_coerce.proofs.ShapeLemmas.{way_reserved, way_opt, constituent_way}
 use Rattle.cd_coerce.proofs.Typed.{nat8_is}
 use Rattle.cd_coerce.proofs.RuleLemmas.{rule_opt, rule_seq, rule_rec, rule_var, rule_nat8, rule_plain, no_empty}
 
@@ -108,14 +108,14 @@ module _ (B Back : TyRef → TyRef → Type 0) (lower upper : List Entry) (decid
       by_way to_own is = own u is below
 
   -- a value that is neither null, reserved nor an opt, at an opt
-  full_opt_reading : (v : Content) (t u w : TyRef) → is_full v ≡ true → shape upper u ≡ compound (Opt w) → ((w : TyRef) → way (shape upper w) ≡ to_own → B t w → Reading t v w)
+  constituent_opt_reading : (v : Content) (t u w : TyRef) → is_constituent v ≡ true → shape upper u ≡ compound (Opt w) → ((w : TyRef) → way (shape upper w) ≡ to_own → B t w → Reading t v w)
       → (m : Bool) → may_miss (shape upper w) ≡ m → B t w ⊎ (B t w → ⊥) → Reading t v u
-  full_opt_reading v t u w is_it is own true e b = (none, (w, is, inr (inr (inr (inr (is_it, λ h. let k : true ≡ false = sym e ∙ h.0 in cc))))))
-  full_opt_reading v t u w is_it is own false e (inl b) = let r = own w (full_way (shape upper w) e) b in (some r.0, (w, is, inr (is_it, e, b, r.1)))
-  full_opt_reading v t u w is_it is own false e (inr not_below) = (none, (w, is, inr (inr (inr (inr (is_it, λ h. not_below h.1))))))
+  constituent_opt_reading v t u w is_it is own true e b = (none, (w, is, inr (inr (inr (inr (is_it, λ h. let k : true ≡ false = sym e ∙ h.0 in cc))))))
+  constituent_opt_reading v t u w is_it is own false e (inl b) = let r = own w (constituent_way (shape upper w) e) b in (some r.0, (w, is, inr (is_it, e, b, r.1)))
+  constituent_opt_reading v t u w is_it is own false e (inr not_below) = (none, (w, is, inr (inr (inr (inr (is_it, λ h. not_below h.1))))))
 
-  full_reading : (v : Content) (t u : TyRef) → is_full v ≡ true → B t u → ((w : TyRef) → way (shape upper w) ≡ to_own → B t w → Reading t v w) → Reading t v u
-  full_reading v t u is_it below own = around v t u below own (λ w is. full_opt_reading v t u w is_it is own (may_miss (shape upper w)) refl (decide t w))
+  constituent_reading : (v : Content) (t u : TyRef) → is_constituent v ≡ true → B t u → ((w : TyRef) → way (shape upper w) ≡ to_own → B t w → Reading t v w) → Reading t v u
+  constituent_reading v t u is_it below own = around v t u below own (λ w is. constituent_opt_reading v t u w is_it is own (may_miss (shape upper w)) refl (decide t w))
 
   -- values without parts
   own_plain : (p : Plain) (t : TyRef) → HasShape p (shape lower t) → IsSmallPlain p → (u : TyRef) → way (shape upper u) ≡ to_own → B t u → Reading t (plain p) u
@@ -128,7 +128,7 @@ module _ (B Back : TyRef → TyRef → Type 0) (lower upper : List Entry) (decid
   plain_reading : (p : Plain) (t : TyRef) → HasShape p (shape lower t) → IsSmallPlain p → (u : TyRef) → B t u → Reading t (plain p) u
   plain_reading null t has small u below = around (plain null) t u below (own_plain null t has small) (λ w is. (none, (w, is, inl refl)))
   plain_reading reserved t has small u below = around (plain reserved) t u below (own_plain reserved t has small) (λ w is. (none, (w, is, inr (inl refl))))
-  plain_reading p t has small u below = full_reading (plain p) t u refl below (own_plain p t has small)
+  plain_reading p t has small u below = constituent_reading (plain p) t u refl below (own_plain p t has small)
 
   -- bytes
   bytes_read : (s : List ℕ) (t u : TyRef) → shape lower t ≡ primitive Nat8 → B t u → (rs : Contents) × CoerceAll B lower upper t (map byte_value s) u rs
@@ -218,7 +218,7 @@ module _ (B Back : TyRef → TyRef → Type 0) (lower upper : List Entry) (decid
     -- what a value is read as
     pub exists : (v : Content) (t : TyRef) (bytes : List ℕ) → Wire lower t v bytes → IsSmall v → (u : TyRef) → B t u → (r : Content) × Coerce B lower upper t v u r
     exists (plain p) t bytes wire small u below = plain_reading p t wire.0 small u below
-    exists (blob s) t bytes wire small u below = full_reading (blob s) t u refl below (own_blob s t wire.0 wire.1 wire.2)
+    exists (blob s) t bytes wire small u below = constituent_reading (blob s) t u refl below (own_blob s t wire.0 wire.1 wire.2)
     exists none t bytes wire small u below =
         around none t u below
         (λ w own b. absurd (rule_opt B Back lower upper (shape lower t) (shape upper w) own wire.0 wire.1 (rules t w b)))
@@ -228,11 +228,11 @@ module _ (B Back : TyRef → TyRef → Type 0) (lower upper : List Entry) (decid
         (λ w own b. absurd (rule_opt B Back lower upper (shape lower t) (shape upper w) own wire.0 wire.1 (rules t w b)))
         (λ w is. some_reading v t wire.0 u w wire.1 is (λ w b. exists v wire.0 wire.2 wire.4 small w b) (decide wire.0 w))
     exists (list vs) t bytes wire small u below =
-        full_reading (list vs) t u refl below (own_list vs t wire.0 wire.4 wire.1 wire.2 wire.7 (λ y b. exists_all vs wire.0 wire.4 wire.7 small y b))
+        constituent_reading (list vs) t u refl below (own_list vs t wire.0 wire.4 wire.1 wire.2 wire.7 (λ y b. exists_all vs wire.0 wire.4 wire.7 small y b))
     exists (record_of ps) t bytes wire small u below =
-        full_reading (record_of ps) t u refl below (own_record ps t wire.0 bytes wire.1 wire.2 (exists_fields ps wire.0 bytes wire.2 small))
+        constituent_reading (record_of ps) t u refl below (own_record ps t wire.0 bytes wire.1 wire.2 (exists_fields ps wire.0 bytes wire.2 small))
     exists (variant i v) t bytes wire small u below =
-        full_reading (variant i v) t u refl below (own_variant i v t wire.0 wire.2 wire.1 wire.3 (λ w b. exists v wire.2.1 wire.5 wire.8 small w b))
+        constituent_reading (variant i v) t u refl below (own_variant i v t wire.0 wire.2 wire.1 wire.3 (λ w b. exists v wire.2.1 wire.5 wire.8 small w b))
 
     exists_all : (vs : Contents) (t : TyRef) (bytes : List ℕ) → WireAll lower t vs bytes → AreSmall vs → (u : TyRef) → B t u → (rs : Contents) × CoerceAll B lower upper t (values_of vs) u rs
     exists_all no_content t bytes wire small u below = (no_content, refl)

@@ -3,7 +3,7 @@ pub mod Found
 pub mod Only
 pub mod Deep
 pub mod Typed
-pub mod PlaceLemmas
+pub mod StepLemmas
 pub mod TableLemmas
 pub mod DecidesLemmas
 mod FloatLemmas

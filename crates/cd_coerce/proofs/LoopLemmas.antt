@@ -8,8 +8,8 @@ use Rattle.ic_base.specs.declared.read_error.ReadError.{ReadError}
 use Rattle.ic_base.specs.declared.read_error.ReadError.TheVariants.{NoMemory, Refused}
 use Rattle.ic_base.specs.Gives.{Fails}
 use Rattle.cd_coerce.specs.Read.{Setting}
-use Rattle.cd_coerce.specs.Place.{each_by}
-use Rattle.cd_coerce.proofs.PlaceLemmas.{Tables, in_tables}
+use Rattle.cd_coerce.specs.Step.{each_by}
+use Rattle.cd_coerce.proofs.StepLemmas.{Tables, in_tables}
 
 -- the list at a place
 at_place : {A : Type 0} (xs : List A) (i : ℕ) (d : A) → i < length xs → drop i xs ≡ get_or xs i d ∷ drop (i + 1) xs

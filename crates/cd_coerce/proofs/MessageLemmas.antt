@@ -21,10 +21,10 @@ use Rattle.cd_codec.proofs.ValueAgain.{values_again}
 use Rattle.cd_coerce.specs.declared.fault.DidlFault.{DidlFault}
 use Rattle.cd_coerce.specs.declared.fault.DidlFault.TheVariants.{NotHeader, Float, NotSubtype, BadValue, NoMemory}
 use Rattle.cd_coerce.specs.Read.{Setting}
-use Rattle.cd_coerce.specs.Place.{setting}
+use Rattle.cd_coerce.specs.Step.{setting}
 use Rattle.cd_coerce.specs.Decodes.{Headed, Fits, IsArgument, Decodes, FitBefore, IsLeastUnfit, HasFault}
-use Rattle.cd_coerce.specs.Decoded.{fits, unfit_from, argument_at, arguments_from, or_bad, values_read, if_fit, message_read, header_read, decoded, Answers}
-use Rattle.cd_coerce.proofs.PlaceLemmas.{Tables, in_tables}
+use Rattle.cd_coerce.specs.Decoded.{fits, unfit_from, argument_at, arguments_from, or_bad, values_read, if_fit, message_read, header_read, decoded, IsAnswer}
+use Rattle.cd_coerce.proofs.StepLemmas.{Tables, in_tables}
 use Rattle.cd_coerce.proofs.FloatLemmas.{begins_wide}
 use Rattle.cd_coerce.proofs.ArgumentLemmas.{Decided, Reads, fits_found, fits_only, unfit_found, unfit_only, argument_found, argument_only, all_found, all_only, first_found, first_only, arguments_found, arguments_only}
 
@@ -293,20 +293,20 @@ header_answers bytes table types size header =
     ap (header_at false) (sym (take-append-drop size bytes)) ∙ (header_exact false).again (table, types) (take size bytes) (drop size bytes) header
 
 -- no values are read
-pub bad_values : (c : Setting) (types expected : List TyRef) (bytes : List ℕ) → ((values : List Content) → AreValues c.lower types values bytes → ⊥) → values_read c types expected bytes ≡ err BadValue
+pub bad_values : (c : Setting) (types expected : List TyRef) (bytes : List ℕ) → ((values : List Content) → AreValues c.wire types values bytes → ⊥) → values_read c types expected bytes ≡ err BadValue
 unfolding values_read
 bad_values c types expected bytes fails =
-    let none : values_at c.lower types bytes ≡ None = none_of (values_at c.lower types bytes) (λ vs e. fails vs (values_found c.lower types bytes vs e)) in
+    let none : values_at c.wire types bytes ≡ None = none_of (values_at c.wire types bytes) (λ vs e. fails vs (values_found c.wire types bytes vs e)) in
     rw none refl
 
 -- the arguments that are read of the values, where the code has the types and values as ts and vs
-pub some_values : (c : Setting) (types ts expected : List TyRef) (bytes : List ℕ) (values vs : List Content) (o : Option (List Content)) → AreValues c.lower types values bytes → ts ≡ types → vs ≡ values
+pub some_values : (c : Setting) (types ts expected : List TyRef) (bytes : List ℕ) (values vs : List Content) (o : Option (List Content)) → AreValues c.wire types values bytes → ts ≡ types → vs ≡ values
     → arguments_from c 0 ts vs expected ≡ o → values_read c types expected bytes ≡ or_bad o
 unfolding values_read
 some_values c types ts expected bytes values vs o are same_types same_values read =
     let args : arguments_from c 0 types values expected ≡ o =
     ap (λ (ts : List TyRef). arguments_from c 0 ts values expected) (sym same_types) ∙ ap (λ (vs : List Content). arguments_from c 0 ts vs expected) (sym same_values) ∙ read in
-    rw (values_again c.lower types values bytes are, args) refl
+    rw (values_again c.wire types values bytes are, args) refl
 
 -- whether the arguments fit
 pub fit_answers : (c : Setting) (types ts expected us : List TyRef) (bytes : List ℕ) (o : Option ℕ) → ts ≡ types → us ≡ expected → o ≡ unfit_from c 0 ts us
@@ -319,12 +319,12 @@ fit_answers c types ts expected us bytes o same_types same_expected is =
 
 -- a message whose arguments fit, where the code has the tables and the expected types as now and us
 pub fit_then : (result : Result Values DidlFault) (before now : Tables) (types ts expected us : List TyRef) (bytes : List ℕ) → now ≡ before → ts ≡ types → us ≡ expected → None ≡ unfit_from (in_tables before) 0 ts us
-    → Answers result (values_read (in_tables now) types us bytes) → Answers result (message_read (in_tables before) types expected bytes)
+    → IsAnswer result (values_read (in_tables now) types us bytes) → IsAnswer result (message_read (in_tables before) types expected bytes)
 fit_then result before now types ts expected us bytes same same_types same_expected fit answer =
     let read : message_read (in_tables before) types expected bytes ≡ values_read (in_tables now) types us bytes =
     fit_answers (in_tables before) types ts expected us bytes None same_types same_expected fit
     ∙ ap (λ (tables : Tables). values_read (in_tables tables) types expected bytes) (sym same) ∙ ap (λ (us : List TyRef). values_read (in_tables now) types us bytes) (sym same_expected) in
-    subst (Answers result) (sym read) answer
+    subst (IsAnswer result) (sym read) answer
 
 -- a message with a header
 pub header_then : (expected : Expected) (bytes : List ℕ) (table : List Entry) (types : List TyRef) (rest : List ℕ) → header_at false bytes ≡ Some ((table, types), rest)
@@ -334,6 +334,6 @@ header_then expected bytes table types rest is = ap (header_read expected bytes)
 
 -- the values of an answer have the expected types
 pub typed_answer : (result : Result Values DidlFault) (expected : Expected) (bytes : List ℕ) → ((rs : List Content) → decoded expected bytes ≡ ok rs → HasTypes expected.0 expected.1 rs)
-    → Answers result (decoded expected bytes) → IfOk result (λ values. HasTypes expected.0 expected.1 (contents values))
+    → IsAnswer result (decoded expected bytes) → IfOk result (λ values. HasTypes expected.0 expected.1 (contents values))
 typed_answer (Ok values) expected bytes typed answer = typed (contents values) answer
 typed_answer (Err fault) expected bytes typed answer = tt

@@ -94,31 +94,31 @@ rule_nat8 B Back lower upper s t is (service ms ns e f all) = absurd (clash t Na
 
 -- ---- values without parts
 
-never_empty : (p : Plain) → has_shape p (primitive Empty) ≡ false
-never_empty null = refl
-never_empty _ = refl
+at_no_type_empty : (p : Plain) → has_shape p (primitive Empty) ≡ false
+at_no_type_empty null = refl
+at_no_type_empty _ = refl
 
 pub no_empty : (p : Plain) → HasShape p (primitive Empty) → ⊥
-no_empty p h = let k : false ≡ true = sym (never_empty p) ∙ shape_had p (primitive Empty) h in cc
+no_empty p h = let k : false ≡ true = sym (at_no_type_empty p) ∙ shape_had p (primitive Empty) h in cc
 
 nat_is : (p : Plain) → HasShape p (primitive Nat) → (n : ℕ) × (p ≡ nat n)
 nat_is (nat n) h = (n, refl)
 nat_is p h = absurd (let k : false ≡ true = shape_had p (primitive Nat) h in cc)
 
-never_seq : (p : Plain) (x : TyRef) → has_shape p (compound (Seq x)) ≡ false
-never_seq null x = refl
-never_seq _ x = refl
+at_no_type_seq : (p : Plain) (x : TyRef) → has_shape p (compound (Seq x)) ≡ false
+at_no_type_seq null x = refl
+at_no_type_seq _ x = refl
 
-never_rec : (p : Plain) (fields : List (ℕ × TyRef)) → has_shape p (compound (Rec fields)) ≡ false
-never_rec null fields = refl
-never_rec _ fields = refl
+at_no_type_rec : (p : Plain) (fields : List (ℕ × TyRef)) → has_shape p (compound (Rec fields)) ≡ false
+at_no_type_rec null fields = refl
+at_no_type_rec _ fields = refl
 
-never_var : (p : Plain) (cases : List (ℕ × TyRef)) → has_shape p (compound (Var cases)) ≡ false
-never_var null cases = refl
-never_var _ cases = refl
+at_no_type_var : (p : Plain) (cases : List (ℕ × TyRef)) → has_shape p (compound (Var cases)) ≡ false
+at_no_type_var null cases = refl
+at_no_type_var _ cases = refl
 
 no_shape : (p : Plain) (s : Shape) (e : Entry) → has_shape p (compound e) ≡ false → s ≡ compound e → HasShape p s → ⊥
-no_shape p s e never is h = let k : false ≡ true = sym never ∙ shape_had p (compound e) (subst (HasShape p) is h) in cc
+no_shape p s e at_no_type is h = let k : false ≡ true = sym at_no_type ∙ shape_had p (compound e) (subst (HasShape p) is h) in cc
 
 func_at : (p : Plain) (args results args' results' : List TyRef) (notes : List ℕ) (s t : Shape) → s ≡ compound (Func args results notes) → t ≡ compound (Func args' results' notes) → HasShape p s → HasShape p t
 func_at (func_value f m) args results args' results' notes s t e is h = (args', results', notes, is)
@@ -136,8 +136,8 @@ rule_plain B Back lower upper s t p own h (nat_int e f) = let n = nat_is p (subs
 rule_plain B Back lower upper s t p own h (reserved f) = absurd (not_reserved t own f)
 rule_plain B Back lower upper s t p own h (empty e) = absurd (no_empty p (subst (HasShape p) e h))
 rule_plain B Back lower upper s t p own h (opt w f) = absurd (not_opt t w own f)
-rule_plain B Back lower upper s t p own h (vec a b e f below) = absurd (no_shape p s (Seq a) (never_seq p a) e h)
-rule_plain B Back lower upper s t p own h (record_of fs gs e f all) = absurd (no_shape p s (Rec fs) (never_rec p fs) e h)
-rule_plain B Back lower upper s t p own h (variant_of fs gs e f all) = absurd (no_shape p s (Var fs) (never_var p fs) e h)
+rule_plain B Back lower upper s t p own h (vec a b e f below) = absurd (no_shape p s (Seq a) (at_no_type_seq p a) e h)
+rule_plain B Back lower upper s t p own h (record_of fs gs e f all) = absurd (no_shape p s (Rec fs) (at_no_type_rec p fs) e h)
+rule_plain B Back lower upper s t p own h (variant_of fs gs e f all) = absurd (no_shape p s (Var fs) (at_no_type_var p fs) e h)
 rule_plain B Back lower upper s t p own h (func args args' results results' notes e f back all) = inl (func_at p args results args' results' notes s t e f h)
 rule_plain B Back lower upper s t p own h (service ms ns e f all) = inl (service_at p ms ns s t e f h)

@@ -1,46 +1,17 @@
 -- what the tests of shapes say
-use Rattle.std.proofs.Common.{◌≡◌, ◌⊎◌, inl, inr, ℕ, Bool, true, false, List, [], ◌∷◌, Option, Some, None, ◌==◌, get_or, refl, sym, ◌∙◌, ap}
-use Rattle.std.proofs.lemmas.Bool.{eqb-true, eq-eqb}
+use Rattle.std.proofs.Common.{◌≡◌, ◌⊎◌, inl, inr, ℕ, Bool, true, false, List, Option, Some, None, refl, sym, ◌∙◌, ap}
+use Rattle.std.proofs.lemmas.Bool.{eq-eqb}
 use Rattle.cd_types.specs.declared.primitive.Primitive.{Primitive}
 use Rattle.cd_types.specs.declared.primitive.Primitive.TheVariants as primitives
 use Rattle.cd_types.specs.declared.entry.TyRef.{TyRef}
 use Rattle.cd_types.specs.declared.entry.Entry.TheVariants.{Opt, Seq, Rec, Var, Func, Service}
 use Rattle.cd_types.specs.Shape.{Shape, primitive, compound, dangling}
 use Rattle.cd_sub.specs.MayMiss.{may_miss}
-use Rattle.cd_sub.specs.PartFree.{code_of}
+use Rattle.cd_types.specs.PrimitiveCode.{primitive_code}
+use Rattle.cd_types.proofs.PrimitiveCodes.{code_same}
 use Rattle.cd_codec.specs.Content.{Content, Plain, null, bool, nat, int, nat8, nat16, nat32, nat64, int8, int16, int32, int64, text, reserved, func, service, principal, none, some}
 use Rattle.cd_codec.specs.Plain.{HasShape}
-use Rattle.cd_coerce.specs.Read.{to_reserved, to_opt, to_own, way, is_primitive, is_func, is_service, has_shape, given, some_if, opt_of, seq_of, fields_of, cases_of}
-
--- the primitive type with a code
-of_code : ℕ → Primitive
-of_code n =
-    get_or
-    (primitives.Null ∷ primitives.Null ∷ primitives.Bool ∷ primitives.Nat ∷ primitives.Int ∷ primitives.Nat8 ∷ primitives.Nat16 ∷ primitives.Nat32 ∷ primitives.Nat64 ∷ primitives.Int8 ∷ primitives.Int16 ∷ primitives.Int32 ∷ primitives.Int64 ∷ primitives.Null ∷ primitives.Null ∷ primitives.Text ∷ primitives.Reserved ∷ primitives.Empty ∷ [])
-    n primitives.Principal
-
-code_back : (p : Primitive) → of_code (code_of p) ≡ p
-unfolding of_code
-code_back primitives.Null = refl
-code_back primitives.Bool = refl
-code_back primitives.Nat = refl
-code_back primitives.Int = refl
-code_back primitives.Nat8 = refl
-code_back primitives.Nat16 = refl
-code_back primitives.Nat32 = refl
-code_back primitives.Nat64 = refl
-code_back primitives.Int8 = refl
-code_back primitives.Int16 = refl
-code_back primitives.Int32 = refl
-code_back primitives.Int64 = refl
-code_back primitives.Text = refl
-code_back primitives.Reserved = refl
-code_back primitives.Empty = refl
-code_back primitives.Principal = refl
-
--- types with one code are one type
-code_same : (p q : Primitive) → (code_of p == code_of q) ≡ true → p ≡ q
-code_same p q e = sym (code_back p) ∙ ap of_code (eqb-true (code_of p) (code_of q) e) ∙ code_back q
+use Rattle.cd_coerce.specs.Read.{to_reserved, to_opt, to_own, way, is_primitive, is_func, is_service, has_shape, if_holds, some_if, opt_of, seq_of, fields_of, cases_of}
 
 pub primitive_is : (p : Primitive) (s : Shape) → is_primitive p s ≡ true → s ≡ primitive p
 primitive_is p (primitive q) e = ap primitive (sym (code_same p q e))
@@ -48,7 +19,7 @@ primitive_is p (compound entry) e = absurd cc
 primitive_is p dangling e = absurd cc
 
 pub is_itself : (p : Primitive) (s : Shape) → s ≡ primitive p → is_primitive p s ≡ true
-is_itself p s e = ap (is_primitive p) e ∙ eq-eqb (code_of p) (code_of p) refl
+is_itself p s e = ap (is_primitive p) e ∙ eq-eqb (primitive_code p) (primitive_code p) refl
 
 func_is : (s : Shape) → is_func s ≡ true → (args results : List TyRef) × (notes : List ℕ) × (s ≡ compound (Func args results notes))
 func_is (compound (Func args results notes)) e = (args, results, notes, refl)
@@ -109,11 +80,11 @@ way_opt (primitive primitives.Reserved) w e = absurd cc
 way_opt _ w e = absurd cc
 
 -- what may not be missing is read by its own rule
-pub full_way : (s : Shape) → may_miss s ≡ false → way s ≡ to_own
-full_way (primitive primitives.Reserved) e = absurd cc
-full_way (primitive primitives.Null) e = absurd cc
-full_way (compound (Opt type)) e = absurd cc
-full_way _ e = refl
+pub constituent_way : (s : Shape) → may_miss s ≡ false → way s ≡ to_own
+constituent_way (primitive primitives.Reserved) e = absurd cc
+constituent_way (primitive primitives.Null) e = absurd cc
+constituent_way (compound (Opt type)) e = absurd cc
+constituent_way _ e = refl
 
 -- a plain value is read by its own rule unless its type is reserved
 pub plain_way : (p : Plain) (s : Shape) → HasShape p s → (way s ≡ to_own) ⊎ ((p ≡ reserved) × (s ≡ primitive primitives.Reserved))
@@ -151,9 +122,9 @@ pub cases_of_is : (s : Shape) (fs : List (ℕ × TyRef)) → cases_of s ≡ Some
 cases_of_is (compound (Var cases)) fs e = let k : cases ≡ fs = cc in ap (λ (x : List (ℕ × TyRef)). compound (Var x)) k
 cases_of_is _ fs e = absurd cc
 
-pub given_is : {A : Type 0} (b : Bool) (x y : A) → given b x ≡ Some y → (b ≡ true) × (x ≡ y)
-given_is true x y e = (refl, cc)
-given_is false x y e = absurd cc
+pub if_holds_is : {A : Type 0} (b : Bool) (x y : A) → if_holds b x ≡ Some y → (b ≡ true) × (x ≡ y)
+if_holds_is true x y e = (refl, cc)
+if_holds_is false x y e = absurd cc
 
 -- either some of what is read, or none
 pub some_if_is : (b : Bool) (read : Option Content) (r : Content) → some_if b read ≡ Some r

@@ -168,7 +168,7 @@ mutual
       let rest = subst AreBytes inner.3 all in
       let out = typed B lower upper few r y x w inner.2 h (subst (λ (x : TyRef). Wire lower x y inner.2) same inner.4) rest.1 in
       (1 ∷ out.0, (w, is, out.0, refl, out.1))
-  typed B lower upper few (some r) v t u bytes (w, is, inr (full, solid, below, h)) wire all =
+  typed B lower upper few (some r) v t u bytes (w, is, inr (is_it, solid, below, h)) wire all =
       let out = typed B lower upper few r v t w bytes h wire all in (1 ∷ out.0, (w, is, out.0, refl, out.1))
   typed B lower upper few (list rs) v t u bytes (w, x, at, is, other, vs, e, more) wire all =
       let items = items_typed lower t w v vs bytes at e wire all in

@@ -16,23 +16,23 @@ use Rattle.cd_codec.specs.Content.{Content, Contents, Parts, none, some}
 use Rattle.cd_codec.specs.View.{value_step, fields_step, values_step, view}
 use Rattle.cd_codec.proofs.Views.{view-None, view-Some}
 use Rattle.cd_coerce.specs.Read.{Setting}
-use Rattle.cd_coerce.specs.Place.{inner_at, parts_at}
+use Rattle.cd_coerce.specs.Step.{inner_at, parts_at}
 
 abbrev Layer : Type 0
 Layer = Value-F Value FieldValues Values
 
 -- the content of a value, by its layer
-abbrev seen_by : Layer → Content
-seen_by f = value_step (map-Value Value FieldValues Values Content Parts Contents (fold-Value Content Parts Contents value_step fields_step values_step) (fold-FieldValues Content Parts Contents value_step fields_step values_step) (fold-Values Content Parts Contents value_step fields_step values_step) f)
+abbrev view_of_layer : Layer → Content
+view_of_layer f = value_step (map-Value Value FieldValues Values Content Parts Contents (fold-Value Content Parts Contents value_step fields_step values_step) (fold-FieldValues Content Parts Contents value_step fields_step values_step) (fold-Values Content Parts Contents value_step fields_step values_step) f)
 
-view_by : (v : Value) → view v ≡ seen_by (out-Value v)
+view_by : (v : Value) → view v ≡ view_of_layer (out-Value v)
 unfolding view
 view_by v = fold_out-Value Content Parts Contents value_step fields_step values_step v
 
 made_of : (v : Value) (f : Layer) → out-Value v ≡ f → v ≡ roll-Value f
 made_of v f e = sym (roll-out-Value v) ∙ ap roll-Value e
 
-no_inner_by : (c : Setting) (v : Value) (t w : TyRef) (f : Layer) → out-Value v ≡ f → ((x : Option (Box Value Global)) → v ≡ values.Opt x → ⊥) → inner_at c (seen_by f) t w ≡ None
+no_inner_by : (c : Setting) (v : Value) (t w : TyRef) (f : Layer) → out-Value v ≡ f → ((x : Option (Box Value Global)) → v ≡ values.Opt x → ⊥) → inner_at c (view_of_layer f) t w ≡ None
 no_inner_by c v t w (layer.Opt x) e other = absurd (other x (made_of v (layer.Opt x) e ∙ rolls-Opt x))
 no_inner_by c v t w _ e other = refl
 
@@ -41,7 +41,7 @@ pub no_inner : (c : Setting) (v : Value) (t w : TyRef) → ((x : Option (Box Val
 no_inner c v t w other = ap (λ (x : Content). inner_at c x t w) (view_by v) ∙ no_inner_by c v t w (out-Value v) refl other
 
 no_parts_by : (c : Setting) (v : Value) (t w : TyRef) (f : Layer) → out-Value v ≡ f → ((x : Bytes) → v ≡ values.Blob x → ⊥) → ((x : Values) → v ≡ values.Seq x → ⊥) → ((x : FieldValues) → v ≡ values.Rec x → ⊥)
-    → ((n : ℕ) (x : Box Value Global) → v ≡ values.Var n x → ⊥) → parts_at c (seen_by f) t w ≡ None
+    → ((n : ℕ) (x : Box Value Global) → v ≡ values.Var n x → ⊥) → parts_at c (view_of_layer f) t w ≡ None
 no_parts_by c v t w (layer.Blob x) e blob list fields case = absurd (blob x (made_of v (layer.Blob x) e ∙ rolls-Blob x))
 no_parts_by c v t w (layer.Seq x) e blob list fields case = absurd (list x (made_of v (layer.Seq x) e ∙ rolls-Seq x))
 no_parts_by c v t w (layer.Rec x) e blob list fields case = absurd (fields x (made_of v (layer.Rec x) e ∙ rolls-Rec x))

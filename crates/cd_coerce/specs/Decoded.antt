@@ -16,11 +16,11 @@ use Rattle.cd_coerce.specs.declared.fault.DidlFault.{DidlFault}
 use Rattle.cd_coerce.specs.declared.fault.DidlFault.TheVariants.{NotHeader, Float, NotSubtype, BadValue, NoMemory}
 use Rattle.cd_coerce.specs.Missing.{missing}
 use Rattle.cd_coerce.specs.Read.{Setting, coerced}
-use Rattle.cd_coerce.specs.Place.{setting}
+use Rattle.cd_coerce.specs.Step.{setting}
 
 -- whether an argument has a subtype, or is missing and may be
 abbrev pub fits : Setting → Option TyRef → TyRef → Bool
-fits c None u = may_miss (shape c.upper u)
+fits c None u = may_miss (shape c.expected u)
 fits c (Some t) u = c.below t u
 
 -- the least expected argument that does not fit; the first is at this place
@@ -30,7 +30,7 @@ unfit_from c place types (u ∷ us) = if fits c (slice_get types place) u then u
 
 -- an argument, read
 abbrev pub argument_at : Setting → Option TyRef → Option Content → TyRef → Option Content
-argument_at c None v u = missing (shape c.upper u)
+argument_at c None v u = missing (shape c.expected u)
 argument_at c (Some t) None u = None
 argument_at c (Some t) (Some v) u = coerced c v t u
 
@@ -46,7 +46,7 @@ or_bad (Some rs) = Ok rs
 
 -- the values of a message whose arguments fit, read
 unfoldable pub values_read : Setting → List TyRef → List TyRef → List ℕ → Result (List Content) DidlFault
-values_read c types expected bytes = or_bad (values_at c.lower types bytes >>= λ values. arguments_from c 0 types values expected)
+values_read c types expected bytes = or_bad (values_at c.wire types bytes >>= λ values. arguments_from c 0 types values expected)
 
 -- the arguments, if all fit
 abbrev pub if_fit : Option ℕ → Result (List Content) DidlFault → Result (List Content) DidlFault
@@ -67,19 +67,19 @@ unfoldable pub decoded : List Entry × List TyRef → List ℕ → Result (List 
 decoded expected bytes = header_read expected bytes (header_at false bytes)
 
 -- the fault is that of the bytes, or memory ran out
-abbrev pub Fails : DidlFault → Result (List Content) DidlFault → Type 0
-Fails NoMemory read = Unit {0}
-Fails NotHeader read = read ≡ Err NotHeader
-Fails Float read = read ≡ Err Float
-Fails (NotSubtype argument) read = read ≡ Err (NotSubtype argument)
-Fails BadValue read = read ≡ Err BadValue
+abbrev pub FailsWith : DidlFault → Result (List Content) DidlFault → Type 0
+FailsWith NoMemory read = Unit {0}
+FailsWith NotHeader read = read ≡ Err NotHeader
+FailsWith Float read = read ≡ Err Float
+FailsWith (NotSubtype argument) read = read ≡ Err (NotSubtype argument)
+FailsWith BadValue read = read ≡ Err BadValue
 
 -- the answer is the header, or the fault of bytes that begin with none
-abbrev pub HeaderAnswers : Result Header DidlFault → List ℕ → Type 0
-HeaderAnswers (Ok header) bytes = (header.length ≤ length bytes) × (header_at false bytes ≡ Some ((header.table, header.types), drop header.length bytes))
-HeaderAnswers (Err fault) bytes = (expected : List Entry × List TyRef) → Fails fault (decoded expected bytes)
+abbrev pub IsHeaderAnswer : Result Header DidlFault → List ℕ → Type 0
+IsHeaderAnswer (Ok header) bytes = (header.length ≤ length bytes) × (header_at false bytes ≡ Some ((header.table, header.types), drop header.length bytes))
+IsHeaderAnswer (Err fault) bytes = (expected : List Entry × List TyRef) → FailsWith fault (decoded expected bytes)
 
 -- the answer is what is decoded, unless memory ran out
-abbrev pub Answers : Result Values DidlFault → Result (List Content) DidlFault → Type 0
-Answers (Ok values) read = read ≡ Ok (contents values)
-Answers (Err fault) read = Fails fault read
+abbrev pub IsAnswer : Result Values DidlFault → Result (List Content) DidlFault → Type 0
+IsAnswer (Ok values) read = read ≡ Ok (contents values)
+IsAnswer (Err fault) read = FailsWith fault read

@@ -27,15 +27,15 @@ pub record Headed (bytes : List ℕ) : Type 0 where
 -- an expected argument of the type u fits the type in the message: that one is a subtype, or is
 -- missing and may be
 abbrev pub Fits : List Entry → List Entry → Option TyRef → TyRef → Type 0
-Fits lower upper None u = IsTrue (may_miss (shape upper u))
-Fits lower upper (Some t) u = Sub lower t upper u
+Fits wire expected None u = IsTrue (may_miss (shape expected u))
+Fits wire expected (Some t) u = Sub wire t expected u
 
 -- an expected argument of the type u is r: read from the value in the message, or what stands for
 -- a missing one
 abbrev pub IsArgument : List Entry → List Entry → Option TyRef → Option Content → TyRef → Content → Type 0
-IsArgument lower upper None v u r = missing (shape upper u) ≡ Some r
-IsArgument lower upper (Some t) None u r = ⊥
-IsArgument lower upper (Some t) (Some v) u r = Sub lower t upper u × IsReadAs lower upper t v u r
+IsArgument wire expected None v u r = missing (shape expected u) ≡ Some r
+IsArgument wire expected (Some t) None u r = ⊥
+IsArgument wire expected (Some t) (Some v) u r = Sub wire t expected u × IsReadAs wire expected t v u r
 
 -- the bytes are a header and then values of its types, and `results` are the arguments read from them
 pub record Decodes (expected : List Entry × List TyRef) (bytes : List ℕ) (results : List Content) : Type 0 where

@@ -4,7 +4,7 @@ pub mod Coerce
 pub mod Read
 pub mod Decides
 pub mod BelowOutside
-pub mod Place
+pub mod Step
 pub mod Decodes
 pub mod Decoded
 pub mod Small

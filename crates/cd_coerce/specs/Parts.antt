@@ -24,17 +24,17 @@ items_of (list vs) = Some (values_of vs)
 items_of _ = None
 
 -- whether a plain value is neither null nor reserved
-abbrev pub is_full_plain : Plain → Bool
-is_full_plain null = false
-is_full_plain reserved = false
-is_full_plain _ = true
+abbrev pub is_plain_constituent : Plain → Bool
+is_plain_constituent null = false
+is_plain_constituent reserved = false
+is_plain_constituent _ = true
 
 -- whether the value is neither null, reserved nor an opt
-abbrev pub is_full : Content → Bool
-is_full (plain p) = is_full_plain p
-is_full none = false
-is_full (some v) = false
-is_full _ = true
+abbrev pub is_constituent : Content → Bool
+is_constituent (plain p) = is_plain_constituent p
+is_constituent none = false
+is_constituent (some v) = false
+is_constituent _ = true
 
 -- the fields of a record type, each with what stands at its place
 abbrev pub with_fields : {A : Type 0} → List (ℕ × TyRef) → List A → List (ℕ × (TyRef × A))

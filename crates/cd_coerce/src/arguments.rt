@@ -1,10 +1,10 @@
 ghost use Rattle.std.specs.Prelude.{◌≡◌, ◌≤◌, IfOk, length, slice_get};
 ghost use Rattle.ic_base.specs.Gives.{Gives};
 ghost use Rattle.cd_codec.specs.View.{view, views};
-ghost use Rattle.cd_coerce.specs.Place.{setting};
+ghost use Rattle.cd_coerce.specs.Step.{setting};
 ghost use Rattle.cd_coerce.specs.Decoded.{fits, unfit_from, argument_at, arguments_from};
 
-use crate::place::Coercion;
+use crate::step::Coercion;
 use cd_codec::Value;
 use cd_sub::may_miss;
 use cd_types::TyRef;

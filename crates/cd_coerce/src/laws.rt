@@ -16,7 +16,7 @@ ghost use Rattle.cd_coerce.specs.declared.fault.DidlFault.{DidlFault};
 ghost use Rattle.cd_coerce.specs.Decodes.{Decodes, HasFault};
 ghost use Rattle.cd_coerce.specs.Decoded.{decoded};
 ghost use Rattle.cd_coerce.specs.Read.{coerced};
-ghost use Rattle.cd_coerce.specs.Place.{setting};
+ghost use Rattle.cd_coerce.specs.Step.{setting};
 ghost use Rattle.cd_coerce.specs.Small.{IsSmall};
 
 use cd_sub::laws::{by_a_rule, decided};
@@ -24,19 +24,19 @@ use cd_sub::laws::{by_a_rule, decided};
 /// A value is read as the one value that the rules of coercion give, if they give one: so they
 /// give at most one.
 pub fn one_reading()
-    ensures { (lower upper : List Entry) (t u : TyRef) (v r : Content) → (coerced (setting lower upper) v t u ≡ Some r) ↔ IsReadAs lower upper t v u r }
+    ensures { (wire expected : List Entry) (t u : TyRef) (v r : Content) → (coerced (setting wire expected) v t u ≡ Some r) ↔ IsReadAs wire expected t v u r }
 {
     decided();
 }
 
 /// What is read nests at most twice as deep and two levels more: 258 for a value of a message.
 pub fn nests_at_most()
-    ensures { (lower upper : List Entry) (t u : TyRef) (v r : Content) → IsReadAs lower upper t v u r → nesting v ≤ 128 → nesting r ≤ 258 }
+    ensures { (wire expected : List Entry) (t u : TyRef) (v r : Content) → IsReadAs wire expected t v u r → nesting v ≤ 128 → nesting r ≤ 258 }
 {}
 
 /// What a value on the wire is read as has the expected type: some bytes spell it at that type.
 pub fn has_the_type()
-    ensures { (lower upper : List Entry) (t u : TyRef) (v r : Content) (bytes : List ℕ) → IsTrue (is_table upper) → AllByRecursion (λ b. b < 256) bytes → Wire lower t v bytes → IsReadAs lower upper t v u r → (out : List ℕ) × Wire upper u r out }
+    ensures { (wire expected : List Entry) (t u : TyRef) (v r : Content) (bytes : List ℕ) → IsTrue (is_table expected) → AllByRecursion (λ b. b < 256) bytes → Wire wire t v bytes → IsReadAs wire expected t v u r → (out : List ℕ) × Wire expected u r out }
 {}
 
 /// What a message decodes to has the expected types.
@@ -48,7 +48,7 @@ pub fn decoded_has_the_types()
 /// 2^127 or more. So a message that has a header, whose arguments fit and whose values are spelled
 /// is refused for such a nat alone.
 pub fn has_a_reading()
-    ensures { (lower upper : List Entry) (t u : TyRef) (v : Content) (bytes : List ℕ) → Wire lower t v bytes → Sub lower t upper u → IsSmall v → (r : Content) × IsReadAs lower upper t v u r }
+    ensures { (wire expected : List Entry) (t u : TyRef) (v : Content) (bytes : List ℕ) → Wire wire t v bytes → Sub wire t expected u → IsSmall v → (r : Content) × IsReadAs wire expected t v u r }
 {
     decided();
     by_a_rule();

@@ -13,10 +13,10 @@ mod expected;
 mod fault;
 pub mod laws;
 mod message;
-mod place;
 mod plain;
 mod reading;
 mod shapes;
+mod step;
 
 pub use expected::Expected;
 pub use fault::DidlFault;

@@ -3,15 +3,15 @@ ghost use Rattle.cd_codec.specs.Content.{Content};
 ghost use Rattle.cd_codec.specs.AreValues.{HasTypes};
 ghost use Rattle.cd_codec.specs.Answers.{contents};
 ghost use Rattle.cd_coerce.specs.declared.fault.DidlFault.{DidlFault};
-ghost use Rattle.cd_coerce.specs.Place.{setting};
+ghost use Rattle.cd_coerce.specs.Step.{setting};
 ghost use Rattle.cd_coerce.specs.Decodes.{Decodes, HasFault};
-ghost use Rattle.cd_coerce.specs.Decoded.{decoded, message_read, values_read, Answers, HeaderAnswers};
+ghost use Rattle.cd_coerce.specs.Decoded.{decoded, message_read, values_read, IsAnswer, IsHeaderAnswer};
 
 use crate::expected::Expected;
 use crate::fault::DidlFault;
 use crate::laws::one_answer;
-use crate::place::Coercion;
 use crate::shapes::well_formed_table;
+use crate::step::Coercion;
 use cd_codec::{Header, HeaderFault, ValueFault, Values, read_header, read_values};
 use cd_types::TyRef;
 use ic_base::ReadError;
@@ -22,7 +22,7 @@ const MAX_VALUES: u32 = 16_777_216;
 
 /// The header of a message, or the fault of bytes that begin with none.
 fn header_of(alloc: Global, bytes: &[u8]) -> Result<Header, DidlFault>
-    ensures { HeaderAnswers result bytes.now }
+    ensures { IsHeaderAnswer result bytes.now }
 {
     match read_header(alloc, bytes) {
         Ok(header) => Ok(header),
@@ -42,7 +42,7 @@ fn values_of(
 ) -> Result<Values, DidlFault>
     requires inside { header.now.length ≤ length bytes.now }
     requires table { coercion.old.0 ≡ header.now.table }
-    ensures { Answers result (values_read (setting coercion.old.0 coercion.old.1) header.now.types expected.now (drop header.now.length bytes.now)) }
+    ensures { IsAnswer result (values_read (setting coercion.old.0 coercion.old.1) header.now.types expected.now (drop header.now.length bytes.now)) }
 {
     match read_values(alloc, header, bytes, header.length) {
         Ok(values) => match coercion.arguments(&header.types.items, &values.items, expected) {
@@ -64,7 +64,7 @@ fn message_of(
     most_values: u32,
 ) -> Result<Values, DidlFault>
     requires { header.now.length ≤ length bytes.now }
-    ensures { Answers result (message_read (setting header.now.table expected.now.0) header.now.types expected.now.1 (drop header.now.length bytes.now)) }
+    ensures { IsAnswer result (message_read (setting header.now.table expected.now.0) header.now.types expected.now.1 (drop header.now.length bytes.now)) }
 {
     let mut coercion = Coercion::new(alloc, &header.table, expected.table(), most_values);
     match coercion.unfit(&header.types.items, expected.types()) {
@@ -81,7 +81,7 @@ fn arguments_of(
     bytes: &[u8],
     most_values: u32,
 ) -> Result<Values, DidlFault>
-    ensures { Answers result (decoded expected.now bytes.now) }
+    ensures { IsAnswer result (decoded expected.now bytes.now) }
 {
     match header_of(alloc, bytes) {
         Ok(header) => message_of(alloc, expected, &header, bytes, most_values),
@@ -98,7 +98,7 @@ pub fn decode_within(
     most_values: u32,
 ) -> Result<Values, DidlFault>
     // The answer is that of a function, unless memory runs out.
-    ensures answer { Answers result (decoded expected.now bytes.now) }
+    ensures answer { IsAnswer result (decoded expected.now bytes.now) }
     // The values have the expected types.
     ensures typed { IfOk result (λ values. HasTypes expected.now.0 expected.now.1 (contents values)) }
 {
@@ -113,7 +113,7 @@ pub fn decode_within(
 /// message that would be read as more than 16,777,216 values, where a `vec nat8` counts as one.
 pub fn decode(alloc: Global, expected: &Expected, bytes: &[u8]) -> Result<Values, DidlFault>
     // The answer is that of a function, unless memory runs out.
-    ensures answer { Answers result (decoded expected.now bytes.now) }
+    ensures answer { IsAnswer result (decoded expected.now bytes.now) }
     // The function gives values exactly where the bytes decode to them,
     ensures decodes { (values : List Content) → (decoded expected.now bytes.now ≡ Ok values) ↔ Decodes expected.now bytes.now values }
     // and each fault exactly where it comes.

@@ -3,60 +3,60 @@ ghost use Rattle.ic_base.specs.Gives.{Gives};
 ghost use Rattle.cd_types.specs.Shape.{shape};
 ghost use Rattle.cd_codec.specs.Content.{plain, nat};
 ghost use Rattle.cd_codec.specs.View.{view};
-ghost use Rattle.cd_coerce.specs.Place.{kind, plain_part, seen, kept};
+ghost use Rattle.cd_coerce.specs.Step.{opt_rule, plain_part, view_within, answer_of_plain};
 
 use crate::shapes::{is_func, is_primitive, is_service};
 use cd_codec::Value;
 use cd_types::{Prim, TyRef, TypeTable};
 use ic_base::ReadError;
 
-/// What the rules for opt tell apart.
+/// Which of the rules for opt takes a value.
 #[derive(Clone, Copy)]
-pub(crate) enum Kind {
+pub(crate) enum OptRule {
     /// null, reserved or none
-    Void,
+    ToNone,
     /// some of a value
     Inner,
     /// any other value
-    Full,
+    Constituent,
 }
 
 #[tactic(auto, using(cd_codec::proofs::Views::layers))]
-pub(crate) fn kind_of(value: &Value) -> Kind
-    ensures { result ≡ kind (view value.now) }
+pub(crate) fn opt_rule_of(value: &Value) -> OptRule
+    ensures { result ≡ opt_rule (view value.now) }
 {
     match value {
-        Value::Null => Kind::Void,
-        Value::Reserved => Kind::Void,
+        Value::Null => OptRule::ToNone,
+        Value::Reserved => OptRule::ToNone,
         Value::Opt(inner) => match inner {
-            None => Kind::Void,
-            Some(_) => Kind::Inner,
+            None => OptRule::ToNone,
+            Some(_) => OptRule::Inner,
         },
-        Value::Bool(_) => Kind::Full,
-        Value::Nat(_) => Kind::Full,
-        Value::Int(_) => Kind::Full,
-        Value::Nat8(_) => Kind::Full,
-        Value::Nat16(_) => Kind::Full,
-        Value::Nat32(_) => Kind::Full,
-        Value::Nat64(_) => Kind::Full,
-        Value::Int8(_) => Kind::Full,
-        Value::Int16(_) => Kind::Full,
-        Value::Int32(_) => Kind::Full,
-        Value::Int64(_) => Kind::Full,
-        Value::Text(_) => Kind::Full,
-        Value::Blob(_) => Kind::Full,
-        Value::Seq(_) => Kind::Full,
-        Value::Rec(_) => Kind::Full,
-        Value::Var { .. } => Kind::Full,
-        Value::Func { .. } => Kind::Full,
-        Value::Service(_) => Kind::Full,
-        Value::Principal(_) => Kind::Full,
+        Value::Bool(_) => OptRule::Constituent,
+        Value::Nat(_) => OptRule::Constituent,
+        Value::Int(_) => OptRule::Constituent,
+        Value::Nat8(_) => OptRule::Constituent,
+        Value::Nat16(_) => OptRule::Constituent,
+        Value::Nat32(_) => OptRule::Constituent,
+        Value::Nat64(_) => OptRule::Constituent,
+        Value::Int8(_) => OptRule::Constituent,
+        Value::Int16(_) => OptRule::Constituent,
+        Value::Int32(_) => OptRule::Constituent,
+        Value::Int64(_) => OptRule::Constituent,
+        Value::Text(_) => OptRule::Constituent,
+        Value::Blob(_) => OptRule::Constituent,
+        Value::Seq(_) => OptRule::Constituent,
+        Value::Rec(_) => OptRule::Constituent,
+        Value::Var { .. } => OptRule::Constituent,
+        Value::Func { .. } => OptRule::Constituent,
+        Value::Service(_) => OptRule::Constituent,
+        Value::Principal(_) => OptRule::Constituent,
     }
 }
 
 /// The value, if its type is the one that is expected.
 fn keep(fits: bool, value: Value) -> Result<Option<Value>, ReadError>
-    ensures { Gives seen result (kept (if fits then Some (view value) else None)) }
+    ensures { Gives view_within result (answer_of_plain (if fits then Some (view value) else None)) }
 {
     if fits {
         Ok(Some(value))
@@ -68,7 +68,7 @@ fn keep(fits: bool, value: Value) -> Result<Option<Value>, ReadError>
 /// A nat at nat, or at int where it is below 2^127.
 #[tactic(auto, using(cd_codec::proofs::Views::layers))]
 fn keep_nat(table: &TypeTable, ty: TyRef, n: u128) -> Result<Option<Value>, ReadError>
-    ensures { Gives seen result (plain_part (plain (nat n)) (shape table.now ty)) }
+    ensures { Gives view_within result (plain_part (plain (nat n)) (shape table.now ty)) }
 {
     if is_primitive(table, ty, Prim::Nat) {
         return Ok(Some(Value::Nat(n)));
@@ -86,7 +86,7 @@ pub(crate) fn plain_of(
     value: &Value,
     ty: TyRef,
 ) -> Result<Option<Value>, ReadError>
-    ensures { Gives seen result (plain_part (view value.now) (shape table.now ty)) }
+    ensures { Gives view_within result (plain_part (view value.now) (shape table.now ty)) }
 {
     match value {
         Value::Null => keep(is_primitive(table, ty, Prim::Null), Value::Null),

@@ -7,12 +7,12 @@ ghost use Rattle.cd_codec.specs.Content.{Content, blob, list, record_of, variant
 ghost use Rattle.cd_codec.specs.View.{view, views, views_of_fields};
 ghost use Rattle.cd_coerce.specs.Parts.{byte_value, under, with_fields, case_from};
 ghost use Rattle.cd_codec.specs.declared.value.Value.{Value};
-ghost use Rattle.cd_coerce.specs.Read.{Readers, readers, empty_blob, field_at, coerced};
+ghost use Rattle.cd_coerce.specs.Read.{Coercions, coercions, empty_blob, field_at, coerced};
 ghost use Rattle.cd_coerce.specs.Missing.{missing};
-ghost use Rattle.cd_coerce.specs.Place.{setting, target, inner_at, parts_at, made, each_by, part_values, expected_at};
+ghost use Rattle.cd_coerce.specs.Step.{setting, target, inner_at, parts_at, made, each_by, part_values, expected_at};
 
-use crate::place::{Coercion, Place, some_read};
 use crate::shapes::{cases_of, fields_of, is_nat8, item_of, missing_value};
+use crate::step::{Coercion, Step, some_read};
 use cd_codec::Value;
 use cd_types::TyRef;
 use ic_base::ReadError;
@@ -28,9 +28,9 @@ impl<'a> Coercion<'a> {
     {
         self.count()?;
         match self.settle(value, t, u)? {
-            Place::Done(done) => Ok(done),
-            Place::Inner(_, _) => Err(ReadError::Refused),
-            Place::Parts(_, _) => Err(ReadError::Refused),
+            Step::Done(done) => Ok(done),
+            Step::Inner(_, _) => Err(ReadError::Refused),
+            Step::Parts(_, _) => Err(ReadError::Refused),
         }
     }
 
@@ -48,7 +48,7 @@ impl<'a> Coercion<'a> {
         ensures tables { self.new ≡ self.old }
         ensures values { Gives (λ vs. views vs.items) result (each_by (λ b. coerced (setting self.old.0 self.old.1) (byte_value b) t u) bytes.now) }
     {
-        let mut items = Vec::new(self.alloc);
+        let mut items = Vec::with_capacity(self.alloc, bytes.len())?;
         for byte in bytes {
             let value = self.byte(*byte, t, u)?;
             items.push(value)?;
@@ -104,7 +104,7 @@ impl<'a> Coercion<'a> {
         ensures tables { self.new ≡ self.old }
         ensures values { Gives (λ vs. views vs.items) result (each_by (λ v. coerced (setting self.old.0 self.old.1) (view v) t u) values.now) }
     {
-        let mut items = Vec::new(self.alloc);
+        let mut items = Vec::with_capacity(self.alloc, values.len())?;
         for value in values {
             let value = self.read(value, t, u)?;
             items.push(value)?;
@@ -156,7 +156,7 @@ impl<'a> Coercion<'a> {
     ) -> Result<Value, ReadError>
         requires { ids_rise_from 0 (map (λ f. f.0) fields.now) ≡ true }
         ensures tables { self.new ≡ self.old }
-        ensures value { Gives view result (field_at (setting self.old.0 self.old.1) (under id (with_fields fields.now (map (readers (setting self.old.0 self.old.1)) (part_values parts.now)))) u) }
+        ensures value { Gives view result (field_at (setting self.old.0 self.old.1) (under id (with_fields fields.now (map (coercions (setting self.old.0 self.old.1)) (part_values parts.now)))) u) }
     {
         match find(fields, id) {
             Some((place, t)) => match parts.get(place) {
@@ -179,7 +179,7 @@ impl<'a> Coercion<'a> {
         ensures tables { self.new ≡ self.old }
         ensures values { Gives (λ vs. views_of_fields vs.items) result (each_by (expected_at (setting self.old.0 self.old.1) fields.now (part_values parts.now)) expected.now) }
     {
-        let mut items = Vec::new(self.alloc);
+        let mut items = Vec::with_capacity(self.alloc, expected.len())?;
         for (id, ty) in expected {
             let value = self.field(fields, parts, *id, *ty)?;
             items.push((*id, value))?;
@@ -208,8 +208,8 @@ impl<'a> Coercion<'a> {
     {
         self.count()?;
         match self.settle(value, t, u)? {
-            Place::Done(done) => Ok(done),
-            Place::Inner(x, w) => match value {
+            Step::Done(done) => Ok(done),
+            Step::Inner(x, w) => match value {
                 Value::Opt(inner) => match inner {
                     Some(part) => {
                         let read = self.read(part, x, w);
@@ -219,7 +219,7 @@ impl<'a> Coercion<'a> {
                 },
                 _ => Err(ReadError::Refused),
             },
-            Place::Parts(w, lift) => match value {
+            Step::Parts(w, lift) => match value {
                 Value::Blob(bytes) => {
                     let read = self.blob(&bytes.items, t, w);
                     self.wrap(lift, read)
@@ -255,7 +255,7 @@ fn find(fields: &[(u32, TyRef)], id: u32) -> Option<(usize, TyRef)>
 
 /// An empty blob, for a list without items.
 fn no_bytes(alloc: Global, values: &[Value]) -> Result<Value, ReadError>
-    ensures { (readers : Value → Readers) → Gives view result (empty_blob (map readers values.now)) }
+    ensures { (coercions : Value → Coercions) → Gives view result (empty_blob (map coercions values.now)) }
 {
     match values {
         [] => Ok(Value::of_bytes(Vec::new(alloc))),

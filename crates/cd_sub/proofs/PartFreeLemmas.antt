@@ -1,46 +1,18 @@
 -- the rules without parts are the test for them
-use Rattle.std.proofs.Common.{◌≡◌, ℕ, Bool, true, false, ◌&&◌, ◌||◌, List, [], ◌∷◌, get_or, refl, sym, ◌∙◌, ap, ◌==◌}
-use Rattle.std.proofs.lemmas.Bool.{eqb-true, eq-eqb}
+use Rattle.std.proofs.Common.{◌≡◌, Bool, true, false, ◌&&◌, ◌||◌, List, refl, sym, ◌∙◌, ap, ◌==◌}
+use Rattle.std.proofs.lemmas.Bool.{eq-eqb}
 use Rattle.std.proofs.Math.Bool.{or-true}
 use Rattle.cd_types.specs.declared.primitive.Primitive.{Primitive}
-use Rattle.cd_types.specs.declared.primitive.Primitive.TheVariants.{Null, Bool as BoolType, Nat, Int, Nat8, Nat16, Nat32, Nat64, Int8, Int16, Int32, Int64, Text, Reserved, Empty, Principal}
+use Rattle.cd_types.specs.declared.primitive.Primitive.TheVariants.{Nat, Int, Reserved, Empty}
 use Rattle.cd_types.specs.declared.entry.TyRef.{TyRef}
 use Rattle.cd_types.specs.declared.entry.Entry.{Entry}
 use Rattle.cd_types.specs.declared.entry.Entry.TheVariants.{Opt, Seq, Rec, Var, Func, Service}
+use Rattle.cd_types.specs.PrimitiveCode.{primitive_code}
+use Rattle.cd_types.proofs.PrimitiveCodes.{code_same}
 use Rattle.cd_types.specs.Shape.{Shape, primitive, compound, dangling}
 use Rattle.cd_sub.specs.Rule.{Rule, same, nat_int, reserved, empty, opt, vec, record_of, variant_of, func, service}
-use Rattle.cd_sub.specs.PartFree.{code_of, primitive_below, is_top, part_free}
+use Rattle.cd_sub.specs.PartFree.{primitive_below, is_top, part_free}
 use Rattle.cd_types.proofs.FaultLemmas.{both_true}
-
--- the primitive type with a code
-of_code : ℕ → Primitive
-of_code n =
-    get_or
-    (Null ∷ Null ∷ BoolType ∷ Nat ∷ Int ∷ Nat8 ∷ Nat16 ∷ Nat32 ∷ Nat64 ∷ Int8 ∷ Int16 ∷ Int32 ∷ Int64 ∷ Null ∷ Null ∷ Text ∷ Reserved ∷ Empty ∷ [])
-    n Principal
-
-code_back : (p : Primitive) → of_code (code_of p) ≡ p
-unfolding of_code
-code_back Null = refl
-code_back BoolType = refl
-code_back Nat = refl
-code_back Int = refl
-code_back Nat8 = refl
-code_back Nat16 = refl
-code_back Nat32 = refl
-code_back Nat64 = refl
-code_back Int8 = refl
-code_back Int16 = refl
-code_back Int32 = refl
-code_back Int64 = refl
-code_back Text = refl
-code_back Reserved = refl
-code_back Empty = refl
-code_back Principal = refl
-
--- types with one code are one type
-code_same : (p q : Primitive) → (code_of p == code_of q) ≡ true → p ≡ q
-code_same p q e = sym (code_back p) ∙ ap of_code (eqb-true (code_of p) (code_of q) e) ∙ code_back q
 
 -- one of two tests holds
 either : {G : Type 0} (a b : Bool) → (a || b) ≡ true → (a ≡ true → G) → (b ≡ true → G) → G
@@ -61,13 +33,13 @@ top_up Below Above lower upper s dangling e = cc
 -- what passes the test is below by a rule
 pub part_free_up : (Below Above : TyRef → TyRef → Type 0) (lower upper : List Entry) (s t : Shape) → part_free s t ≡ true → Rule Below Above lower upper s t
 part_free_up Below Above lower upper (primitive p) (primitive q) e =
-    either (code_of q == 16) _ e (λ e. reserved (ap primitive (code_same q Reserved e)))
-    (λ e. either (code_of p == 17) _ e (λ e. empty (ap primitive (code_same p Empty e)))
-    (λ e. either ((code_of p == 3) && (code_of q == 4)) _ e
-    (λ e. let parts = both_true (code_of p == 3) (code_of q == 4) e in nat_int (ap primitive (code_same p Nat parts.0)) (ap primitive (code_same q Int parts.1)))
+    either (primitive_code q == 15) _ e (λ e. reserved (ap primitive (code_same q Reserved e)))
+    (λ e. either (primitive_code p == 16) _ e (λ e. empty (ap primitive (code_same p Empty e)))
+    (λ e. either ((primitive_code p == 2) && (primitive_code q == 3)) _ e
+    (λ e. let parts = both_true (primitive_code p == 2) (primitive_code q == 3) e in nat_int (ap primitive (code_same p Nat parts.0)) (ap primitive (code_same q Int parts.1)))
     (λ e. same q (ap primitive (code_same p q e)) refl)))
 part_free_up Below Above lower upper (primitive p) (compound entry) e =
-    either (code_of p == 17) _ e (λ e. empty (ap primitive (code_same p Empty e))) (top_up Below Above lower upper (primitive p) (compound entry))
+    either (primitive_code p == 16) _ e (λ e. empty (ap primitive (code_same p Empty e))) (top_up Below Above lower upper (primitive p) (compound entry))
 part_free_up Below Above lower upper (primitive p) dangling e = empty (ap primitive (code_same p Empty e))
 part_free_up Below Above lower upper (compound entry) t e = top_up Below Above lower upper (compound entry) t e
 part_free_up Below Above lower upper dangling t e = top_up Below Above lower upper dangling t e
@@ -84,7 +56,7 @@ or_right : (a b : Bool) → b ≡ true → (a || b) ≡ true
 or_right a b e = ap (λ b. a || b) e ∙ or-true a
 
 itself : (p : Primitive) → primitive_below p p ≡ true
-itself p = or_right (code_of p == 16) _ (or_right (code_of p == 17) _ (or_right ((code_of p == 3) && (code_of p == 4)) _ (eq-eqb (code_of p) (code_of p) refl)))
+itself p = or_right (primitive_code p == 15) _ (or_right (primitive_code p == 16) _ (or_right ((primitive_code p == 2) && (primitive_code p == 3)) _ (eq-eqb (primitive_code p) (primitive_code p) refl)))
 
 below_reserved : (s : Shape) → part_free s (primitive Reserved) ≡ true
 below_reserved (primitive p) = refl
@@ -92,12 +64,12 @@ below_reserved (compound entry) = refl
 below_reserved dangling = refl
 
 above_empty : (t : Shape) → part_free (primitive Empty) t ≡ true
-above_empty (primitive q) = or-true (code_of q == 16)
+above_empty (primitive q) = or-true (primitive_code q == 15)
 above_empty (compound entry) = refl
 above_empty dangling = refl
 
 below_opt : (type : TyRef) (s : Shape) → part_free s (compound (Opt type)) ≡ true
-below_opt type (primitive p) = or-true (code_of p == 17)
+below_opt type (primitive p) = or-true (primitive_code p == 16)
 below_opt type (compound entry) = refl
 below_opt type dangling = refl
 

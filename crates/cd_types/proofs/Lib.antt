@@ -1,3 +1,4 @@
 pub mod FaultLemmas
 pub mod EntryLemmas
 pub mod LabelSum
+pub mod PrimitiveCodes

@@ -5,3 +5,4 @@ pub mod IsOrdered
 pub mod IsTable
 pub mod FaultOf
 pub mod Shape
+pub mod PrimitiveCode

@@ -3,11 +3,11 @@ use Rattle.std.proofs.Common.{refl, ◌≡◌, ◌≢◌, ℕ, List, Result, Ok,
 use Rattle.cd_codec.specs.Content.{Content}
 use Rattle.cd_coerce.specs.declared.fault.DidlFault.{DidlFault}
 use Rattle.cd_coerce.specs.declared.fault.DidlFault.TheVariants.{NotHeader, Float, NotSubtype, BadValue, NoMemory}
-use Rattle.cd_coerce.specs.Decoded.{Fails}
+use Rattle.cd_coerce.specs.Decoded.{FailsWith}
 use Rattle.ic_host.specs.Decoding.{Types, refused_text, answer_text}
 
 -- a fault that is no want of memory is that of the message
-fault_is : (fault : DidlFault) (read : Result (List Content) DidlFault) → Fails fault read → fault ≢ NoMemory → read ≡ Err fault
+fault_is : (fault : DidlFault) (read : Result (List Content) DidlFault) → FailsWith fault read → fault ≢ NoMemory → read ≡ Err fault
 fault_is NotHeader read e given = e
 fault_is Float read e given = e
 fault_is (NotSubtype argument) read e given = e
@@ -16,6 +16,6 @@ fault_is NoMemory read e given = absurd (given refl)
 
 -- what is printed for the fault is the answer
 pub refused_answer : {E : Type 0} (expected : Types) (fault : DidlFault) (read : Result (List Content) DidlFault) (text : Result (List ℕ) E)
-    → Fails fault read → IfOk text (λ t. (t ≡ refused_text fault) × (fault ≢ NoMemory)) → IfOk text (λ t. t ≡ answer_text expected read)
+    → FailsWith fault read → IfOk text (λ t. (t ≡ refused_text fault) × (fault ≢ NoMemory)) → IfOk text (λ t. t ≡ answer_text expected read)
 refused_answer expected fault read (Ok t) e is = is.0 ∙ sym (ap (answer_text expected) (fault_is fault read e is.1))
 refused_answer expected fault read (Err error) e is = is

@@ -1,5 +1,5 @@
 use Rattle.cd_sub.specs.Sub.{Sub}
-use Rattle.cd_coerce.specs.Place.{setting}
+use Rattle.cd_coerce.specs.Step.{setting}
 use Rattle.cd_coerce.proofs.DecidesLemmas.{test_decides}
 use Rattle.cd_coerce.proofs.Found.{found}
 use Rattle.cd_coerce.proofs.Only.{only}

@@ -1,6 +1,6 @@
 use Rattle.std.proofs.Common.{rules, ◌≡◌, Some, None, ◌∙◌}
 use Rattle.cd_coerce.specs.Decoded.{unfit_from}
-use Rattle.cd_coerce.proofs.PlaceLemmas.{in_tables}
+use Rattle.cd_coerce.proofs.StepLemmas.{in_tables}
 use Rattle.cd_coerce.proofs.MessageLemmas.{fit_answers, fit_then}
 use Rattle.cd_coerce.proofs.message.message_of.Goals as goal
 

@@ -5,7 +5,7 @@ use Rattle.cd_codec.specs.AreValues.{AreValues}
 use Rattle.cd_codec.specs.Answers.{contents}
 use Rattle.cd_codec.specs.View.{views}
 use Rattle.cd_codec.proofs.Views.{contents_made}
-use Rattle.cd_coerce.proofs.PlaceLemmas.{in_tables}
+use Rattle.cd_coerce.proofs.StepLemmas.{in_tables}
 use Rattle.cd_coerce.proofs.MessageLemmas.{ok, bad_values, some_values}
 use Rattle.cd_coerce.proofs.message.values_of.Goals as goal
 

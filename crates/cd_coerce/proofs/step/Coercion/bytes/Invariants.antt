@@ -2,9 +2,9 @@ use Rattle.std.proofs.Common.{◌≡◌, drop}
 use Rattle.cd_codec.specs.View.{views}
 use Rattle.cd_coerce.specs.Parts.{byte_value}
 use Rattle.cd_coerce.specs.Read.{coerced}
-use Rattle.cd_coerce.specs.Place.{setting, each_by}
+use Rattle.cd_coerce.specs.Step.{setting, each_by}
 use Rattle.cd_coerce.proofs.LoopLemmas.{after}
-use Rattle.cd_coerce.proofs.place.Coercion.bytes.Given as goal
+use Rattle.cd_coerce.proofs.step.Coercion.bytes.Given as goal
 
 -- what was read and what is still read are what is to be read
 abbrev pub invariant-loop-byte : goal.invariant-loop-byte

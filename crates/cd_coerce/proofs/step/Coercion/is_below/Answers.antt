@@ -3,7 +3,7 @@ use Rattle.cd_types.specs.declared.entry.Entry.{Entry}
 use Rattle.cd_types.specs.Shape.{shape}
 use Rattle.cd_coerce.specs.BelowOutside.{below_outside}
 use Rattle.cd_coerce.proofs.DecidesLemmas.{outside}
-use Rattle.cd_coerce.proofs.place.Coercion.is_below.Goals as goal
+use Rattle.cd_coerce.proofs.step.Coercion.is_below.Goals as goal
 
 pub returns-else-are_inside-clause-test : goal.returns-else-are_inside-clause-test
 returns-else-are_inside-clause-test c =

@@ -4,7 +4,7 @@ use Rattle.cd_types.specs.Shape.{shape}
 use Rattle.cd_coerce.specs.Read.{cases_of}
 use Rattle.cd_coerce.proofs.PartsLemmas.{target_is, place_fits}
 use Rattle.cd_types.proofs.EntryLemmas.{few_ids}
-use Rattle.cd_coerce.proofs.place.Coercion.target.Goals as goal
+use Rattle.cd_coerce.proofs.step.Coercion.target.Goals as goal
 
 pub overflow_cast-result : goal.overflow_cast-result
 overflow_cast-result c =

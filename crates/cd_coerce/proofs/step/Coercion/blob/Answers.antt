@@ -2,9 +2,9 @@ use Rattle.std.proofs.Common.{rules, ◌≡◌, Some, false}
 use Rattle.cd_types.specs.Shape.{shape}
 use Rattle.cd_codec.specs.Wire.{is_nat8}
 use Rattle.cd_coerce.specs.Read.{seq_of}
-use Rattle.cd_coerce.proofs.PlaceLemmas.{in_tables}
+use Rattle.cd_coerce.proofs.StepLemmas.{in_tables}
 use Rattle.cd_coerce.proofs.PartsLemmas.{blob_items}
-use Rattle.cd_coerce.proofs.place.Coercion.blob.Goals as goal
+use Rattle.cd_coerce.proofs.step.Coercion.blob.Goals as goal
 
 pub returns-else-is_nat8-clause-value : goal.returns-else-is_nat8-clause-value
 returns-else-is_nat8-clause-value c =

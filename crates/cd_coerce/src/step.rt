@@ -3,11 +3,11 @@ ghost use Rattle.cd_types.specs.IsInside.{is_inside};
 ghost use Rattle.ic_base.specs.Gives.{Gives};
 ghost use Rattle.cd_codec.specs.Content.{Content, plain, reserved, none, some};
 ghost use Rattle.cd_codec.specs.View.{view};
-ghost use Rattle.cd_coerce.specs.declared.plain.Kind.TheVariants.{Inner, Full};
-ghost use Rattle.cd_coerce.specs.Read.{readers, coerced};
-ghost use Rattle.cd_coerce.specs.Place.{setting, kind, lifted, placed, Settles};
+ghost use Rattle.cd_coerce.specs.declared.plain.OptRule.TheVariants.{Inner, Constituent};
+ghost use Rattle.cd_coerce.specs.Read.{coercions, coerced};
+ghost use Rattle.cd_coerce.specs.Step.{setting, opt_rule, lifted, coerced_by, Settles};
 
-use crate::plain::{Kind, kind_of, plain_of};
+use crate::plain::{OptRule, opt_rule_of, plain_of};
 use crate::shapes::{Way, is_outside_subtype, opt_of, way_of};
 use cd_codec::Value;
 use cd_sub::{Subtyping, may_miss};
@@ -40,8 +40,8 @@ impl<'a> Model for Coercion<'a> {
     ghost invariant = { λ c. c.subtyping ≡ (c.wire.now, c.expected.now) };
 }
 
-/// How a value is read at a type, as far as that is settled without its parts.
-pub(crate) enum Place {
+/// A step of a coercion: how a value is read at a type, as far as that is settled without its parts.
+pub(crate) enum Step {
     /// It is read as this.
     Done(Value),
     /// It is some of a value of the first type, read at the second.
@@ -123,71 +123,71 @@ impl<'a> Coercion<'a> {
         t: TyRef,
         u: TyRef,
         lift: bool,
-    ) -> Result<Place, ReadError>
+    ) -> Result<Step, ReadError>
         ensures tables { self.new ≡ self.old }
-        ensures settles { Settles (lifted lift ((readers (setting self.old.0 self.old.1) (view value.now)).own t u)) (placed (setting self.old.0 self.old.1) (view value.now) t) result }
+        ensures settles { Settles (lifted lift ((coercions (setting self.old.0 self.old.1) (view value.now)).own t u)) (coerced_by (setting self.old.0 self.old.1) (view value.now) t) result }
     {
         match plain_of(self.expected, value, u)? {
-            None => Ok(Place::Parts(u, lift)),
+            None => Ok(Step::Parts(u, lift)),
             Some(done) => {
                 let done = self.wrap(lift, Ok(done))?;
-                Ok(Place::Done(done))
+                Ok(Step::Done(done))
             }
         }
     }
 
     /// Some of a value, at an opt.
-    fn settle_inner(&mut self, value: &Value, t: TyRef, w: TyRef) -> Result<Place, ReadError>
-        requires { kind (view value.now) ≡ Inner }
+    fn settle_inner(&mut self, value: &Value, t: TyRef, w: TyRef) -> Result<Step, ReadError>
+        requires { opt_rule (view value.now) ≡ Inner }
         ensures tables { self.new ≡ self.old }
-        ensures settles { Settles ((readers (setting self.old.0 self.old.1) (view value.now)).opt t w) (placed (setting self.old.0 self.old.1) (view value.now) t) result }
+        ensures settles { Settles ((coercions (setting self.old.0 self.old.1) (view value.now)).opt t w) (coerced_by (setting self.old.0 self.old.1) (view value.now) t) result }
     {
         match opt_of(self.wire, t) {
             None => Err(ReadError::Refused),
             Some(x) => {
                 if self.is_below(x, w)? {
-                    Ok(Place::Inner(x, w))
+                    Ok(Step::Inner(x, w))
                 } else {
-                    Ok(Place::Done(Value::none()))
+                    Ok(Step::Done(Value::none()))
                 }
             }
         }
     }
 
-    /// A value that is neither null, reserved nor an opt, at an opt.
-    fn settle_full(&mut self, value: &Value, t: TyRef, w: TyRef) -> Result<Place, ReadError>
-        requires { kind (view value.now) ≡ Full }
+    /// A value that is neither null, reserved nor an opt, at an opt of the constituent type w.
+    fn settle_constituent(&mut self, value: &Value, t: TyRef, w: TyRef) -> Result<Step, ReadError>
+        requires { opt_rule (view value.now) ≡ Constituent }
         ensures tables { self.new ≡ self.old }
-        ensures settles { Settles ((readers (setting self.old.0 self.old.1) (view value.now)).opt t w) (placed (setting self.old.0 self.old.1) (view value.now) t) result }
+        ensures settles { Settles ((coercions (setting self.old.0 self.old.1) (view value.now)).opt t w) (coerced_by (setting self.old.0 self.old.1) (view value.now) t) result }
     {
         if may_miss(self.expected, w) {
-            return Ok(Place::Done(Value::none()));
+            return Ok(Step::Done(Value::none()));
         }
         if self.is_below(t, w)? {
             self.settle_own(value, t, w, true)
         } else {
-            Ok(Place::Done(Value::none()))
+            Ok(Step::Done(Value::none()))
         }
     }
 
-    fn settle_opt(&mut self, value: &Value, t: TyRef, w: TyRef) -> Result<Place, ReadError>
+    fn settle_opt(&mut self, value: &Value, t: TyRef, w: TyRef) -> Result<Step, ReadError>
         ensures tables { self.new ≡ self.old }
-        ensures settles { Settles ((readers (setting self.old.0 self.old.1) (view value.now)).opt t w) (placed (setting self.old.0 self.old.1) (view value.now) t) result }
+        ensures settles { Settles ((coercions (setting self.old.0 self.old.1) (view value.now)).opt t w) (coerced_by (setting self.old.0 self.old.1) (view value.now) t) result }
     {
-        match kind_of(value) {
-            Kind::Void => Ok(Place::Done(Value::none())),
-            Kind::Inner => self.settle_inner(value, t, w),
-            Kind::Full => self.settle_full(value, t, w),
+        match opt_rule_of(value) {
+            OptRule::ToNone => Ok(Step::Done(Value::none())),
+            OptRule::Inner => self.settle_inner(value, t, w),
+            OptRule::Constituent => self.settle_constituent(value, t, w),
         }
     }
 
     /// How a value of the type t is read at the type u.
-    pub(crate) fn settle(&mut self, value: &Value, t: TyRef, u: TyRef) -> Result<Place, ReadError>
+    pub(crate) fn settle(&mut self, value: &Value, t: TyRef, u: TyRef) -> Result<Step, ReadError>
         ensures tables { self.new ≡ self.old }
-        ensures settles { Settles (coerced (setting self.old.0 self.old.1) (view value.now) t u) (placed (setting self.old.0 self.old.1) (view value.now) t) result }
+        ensures settles { Settles (coerced (setting self.old.0 self.old.1) (view value.now) t u) (coerced_by (setting self.old.0 self.old.1) (view value.now) t) result }
     {
         match way_of(self.expected, u) {
-            Way::Reserved => Ok(Place::Done(reserved_value())),
+            Way::Reserved => Ok(Step::Done(reserved_value())),
             Way::Opt(w) => self.settle_opt(value, t, w),
             Way::Own => self.settle_own(value, t, u, false),
         }

@@ -13,17 +13,17 @@ use Rattle.cd_codec.specs.Content.{Content, blob, none, some, list, record_of, v
 use Rattle.cd_codec.specs.View.{view, views, views_of_fields}
 use Rattle.cd_codec.specs.Wire.{is_nat8}
 use Rattle.cd_coerce.specs.Parts.{case_from}
-use Rattle.cd_coerce.specs.Read.{seq_of, fields_of, readers, coerced}
-use Rattle.cd_coerce.specs.Place.{inner_at, part_values, expected_at, target}
-use Rattle.cd_coerce.proofs.PlaceLemmas.{in_tables, settled_so, settled_none, placed_none, placed_empty, parts_read, inner_read_so}
+use Rattle.cd_coerce.specs.Read.{seq_of, fields_of, coercions, coerced}
+use Rattle.cd_coerce.specs.Step.{inner_at, part_values, expected_at, target}
+use Rattle.cd_coerce.proofs.StepLemmas.{in_tables, settled_so, settled_none, coerced_by_none, coerced_by_empty, parts_read, inner_read_so}
 use Rattle.cd_coerce.proofs.LoopLemmas.{one_read, one_refused, fails_then}
 use Rattle.cd_coerce.proofs.PartsLemmas.{expected_read, field_there, field_short, field_absent, list_bytes, list_items, record_fields, case_there}
 use Rattle.cd_coerce.proofs.ValueLemmas.{no_inner, no_parts, inside, empty}
-use Rattle.cd_coerce.proofs.place.Coercion.+reader.Goals as goal
+use Rattle.cd_coerce.proofs.step.Coercion.+reader.Goals as goal
 
 pub items-returns-in_err-value-clause-values : goal.items-returns-in_err-value-clause-values
 items-returns-in_err-value-clause-values t c =
-    let p = err_from_is_err_and c.from_residual.result c.from_residual.ensures.1 in
+    let p = err_from_is_err_and c.from_residual-in_err-value.result c.from_residual-in_err-value.ensures.1 in
     let item = ap (λ (v : Value). coerced (in_tables c.loop-value.self) (view v) c.args.t c.args.u) c.value-item.is in
     rw (p.1, p.2)
     (one_refused c.in_err-value.field-0.0 (λ s v. coerced s (view v) c.args.t c.args.u) c.args.self.now c.loop-value.self (views c.loop-value.items.items) c.args.values.now c.loop-value.value-index c.value-item.result _
@@ -39,7 +39,7 @@ items-loop-value-preserved t c =
 
 pub fields-returns-in_err-value-clause-values : goal.fields-returns-in_err-value-clause-values
 fields-returns-in_err-value-clause-values t c =
-    let p = err_from_is_err_and c.from_residual.result c.from_residual.ensures.1 in
+    let p = err_from_is_err_and c.from_residual-in_err-value.result c.from_residual-in_err-value.ensures.1 in
     rw (p.1, p.2)
     (one_refused c.in_err-value.field-0.0 (λ s g. expected_at s c.args.fields.now (part_values c.args.parts.now) g) c.args.self.now c.loop-id.self (views_of_fields c.loop-id.items.items) c.args.expected.now c.loop-id.id-index _ _
     c.loop-id.invariant.same c.loop-id-test.true (fails_then c.in_err-value.field-0.0 _ _ c.in_err-value.ensures.value) c.loop-id.invariant.read)
@@ -59,7 +59,7 @@ list-returns-then-is_nat8-clause-value t c =
     let upper : Some c.in-Some-Some.to ≡ seq_of (shape c.args.self.now.1 c.args.u) = search rules in
     let byte : true ≡ is_nat8 c.in-Some-Some.to = search rules in
     rw (list_bytes (in_tables c.args.self.now) c.args.values.now c.args.t c.args.u c.in-Some-Some.from c.in-Some-Some.to lower upper byte)
-    (c.no_bytes.ensures (λ (v : Value). readers (in_tables c.args.self.now) (view v)))
+    (c.no_bytes.ensures (λ (v : Value). coercions (in_tables c.args.self.now) (view v)))
 
 pub list-returns-else-is_nat8-clause-value : goal.list-returns-else-is_nat8-clause-value
 list-returns-else-is_nat8-clause-value t c =
@@ -107,13 +107,13 @@ pub read-returns-in-None-clause-value : goal.read-returns-in-None-clause-value
 read-returns-in-None-clause-value t c =
     let is : view c.args.value.now ≡ none = empty c.args.value.now c.in-Opt.inner c.in-Opt.is c.in-None.is in
     settled_none c.args.self.now c.count.new.self c.settle.new.self (view c.args.value.now) c.args.t c.args.u c.in_ok-done.field-0 c.count.ensures c.settle.ensures.tables c.in_ok-done.ensures.settles
-    (placed_empty (in_tables c.settle.new.self) (view c.args.value.now) c.args.t c.in-Inner.x c.in-Inner.w c.in_ok-done.field-0 c.in-Inner.is
+    (coerced_by_empty (in_tables c.settle.new.self) (view c.args.value.now) c.args.t c.in-Inner.x c.in-Inner.w c.in_ok-done.field-0 c.in-Inner.is
     (ap (λ (x : Content). inner_at (in_tables c.settle.new.self) x c.in-Inner.x c.in-Inner.w) is))
 
 pub read-returns-in_default-clause-value : goal.read-returns-in_default-clause-value
 read-returns-in_default-clause-value t c =
     settled_none c.args.self.now c.count.new.self c.settle.new.self (view c.args.value.now) c.args.t c.args.u c.in_ok-done.field-0 c.count.ensures c.settle.ensures.tables c.in_ok-done.ensures.settles
-    (placed_empty (in_tables c.settle.new.self) (view c.args.value.now) c.args.t c.in-Inner.x c.in-Inner.w c.in_ok-done.field-0 c.in-Inner.is
+    (coerced_by_empty (in_tables c.settle.new.self) (view c.args.value.now) c.args.t c.in-Inner.x c.in-Inner.w c.in_ok-done.field-0 c.in-Inner.is
     (no_inner (in_tables c.settle.new.self) c.args.value.now c.in-Inner.x c.in-Inner.w c.in_default.not-Opt))
 
 pub read-returns-in-Blob-clause-value : goal.read-returns-in-Blob-clause-value
@@ -148,6 +148,6 @@ pub read-returns-in_default-value : goal.read-returns-in_default-value
 read-returns-in_default-value t c = record {
   tables = c.settle.ensures.tables ∙ c.count.ensures;
   value = settled_none c.args.self.now c.count.new.self c.settle.new.self (view c.args.value.now) c.args.t c.args.u c.in_ok-done.field-0 c.count.ensures c.settle.ensures.tables c.in_ok-done.ensures.settles
-      (placed_none (in_tables c.settle.new.self) (view c.args.value.now) c.args.t c.in-Parts.w c.in-Parts.lift c.in_ok-done.field-0 c.in-Parts.is
+      (coerced_by_none (in_tables c.settle.new.self) (view c.args.value.now) c.args.t c.in-Parts.w c.in-Parts.lift c.in_ok-done.field-0 c.in-Parts.is
       (no_parts (in_tables c.settle.new.self) c.args.value.now c.args.t c.in-Parts.w c.in_default-value.not-Blob c.in_default-value.not-Seq c.in_default-value.not-Rec c.in_default-value.not-Var));
 }

@@ -1,7 +1,7 @@
 use Rattle.std.proofs.Common.{◌≡◌, drop}
-use Rattle.cd_coerce.specs.Place.{setting}
+use Rattle.cd_coerce.specs.Step.{setting}
 use Rattle.cd_coerce.specs.Decoded.{unfit_from}
-use Rattle.cd_coerce.proofs.place.Coercion.unfit.Given as goal
+use Rattle.cd_coerce.proofs.step.Coercion.unfit.Given as goal
 
 -- those before fit
 abbrev pub invariant-loop-place : goal.invariant-loop-place

@@ -1,9 +1,9 @@
 use Rattle.std.proofs.Common.{◌≡◌, drop}
 use Rattle.cd_codec.specs.View.{view, views, views_of_fields}
 use Rattle.cd_coerce.specs.Read.{coerced}
-use Rattle.cd_coerce.specs.Place.{setting, each_by, part_values, expected_at}
+use Rattle.cd_coerce.specs.Step.{setting, each_by, part_values, expected_at}
 use Rattle.cd_coerce.proofs.LoopLemmas.{after}
-use Rattle.cd_coerce.proofs.place.Coercion.+reader.Given as goal
+use Rattle.cd_coerce.proofs.step.Coercion.+reader.Given as goal
 
 -- what was read and what is still read are what is to be read
 abbrev pub invariant-fields-loop-id : goal.invariant-fields-loop-id

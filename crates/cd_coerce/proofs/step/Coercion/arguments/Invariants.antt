@@ -1,9 +1,9 @@
 use Rattle.std.proofs.Common.{◌≡◌, drop}
 use Rattle.cd_codec.specs.View.{views}
-use Rattle.cd_coerce.specs.Place.{setting}
+use Rattle.cd_coerce.specs.Step.{setting}
 use Rattle.cd_coerce.specs.Decoded.{arguments_from}
 use Rattle.cd_coerce.proofs.LoopLemmas.{after}
-use Rattle.cd_coerce.proofs.place.Coercion.arguments.Given as goal
+use Rattle.cd_coerce.proofs.step.Coercion.arguments.Given as goal
 
 -- what was read and what is still read are what is to be read
 abbrev pub invariant-loop-place : goal.invariant-loop-place

@@ -5,11 +5,11 @@ use Rattle.cd_codec.specs.View.{view, views}
 use Rattle.cd_coerce.specs.Parts.{byte_value}
 use Rattle.cd_coerce.specs.Read.{coerced}
 use Rattle.cd_coerce.proofs.LoopLemmas.{one_read, one_refused}
-use Rattle.cd_coerce.proofs.place.Coercion.bytes.Goals as goal
+use Rattle.cd_coerce.proofs.step.Coercion.bytes.Goals as goal
 
 pub returns-in_err-value-clause-values : goal.returns-in_err-value-clause-values
 returns-in_err-value-clause-values c =
-    let p = err_from_is_err_and c.from_residual.result c.from_residual.ensures.1 in
+    let p = err_from_is_err_and c.from_residual-in_err-value.result c.from_residual-in_err-value.ensures.1 in
     rw (p.1, p.2)
     (one_refused c.in_err-value.field-0.0 (λ s b. coerced s (byte_value b) c.args.t c.args.u) c.args.self.now c.loop-byte.self (views c.loop-byte.items.items) c.args.bytes.now c.loop-byte.byte-index _ _
     c.loop-byte.invariant.same c.loop-byte-test.true c.in_err-value.ensures.value c.loop-byte.invariant.read)
