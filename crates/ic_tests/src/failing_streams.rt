@@ -1,191 +1,158 @@
 // Each read and each write fails in turn. Nothing is tried again: what is sent is what the whole lines
 // read print, or what was written before.
-use crate::running::{Streams, compare, steady};
+use crate::running::{NOTHING, Run, is_run, nothing};
 use ic_host::Status;
-use std::alloc::Global;
-use std::process::Abort;
-use std::test::Fail;
 use std::thread::Threads;
 
-/// The most bytes of a read and of a write, the reads and the writes that fail, the sink's room, what
-/// it took, and the status.
-type Row = (
-    usize,
-    usize,
-    &'static [u64],
-    &'static [u64],
-    usize,
-    &'static str,
-    Status,
-);
+const CALL: &str = "call 2vxsx-fae rwlgt-iiaaa-aaaaa-aaaaa-cai hello -\n";
 
-const CALLS: &str =
-    "call 2vxsx-fae rwlgt-iiaaa-aaaaa-aaaaa-cai hello -\ncall 2vxsx-fae rwlgt-iiaaa-aaaaa-aaaaa-cai hello -\n";
+const TWO_CALLS: Run<'static> = Run {
+    script: &[(CALL, 2)],
+    pieces: &[(60, 100)],
+    ..NOTHING
+};
 
-static TWO_CALLS: [Row; 6] = [
-    (60, 100, &[2], &[], 1000, "accepted 0\n", Status::ReadFault),
-    (
-        60,
-        100,
-        &[3],
-        &[],
-        1000,
-        "accepted 0\naccepted 1\n",
-        Status::ReadFault,
-    ),
-    (60, 100, &[1], &[], 1000, "", Status::ReadFault),
-    (60, 1, &[], &[11], 1000, "accepted 0", Status::WriteFault),
-    (60, 100, &[], &[], 9, "accepted ", Status::WriteFault),
-    (
-        60,
-        100,
-        &[],
-        &[3],
-        1000,
-        "accepted 0\naccepted 1\n",
-        Status::WriteFault,
-    ),
+static FAILING: [Run<'static>; 6] = [
+    Run {
+        failing_reads: &[2],
+        printed: b"accepted 0\n",
+        status: Status::ReadFault,
+        ..TWO_CALLS
+    },
+    Run {
+        failing_reads: &[3],
+        printed: b"accepted 0\naccepted 1\n",
+        status: Status::ReadFault,
+        ..TWO_CALLS
+    },
+    Run {
+        failing_reads: &[1],
+        status: Status::ReadFault,
+        ..TWO_CALLS
+    },
+    Run {
+        pieces: &[(60, 1)],
+        failing_writes: &[11],
+        printed: b"accepted 0",
+        status: Status::WriteFault,
+        ..TWO_CALLS
+    },
+    Run {
+        room: 9,
+        printed: b"accepted ",
+        status: Status::WriteFault,
+        ..TWO_CALLS
+    },
+    Run {
+        failing_writes: &[3],
+        printed: b"accepted 0\naccepted 1\n",
+        status: Status::WriteFault,
+        ..TWO_CALLS
+    },
 ];
 
-fn two_calls() -> &'static [Row] {
-    &TWO_CALLS
+fn two_calls() -> &'static [Run<'static>] {
+    &FAILING
 }
 
 #[test]
-fn no_second_try(rt: HostRuntime) -> Result<(), Fail> {
-    for (read, written, failing_reads, failing_writes, room, printed, status) in two_calls() {
-        let streams = Streams {
-            read: *read,
-            written: *written,
-            failing_reads,
-            failing_writes,
-            room: *room,
-        };
-        compare(&rt, CALLS.as_bytes(), &streams, printed.as_bytes(), *status)?;
+fn no_second_try(rt: HostRuntime) {
+    for (place, run) in two_calls().iter().enumerate() {
+        assert!(rt; is_run(&rt, run), "{place}");
     }
-    Ok(())
 }
 
-// Lines of each kind, and what each prints. One of the texts has more than 100 bytes.
-static LINES: [(&str, &str); 12] = [
-    ("# lines of each kind", ""),
+// Lines of each kind, 502 bytes: so the seventh read of 100 bytes gives the end. One of the texts
+// that are printed has more than 100 bytes.
+const SCRIPT: [(&str, usize); 12] = [
+    ("# lines of each kind\n", 1),
+    ("call 2vxsx-fae rwlgt-iiaaa-aaaaa-aaaaa-cai hello -\n", 1),
+    ("\n", 1),
+    ("decode 4449444c00017d 4449444c00017d2a\n", 1),
+    ("call aaaaa-aa 2vxsx-fae greet 00ff\n", 1),
     (
-        "call 2vxsx-fae rwlgt-iiaaa-aaaaa-aaaaa-cai hello -",
-        "accepted 0\n",
+        "# a comment that goes on past the first read and the second, so that a read fails in the midst of a line\n",
+        1,
     ),
-    ("", ""),
+    ("decode 4449444c000171 4449444c00017d2a\n", 1),
     (
-        "decode 4449444c00017d 4449444c00017d2a",
-        "decoded 4449444c00017d2a\n",
+        "decode 4449444c016d7b0100 4449444c016d7b010032abababababababababababababababababababababababababababababababababababababababababababababababababab\n",
+        1,
     ),
-    ("call aaaaa-aa 2vxsx-fae greet 00ff", "accepted 1\n"),
-    (
-        "# a comment that goes on past the first read and the second, so that a read fails in the midst of a line",
-        "",
-    ),
-    (
-        "decode 4449444c000171 4449444c00017d2a",
-        "refused NotSubtype 0\n",
-    ),
-    (
-        "decode 4449444c016d7b0100 4449444c016d7b010032abababababababababababababababababababababababababababababababababababababababababababababababababab",
-        "decoded 4449444c016d7b010032abababababababababababababababababababababababababababababababababababababababababababababababababab\n",
-    ),
-    ("#", ""),
-    ("decode 4449444c 4449444c0000", "bad expected\n"),
-    ("", ""),
-    ("call 2vxsx-fae 2vxsx-fae last -", "accepted 2\n"),
+    ("#\n", 1),
+    ("decode 4449444c 4449444c0000\n", 1),
+    ("\n", 1),
+    ("call 2vxsx-fae 2vxsx-fae last -\n", 1),
 ];
 
-fn lines() -> &'static [(&'static str, &'static str)] {
-    &LINES
-}
+// What each line prints, and at the end the answers.
+const OUTPUT: &[u8] = b"\
+    accepted 0\n\
+    decoded 4449444c00017d2a\n\
+    accepted 1\n\
+    refused NotSubtype 0\n\
+    decoded 4449444c016d7b010032abababababababababababababababababababababababababababababababababababababababababababababababababab\n\
+    bad expected\n\
+    accepted 2\n\
+    answer 0 rejected 3 \"no canister rwlgt-iiaaa-aaaaa-aaaaa-cai\"\n\
+    answer 1 rejected 3 \"no canister 2vxsx-fae\"\n\
+    answer 2 rejected 3 \"no canister 2vxsx-fae\"\n\
+";
 
-// What is printed at the script's end.
-static ANSWERS: [&str; 3] = [
-    "answer 0 rejected 3 \"no canister rwlgt-iiaaa-aaaaa-aaaaa-cai\"\n",
-    "answer 1 rejected 3 \"no canister 2vxsx-fae\"\n",
-    "answer 2 rejected 3 \"no canister 2vxsx-fae\"\n",
+/// The numbers of a read and of a write that fail, how many bytes of the output were taken before,
+/// and the status. Before a read that fails the whole lines among 100 bytes a read were read. A text
+/// takes a write for each 100 bytes.
+type Failing = (u64, u64, usize, Status);
+
+// There is no eighth read, and no write after the last text.
+static EACH: [Failing; 19] = [
+    (1, 0, 0, Status::ReadFault),
+    (2, 0, 11, Status::ReadFault),
+    (3, 0, 47, Status::ReadFault),
+    (4, 0, 68, Status::ReadFault),
+    (5, 0, 68, Status::ReadFault),
+    (6, 0, 210, Status::ReadFault),
+    (7, 0, 221, Status::ReadFault),
+    (0, 1, 0, Status::WriteFault),
+    (0, 2, 11, Status::WriteFault),
+    (0, 3, 36, Status::WriteFault),
+    (0, 4, 47, Status::WriteFault),
+    (0, 5, 68, Status::WriteFault),
+    (0, 6, 168, Status::WriteFault),
+    (0, 7, 197, Status::WriteFault),
+    (0, 8, 210, Status::WriteFault),
+    (0, 9, 221, Status::WriteFault),
+    (0, 10, 283, Status::WriteFault),
+    (0, 11, 327, Status::WriteFault),
+    (8, 12, 371, Status::Done),
 ];
 
-fn answers() -> &'static [&'static str] {
-    &ANSWERS
+fn each() -> &'static [Failing] {
+    &EACH
 }
 
-fn script(alloc: Global) -> Result<String, Fail> {
-    let mut script = String::new(alloc);
-    for (line, _) in lines() {
-        script.push_str(line)?;
-        script.push('\n')?;
-    }
-    Ok(script)
-}
-
-// What the lines print that are whole among the first bytes of the script.
-fn body(alloc: Global, bytes: usize) -> Result<String, Fail> {
-    let mut printed = String::new(alloc);
-    let mut behind = 0usize;
-    for (line, text) in lines() {
-        behind = behind.saturating_add(line.len()).saturating_add(1);
-        if behind <= bytes {
-            printed.push_str(text)?;
+fn fails_so<R: Threads + Sync + AllocGlobal>(rt: &R, failing: &Failing) -> bool {
+    let (read, write, sent, status) = *failing;
+    match OUTPUT.get(..sent) {
+        Some(printed) => {
+            let run = Run {
+                script: &SCRIPT,
+                pieces: &[(100, 100)],
+                failing_reads: &[read],
+                failing_writes: &[write],
+                printed,
+                status,
+                ..nothing()
+            };
+            is_run(rt, &run)
         }
+        None => false,
     }
-    Ok(printed)
 }
 
-// The texts that are printed, one after the other.
-fn texts(alloc: Global) -> Result<Vec<&'static str>, Fail> {
-    let mut texts = Vec::new(alloc);
-    for (_, text) in lines() {
-        texts.push(*text)?;
-    }
-    for answer in answers() {
-        texts.push(*answer)?;
-    }
-    Ok(texts)
-}
-
-// Compares a run with pieces of 100 bytes, of which one read and one write fail, or none if there are
-// not so many.
-fn compare_failing<R: Abort + Threads + Sync + AllocGlobal>(
-    rt: &R,
-    read: usize,
-    write: usize,
-    printed: &[u8],
-    status: Status,
-) -> Result<(), Fail> {
-    let script = script(rt.alloc())?;
-    let streams = Streams {
-        failing_reads: &[read as u64],
-        failing_writes: &[write as u64],
-        ..steady(100)
-    };
-    compare(rt, script.as_bytes(), &streams, printed, status)
-}
-
-// The script has 502 bytes, and read 7 gives its end. Before read k came the first 100 * (k - 1) bytes.
 #[test]
-fn each_read_fails(rt: HostRuntime) -> Result<(), Fail> {
-    for before in 0..7usize {
-        let printed = body(rt.alloc(), 100 * before)?;
-        compare_failing(&rt, before + 1, 0, printed.as_bytes(), Status::ReadFault)?;
+fn each_read_and_each_write_fails(rt: HostRuntime) {
+    for failing in each() {
+        assert!(rt; fails_so(&rt, failing), "{failing:?}");
     }
-    Ok(())
-}
-
-// A text of more than 100 bytes takes two writes, another one, and an empty one none. A read after
-// the end or a write after the last text would fail.
-#[test]
-fn each_write_fails(rt: HostRuntime) -> Result<(), Fail> {
-    let mut sent = Vec::new(rt.alloc());
-    let mut write = 1usize;
-    for text in &texts(rt.alloc())? {
-        for piece in text.as_bytes().chunks(100) {
-            compare_failing(&rt, 0, write, &sent, Status::WriteFault)?;
-            sent.extend_from_slice(piece)?;
-            write = write.saturating_add(1);
-        }
-    }
-    compare_failing(&rt, 8, write, &sent, Status::Done)
 }

@@ -1,8 +1,7 @@
-use crate::running::padded;
+use crate::running::script_of;
 use ic_principal::Principal;
 use ic_script::{Ask, Command, LineError, parse_line};
 use std::alloc::Global;
-use std::test::Fail;
 
 /// What a line is read as: nothing, a fault, a call of `hello` at canister 0 by the anonymous
 /// principal with this argument, or the bytes of types and of a message.
@@ -158,32 +157,43 @@ fn is_ask(ask: &Ask, arg: &[u8]) -> bool {
         && ask.arg.items.as_slice() == arg
 }
 
-fn is_read_as(alloc: Global, line: &[u8], reads: &Reads) -> bool {
-    let read = parse_line(alloc, line);
-    match reads {
-        Reads::Nothing => matches!(&read, Ok(Command::Nothing)),
-        Reads::Fault(fault) => matches!(&read, Err(error) if error == fault),
-        Reads::Ask(arg) => matches!(&read, Ok(Command::Call(ask)) if is_ask(ask, arg)),
-        Reads::Decode(types, message) => {
-            matches!(&read, Ok(Command::Decode { expected, bytes })
-                if expected.items.as_slice() == *types && bytes.items.as_slice() == *message)
+fn is_read_as(read: &Result<Command, LineError>, reads: &Reads) -> bool {
+    match (reads, read) {
+        (Reads::Nothing, Ok(Command::Nothing)) => true,
+        (Reads::Fault(fault), Err(error)) => error == fault,
+        (Reads::Ask(arg), Ok(Command::Call(ask))) => is_ask(ask, arg),
+        (Reads::Decode(types, message), Ok(Command::Decode { expected, bytes })) => {
+            expected.items.as_slice() == *types && bytes.items.as_slice() == *message
         }
+        _ => false,
     }
+}
+
+fn is_read(alloc: Global, line: &[u8], reads: &Reads) -> bool {
+    let read = parse_line(alloc, line);
+    is_read_as(&read, reads)
 }
 
 #[test]
 fn read(rt: HostRuntime) {
     for (line, reads) in lines() {
-        assert!(rt; is_read_as(rt.alloc(), line, reads), "{line:?}");
+        assert!(rt; is_read(rt.alloc(), line, reads), "{line:?}");
+    }
+}
+
+fn is_method(alloc: Global, length: usize) -> bool {
+    match script_of(
+        alloc,
+        &[("call 2vxsx-fae aaaaa-aa ", 1), ("~", length), (" -", 1)],
+    ) {
+        Ok(line) => parse_line(alloc, &line).is_ok(),
+        Err(_) => false,
     }
 }
 
 // The largest method has 20,000 bytes.
 #[test]
-fn longest_method(rt: HostRuntime) -> Result<(), Fail> {
-    for (length, is_read) in [(20_000, true), (20_001, false)] {
-        let line = padded(rt.alloc(), "call 2vxsx-fae aaaaa-aa ", b'~', length, " -")?;
-        assert!(rt; parse_line(rt.alloc(), &line).is_ok() == is_read);
-    }
-    Ok(())
+fn longest_method(rt: HostRuntime) {
+    assert!(rt; is_method(rt.alloc(), 20_000));
+    assert!(rt; !is_method(rt.alloc(), 20_001));
 }

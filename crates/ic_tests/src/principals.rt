@@ -1,8 +1,6 @@
-use ic_base::NoMemory;
 use ic_principal::{Bytes, Principal, Text};
 use std::alloc::Global;
 use std::cmp::Ordering;
-use std::test::Fail;
 
 // Bytes and their texts, as Python's `zlib.crc32` and `base64.b32encode` give them.
 static TEXTS: [(&[u8], &str); 8] = [
@@ -35,28 +33,36 @@ fn rows() -> &'static [(&'static [u8], &'static str)] {
     &TEXTS
 }
 
-fn is_text(text: &Result<Text, NoMemory>, wanted: &str) -> bool {
-    matches!(text, Ok(text) if text.items.as_str() == wanted)
-}
-
-fn is_shown(shown: &Result<String, NoMemory>, wanted: &str) -> bool {
-    matches!(shown, Ok(shown) if shown.as_str() == wanted)
-}
-
-// Whether the principal has this text, and is shown by it.
 fn is_written(alloc: Global, principal: &Principal, text: &str) -> bool {
-    is_text(&principal.to_text(alloc), text)
-        && is_shown(&format!(in alloc; "{principal}"), text)
-        && is_shown(&format!(in alloc; "{principal:?}"), text)
+    match principal.to_text(alloc) {
+        Ok(written) => written.items.as_str() == text,
+        Err(_) => false,
+    }
+}
+
+fn is_displayed(alloc: Global, principal: &Principal, text: &str) -> bool {
+    match format!(in alloc; "{principal}") {
+        Ok(shown) => shown.as_str() == text,
+        Err(_) => false,
+    }
+}
+
+fn is_debugged(alloc: Global, principal: &Principal, text: &str) -> bool {
+    match format!(in alloc; "{principal:?}") {
+        Ok(shown) => shown.as_str() == text,
+        Err(_) => false,
+    }
 }
 
 // Whether the bytes and the text are one principal's.
 fn are_one(alloc: Global, bytes: &[u8], text: &str) -> bool {
     match Principal::from_text(text) {
         Ok(principal) => {
-            principal.bytes() == bytes
-                && Principal::from_bytes(bytes) == Ok(principal)
+            Principal::from_bytes(bytes) == Ok(principal)
+                && principal.bytes() == bytes
                 && is_written(alloc, &principal, text)
+                && is_displayed(alloc, &principal, text)
+                && is_debugged(alloc, &principal, text)
         }
         Err(_) => false,
     }
@@ -151,18 +157,35 @@ fn order(rt: HostRuntime) {
 }
 
 fn is_copied(bytes: &Bytes) -> bool {
-    matches!(bytes.copy(), Ok(copy) if copy.items.as_slice() == bytes.items.as_slice())
+    match bytes.copy() {
+        Ok(copy) => copy.items.as_slice() == bytes.items.as_slice(),
+        Err(_) => false,
+    }
+}
+
+fn is_text_copied(text: &Text) -> bool {
+    match text.copy() {
+        Ok(copy) => copy.items.as_str() == text.items.as_str(),
+        Err(_) => false,
+    }
+}
+
+fn are_bytes_copied(alloc: Global) -> bool {
+    match Vec::from_slice(alloc, &[1, 2, 3]) {
+        Ok(items) => is_copied(&Bytes { items }),
+        Err(_) => false,
+    }
+}
+
+fn is_a_text_copied(alloc: Global) -> bool {
+    match String::from_str(alloc, "text") {
+        Ok(items) => is_text_copied(&Text { items }),
+        Err(_) => false,
+    }
 }
 
 #[test]
-fn copies(rt: HostRuntime) -> Result<(), Fail> {
-    let bytes = Bytes {
-        items: Vec::from_slice(rt.alloc(), &[1, 2, 3])?,
-    };
-    assert!(rt; is_copied(&bytes));
-    let text = Text {
-        items: String::from_str(rt.alloc(), "text")?,
-    };
-    assert!(rt; is_text(&text.copy(), "text"));
-    Ok(())
+fn copies(rt: HostRuntime) {
+    assert!(rt; are_bytes_copied(rt.alloc()));
+    assert!(rt; is_a_text_copied(rt.alloc()));
 }

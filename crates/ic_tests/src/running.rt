@@ -1,121 +1,157 @@
-// Runs of the top call over memory. Each function owns one value that it drops.
+// Runs of the top call over memory, as rows of tables. Each function owns one value that it drops.
 use ic_base::NoMemory;
 use ic_host::{Status, replica};
-use ic_outside::{MemorySink, MemorySource, OpenGate};
+use ic_outside::{MemorySink, MemorySource, OpenGate, Source};
 use std::alloc::Global;
-use std::process::Abort;
-use std::test::Fail;
 use std::thread::Threads;
 
-/// How a script is read and an output taken: the most bytes of a read and of a write, the numbers of
-/// the reads and of the writes that fail, and the sink's room.
+/// A run and how it ends.
 #[derive(Clone, Copy)]
-pub struct Streams<'a> {
-    pub read: usize,
-    pub written: usize,
+pub struct Run<'a> {
+    pub words: &'a [&'a str],
+    /// Texts, each so many times.
+    pub script: &'a [(&'a str, usize)],
+    /// The most bytes of a read and of a write, each pair in a run of its own.
+    pub pieces: &'a [(usize, usize)],
+    /// The numbers of the reads and of the writes that fail.
     pub failing_reads: &'a [u64],
     pub failing_writes: &'a [u64],
+    /// How many bytes the sink takes.
     pub room: usize,
+    pub printed: &'a [u8],
+    pub status: Status,
+    /// How many bytes the source has left, where that is looked at.
+    pub left: Option<usize>,
 }
 
-/// Streams that do not fail, with so many bytes a read and a write.
-pub fn steady(bytes: usize) -> Streams<'static> {
-    Streams {
-        read: bytes,
-        written: bytes,
-        failing_reads: &[],
-        failing_writes: &[],
-        room: 4000,
-    }
+/// A run of an empty script over streams that do not fail.
+pub const NOTHING: Run<'static> = Run {
+    words: &["replica"],
+    script: &[],
+    pieces: &[(65_536, 65_536)],
+    failing_reads: &[],
+    failing_writes: &[],
+    room: 4000,
+    printed: b"",
+    status: Status::Done,
+    left: None,
+};
+
+/// The same, for runs that are no constants.
+pub fn nothing() -> Run<'static> {
+    NOTHING
 }
 
 /// The words as a process hands them in.
-pub fn texts(alloc: Global, words: &[&str]) -> Result<Vec<String>, NoMemory> {
+pub fn words_of(alloc: Global, words: &[&str]) -> Result<Vec<String>, NoMemory> {
     let mut texts = Vec::new(alloc);
     for word in words {
-        texts.push(String::from_str(alloc, word)?)?;
+        let text = String::from_str(alloc, word)?;
+        texts.push(text)?;
     }
     Ok(texts)
 }
 
-/// A source over these bytes.
-pub fn source_of<R: Abort + AllocGlobal>(
-    rt: &R,
-    bytes: &[u8],
-    piece: usize,
-    failing: &[u64],
-) -> Result<MemorySource, Fail> {
-    assert!(rt; piece > 0);
-    let failing = Vec::from_slice(rt.alloc(), failing)?;
-    match Vec::from_slice(rt.alloc(), bytes) {
-        Ok(bytes) => Ok(MemorySource::new(bytes, piece, failing)),
-        Err(error) => Err(Fail::from(error)),
+fn repeat(text: &str, times: usize, script: &mut Vec<u8>) -> Result<(), NoMemory> {
+    for _ in 0..times {
+        script.extend_from_slice(text.as_bytes())?;
     }
-}
-
-/// A sink for what is printed.
-pub fn sink_of<R: Abort + AllocGlobal>(rt: &R, streams: &Streams) -> Result<MemorySink, Fail> {
-    let piece = streams.written;
-    assert!(rt; piece > 0);
-    let failing = Vec::from_slice(rt.alloc(), streams.failing_writes)?;
-    Ok(MemorySink::new(rt.alloc(), streams.room, piece, failing)?)
-}
-
-/// Runs a script with the program's name alone, and compares what it prints and its status.
-pub fn compare<R: Abort + Threads + Sync + AllocGlobal>(
-    rt: &R,
-    script: &[u8],
-    streams: &Streams,
-    printed: &[u8],
-    status: Status,
-) -> Result<(), Fail> {
-    compare_words(rt, &["replica"], script, streams, printed, status)
-}
-
-/// Runs a script with these words, and compares what it prints and its status.
-pub fn compare_words<R: Abort + Threads + Sync + AllocGlobal>(
-    rt: &R,
-    words: &[&str],
-    script: &[u8],
-    streams: &Streams,
-    printed: &[u8],
-    status: Status,
-) -> Result<(), Fail> {
-    let words = texts(rt.alloc(), words)?;
-    let mut source = source_of(rt, script, streams.read, streams.failing_reads)?;
-    compare_source(rt, &words, &mut source, streams, printed, status)
-}
-
-/// Runs the script of a source, and compares what it prints and its status.
-pub fn compare_source<R: Abort + Threads + Sync + AllocGlobal>(
-    rt: &R,
-    words: &[String],
-    source: &mut MemorySource,
-    streams: &Streams,
-    printed: &[u8],
-    status: Status,
-) -> Result<(), Fail> {
-    let mut sink = sink_of(rt, streams)?;
-    let ended = replica(rt.alloc(), rt, words, source, &mut sink, &OpenGate);
-    assert!(rt;
-        sink.taken() == printed && ended == status,
-        "{printed:?} {status:?}"
-    );
     Ok(())
 }
 
-/// A front, so many times one byte, and an end.
-pub fn padded(
-    alloc: Global,
-    front: &str,
-    byte: u8,
-    count: usize,
-    end: &str,
-) -> Result<Vec<u8>, Fail> {
-    let mut script = Vec::from_slice(alloc, front.as_bytes())?;
-    for _ in 0..count {
-        script.push(byte)?;
+/// Texts, each so many times.
+pub fn script_of(alloc: Global, texts: &[(&str, usize)]) -> Result<Vec<u8>, NoMemory> {
+    let mut script = Vec::new(alloc);
+    for (text, times) in texts {
+        repeat(text, *times, &mut script)?;
     }
-    script.extend_from_slice(end.as_bytes())?;
     Ok(script)
+}
+
+/// A source over texts. A piece of no byte counts as one of one.
+pub fn source_of(
+    alloc: Global,
+    texts: &[(&str, usize)],
+    piece: usize,
+    failing: &[u64],
+) -> Result<MemorySource, NoMemory> {
+    let script = script_of(alloc, texts)?;
+    match Vec::from_slice(alloc, failing) {
+        Ok(failing) => Ok(MemorySource::new(script, piece.max(1), failing)),
+        Err(error) => Err(error),
+    }
+}
+
+/// A sink. A piece of no byte counts as one of one.
+pub fn sink_of(
+    alloc: Global,
+    room: usize,
+    piece: usize,
+    failing: &[u64],
+) -> Result<MemorySink, NoMemory> {
+    let failing = Vec::from_slice(alloc, failing)?;
+    MemorySink::new(alloc, room, piece.max(1), failing)
+}
+
+// How many bytes are left of the source.
+fn left(source: &mut MemorySource) -> usize {
+    let mut buffer = [0; 1000];
+    let mut count = 0usize;
+    for _ in 0..1000 {
+        if let Ok(read) = source.read(&mut buffer) {
+            count = count.saturating_add(read);
+        }
+    }
+    count
+}
+
+fn is_printed<R: Threads + Sync + AllocGlobal>(
+    rt: &R,
+    run: &Run,
+    piece: usize,
+    words: &[String],
+    source: &mut MemorySource,
+) -> bool {
+    match sink_of(rt.alloc(), run.room, piece, run.failing_writes) {
+        Ok(mut sink) => {
+            let status = replica(rt.alloc(), rt, words, source, &mut sink, &OpenGate);
+            status == run.status && sink.taken() == run.printed
+        }
+        Err(_) => false,
+    }
+}
+
+fn is_run_in_pieces<R: Threads + Sync + AllocGlobal>(
+    rt: &R,
+    run: &Run,
+    pieces: (usize, usize),
+    words: &[String],
+) -> bool {
+    match source_of(rt.alloc(), run.script, pieces.0, run.failing_reads) {
+        Ok(mut source) => {
+            let printed = is_printed(rt, run, pieces.1, words, &mut source);
+            match run.left {
+                Some(count) => printed && left(&mut source) == count,
+                None => printed,
+            }
+        }
+        Err(_) => false,
+    }
+}
+
+fn is_run_with<R: Threads + Sync + AllocGlobal>(rt: &R, run: &Run, words: &[String]) -> bool {
+    for pieces in run.pieces {
+        if !is_run_in_pieces(rt, run, *pieces, words) {
+            return false;
+        }
+    }
+    true
+}
+
+/// Whether a run prints and ends so.
+pub fn is_run<R: Threads + Sync + AllocGlobal>(rt: &R, run: &Run) -> bool {
+    match words_of(rt.alloc(), run.words) {
+        Ok(words) => is_run_with(rt, run, &words),
+        Err(_) => false,
+    }
 }

@@ -1,12 +1,10 @@
 // The ends over standard streams.
-use crate::running::{sink_of, steady, texts};
+use crate::running::sink_of;
 use ic_host::{Status, replica};
 use ic_outside::{Failed, OpenGate, Sink, Source, StdSink, StdSource, send};
 use ic_script::LineCause;
 use std::io;
 use std::io::{ErrorKind, Read, Write};
-use std::process::Abort;
-use std::test::Fail;
 use std::thread::Threads;
 
 // A stream that is out of order in one way.
@@ -92,25 +90,23 @@ impl Write for Flushed<'_> {
     }
 }
 
-// Each text is written and flushed before the next.
-#[test]
-fn output_is_written_and_flushed(rt: HostRuntime) -> Result<(), Fail> {
-    let words = texts(rt.alloc(), &["replica"])?;
-    let mut noted = Vec::new(rt.alloc());
-    let status = run_flushed(&rt, &words, &mut noted);
-    let printed = b"accepted 0\n|answer 0 rejected 3 \"no canister aaaaa-aa\"\n|";
-    assert!(rt; noted.as_slice() == printed.as_slice() && status == Status::Done);
-    Ok(())
-}
-
-fn run_flushed<R: Threads + Sync + AllocGlobal>(
-    rt: &R,
-    words: &[String],
-    noted: &mut Vec<u8>,
-) -> Status {
+fn run_flushed<R: Threads + Sync + AllocGlobal>(rt: &R, noted: &mut Vec<u8>) -> Status {
     let mut source = StdSource::new("call 2vxsx-fae aaaaa-aa hello -".as_bytes());
     let mut sink = StdSink::new(Flushed { noted });
-    replica(rt.alloc(), rt, words, &mut source, &mut sink, &OpenGate)
+    replica(rt.alloc(), rt, &[], &mut source, &mut sink, &OpenGate)
+}
+
+fn is_flushed<R: Threads + Sync + AllocGlobal>(rt: &R) -> bool {
+    let mut noted = Vec::new(rt.alloc());
+    let status = run_flushed(rt, &mut noted);
+    let printed = b"accepted 0\n|answer 0 rejected 3 \"no canister aaaaa-aa\"\n|";
+    status == Status::Done && noted.as_slice() == printed.as_slice()
+}
+
+// Each text is written and flushed before the next.
+#[test]
+fn output_is_written_and_flushed(rt: HostRuntime) {
+    assert!(rt; is_flushed(&rt));
 }
 
 // A reader of comments without an end, each as long as a read.
@@ -127,18 +123,23 @@ impl Read for Comments {
     }
 }
 
+fn is_too_long<R: Threads + Sync + AllocGlobal>(rt: &R) -> bool {
+    let mut source = StdSource::new(Comments);
+    match sink_of(rt.alloc(), 100, 100, &[]) {
+        Ok(mut sink) => {
+            let status = replica(rt.alloc(), rt, &[], &mut source, &mut sink, &OpenGate);
+            let bad = Status::BadLine {
+                line: 4097,
+                cause: LineCause::ScriptTooLong,
+            };
+            status == bad && sink.taken() == b"line 4097: ScriptTooLong\n".as_slice()
+        }
+        Err(_) => false,
+    }
+}
+
 // The reader of lines asks for 65,536 bytes at a time, so the largest script has 4,096 of them.
 #[test]
-fn script_too_long(rt: HostRuntime) -> Result<(), Fail> {
-    let words = texts(rt.alloc(), &["replica"])?;
-    let mut sink = sink_of(&rt, &steady(100))?;
-    let mut source = StdSource::new(Comments);
-    let status = replica(rt.alloc(), &rt, &words, &mut source, &mut sink, &OpenGate);
-    let bad = Status::BadLine {
-        line: 4097,
-        cause: LineCause::ScriptTooLong,
-    };
-    let printed = b"line 4097: ScriptTooLong\n";
-    assert!(rt; sink.taken() == printed.as_slice() && status == bad);
-    Ok(())
+fn script_too_long(rt: HostRuntime) {
+    assert!(rt; is_too_long(&rt));
 }

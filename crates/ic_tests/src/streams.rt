@@ -1,13 +1,9 @@
-ghost use Rattle.std.specs.Prelude.{◌<◌, ◌-◌, ◌^◌};
-
-use crate::running::source_of;
+use crate::running::{sink_of, source_of};
 use ic_base::NoMemory;
 use ic_outside::{
     Line, LineFault, Lines, MemorySink, MemorySource, Sink, Source, WriteFault, send,
 };
 use std::alloc::Global;
-use std::process::Abort;
-use std::test::Fail;
 
 /// A script, how it is read (bytes a read, reads that fail), its limits (line, script), and the
 /// lines and the end or the fault that come of it. Behind `<` stands what the source has left.
@@ -16,7 +12,7 @@ type Script = (
     usize,
     &'static [u64],
     usize,
-    u64,
+    u32,
     &'static str,
 );
 
@@ -63,27 +59,38 @@ fn scripts() -> &'static [Script] {
 }
 
 #[test]
-fn reads_lines(rt: HostRuntime) -> Result<(), Fail> {
+fn reads_lines(rt: HostRuntime) {
     for script in scripts() {
-        let mut text = Vec::new(rt.alloc());
-        note_script(&rt, script, &mut text)?;
-        assert!(rt; text.as_slice() == script.5.as_bytes(), "{}", script.5);
+        assert!(rt; is_read(rt.alloc(), script), "{}", script.5);
     }
-    Ok(())
 }
 
-fn note_script<R: Abort + AllocGlobal>(
-    rt: &R,
+fn is_read(alloc: Global, script: &Script) -> bool {
+    let mut text = Vec::new(alloc);
+    match note_script(alloc, script, &mut text) {
+        Ok(()) => text.as_slice() == script.5.as_bytes(),
+        Err(_) => false,
+    }
+}
+
+fn note_script(alloc: Global, script: &Script, text: &mut Vec<u8>) -> Result<(), NoMemory> {
+    match source_of(alloc, &[(script.0, 1)], script.1, script.2) {
+        Ok(mut source) => note_source(alloc, script, &mut source, text),
+        Err(error) => Err(error),
+    }
+}
+
+fn note_source(
+    alloc: Global,
     script: &Script,
+    source: &mut MemorySource,
     text: &mut Vec<u8>,
-) -> Result<(), Fail> {
-    let (bytes, piece, failing, line, limit, _) = script;
-    let mut source = source_of(rt, bytes.as_bytes(), *piece, failing)?;
-    assert!(rt; *limit < u64::MAX);
-    let mut lines = Lines::new(rt.alloc(), *line, *limit);
-    note_lines(rt.alloc(), &mut lines, &mut source, text)?;
-    note_rest(&mut source, text)?;
-    Ok(())
+) -> Result<(), NoMemory> {
+    let mut lines = Lines::new(alloc, script.3, u64::from(script.4));
+    match note_lines(alloc, &mut lines, source, text) {
+        Ok(()) => note_rest(source, text),
+        Err(error) => Err(error),
+    }
 }
 
 // Notes the lines, and the end or the fault.
@@ -163,23 +170,22 @@ fn sendings() -> &'static [Sending] {
 }
 
 #[test]
-fn sends(rt: HostRuntime) -> Result<(), Fail> {
+fn sends(rt: HostRuntime) {
     for sending in sendings() {
-        let (_, room, piece, failing, _, _) = sending;
-        assert!(rt; *piece > 0);
-        let failing = Vec::from_slice(rt.alloc(), failing)?;
-        let mut sink = MemorySink::new(rt.alloc(), *room, *piece, failing)?;
-        compare_sending(&rt, sending, &mut sink);
+        assert!(rt; is_sent(rt.alloc(), sending), "{}", sending.5);
     }
-    Ok(())
 }
 
-fn compare_sending<R: Abort>(rt: &R, sending: &Sending, sink: &mut MemorySink) {
+fn is_sent(alloc: Global, sending: &Sending) -> bool {
+    match sink_of(alloc, sending.1, sending.2, sending.3) {
+        Ok(mut sink) => is_taken(sending, &mut sink),
+        Err(_) => false,
+    }
+}
+
+fn is_taken(sending: &Sending, sink: &mut MemorySink) -> bool {
     let (texts, _, _, _, answers, want) = sending;
     let first = send(sink, texts[0].as_bytes()) == answers[0];
     let second = send(sink, texts[1].as_bytes()) == answers[1];
-    assert!(rt;
-        first && second && sink.taken() == want.as_bytes(),
-        "{want}"
-    );
+    first && second && sink.taken() == want.as_bytes()
 }

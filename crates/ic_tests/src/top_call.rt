@@ -1,16 +1,6 @@
-use crate::running::{
-    Streams, compare, compare_source, compare_words, padded, source_of, steady, texts,
-};
+use crate::running::{NOTHING, Run, is_run};
 use ic_host::Status;
-use ic_outside::{MemorySource, Source};
 use ic_script::LineCause;
-use std::alloc::Global;
-use std::process::Abort;
-use std::test::Fail;
-use std::thread::Threads;
-
-/// Words, a script, what is printed, and the status.
-type Row = (&'static [&'static str], &'static str, &'static str, Status);
 
 const BAD_FORM: Status = Status::BadLine {
     line: 1,
@@ -22,93 +12,120 @@ const BAD_PRINCIPAL: Status = Status::BadLine {
     cause: LineCause::Principal,
 };
 
-static RUNS: [Row; 14] = [
-    (&["replica"], "", "", Status::Done),
-    (&[], "", "", Status::Done),
-    (
-        &["replica"],
-        "call 2vxsx-fae rwlgt-iiaaa-aaaaa-aaaaa-cai hello -\n",
-        "accepted 0\nanswer 0 rejected 3 \"no canister rwlgt-iiaaa-aaaaa-aaaaa-cai\"\n",
-        Status::Done,
-    ),
-    (
-        &["replica"],
-        "call 2vxsx-fae aaaaa-aa hello -",
-        "accepted 0\nanswer 0 rejected 3 \"no canister aaaaa-aa\"\n",
-        Status::Done,
-    ),
-    (
-        &["replica"],
-        "# two calls\n\ncall 2vxsx-fae aaaaa-aa a 00ff\n#\ncall aaaaa-aa 2vxsx-fae b -\n",
-        "accepted 0\naccepted 1\nanswer 0 rejected 3 \"no canister aaaaa-aa\"\nanswer 1 rejected 3 \"no canister 2vxsx-fae\"\n",
-        Status::Done,
-    ),
-    (&["replica"], "state\n", "line 1: Form\n", BAD_FORM),
-    (
-        &["replica"],
-        "call 2vxsx-fae rwlgt-iiaaa-aaaaa-aaaaa-cai hello",
-        "line 1: Form\n",
-        BAD_FORM,
-    ),
-    (&["replica"], "hello\n", "line 1: Form\n", BAD_FORM),
-    (
-        &["replica"],
-        "call swlgt-iiaaa-aaaaa-aaaaa-cai aaaaa-aa hello -\n",
-        "line 1: Principal\n",
-        BAD_PRINCIPAL,
-    ),
-    (
-        &["replica"],
-        "call 2VXSX-FAE aaaaa-aa hello -\n",
-        "line 1: Principal\n",
-        BAD_PRINCIPAL,
-    ),
-    (
-        &["replica"],
-        "call 2vxsx-fae aaaaa-aa hello abc\n",
-        "line 1: Hex\n",
-        Status::BadLine {
+const SIZES: [(usize, usize); 3] = [(1, 1), (7, 7), (65_536, 65_536)];
+
+static RUNS: [Run<'static>; 14] = [
+    Run {
+        pieces: &SIZES,
+        ..NOTHING
+    },
+    Run {
+        words: &[],
+        pieces: &SIZES,
+        ..NOTHING
+    },
+    Run {
+        script: &[("call 2vxsx-fae rwlgt-iiaaa-aaaaa-aaaaa-cai hello -\n", 1)],
+        pieces: &SIZES,
+        printed: b"accepted 0\nanswer 0 rejected 3 \"no canister rwlgt-iiaaa-aaaaa-aaaaa-cai\"\n",
+        ..NOTHING
+    },
+    Run {
+        script: &[("call 2vxsx-fae aaaaa-aa hello -", 1)],
+        pieces: &SIZES,
+        printed: b"accepted 0\nanswer 0 rejected 3 \"no canister aaaaa-aa\"\n",
+        ..NOTHING
+    },
+    Run {
+        script: &[(
+            "# two calls\n\ncall 2vxsx-fae aaaaa-aa a 00ff\n#\ncall aaaaa-aa 2vxsx-fae b -\n",
+            1,
+        )],
+        pieces: &SIZES,
+        printed: b"accepted 0\naccepted 1\nanswer 0 rejected 3 \"no canister aaaaa-aa\"\nanswer 1 rejected 3 \"no canister 2vxsx-fae\"\n",
+        ..NOTHING
+    },
+    Run {
+        script: &[("state\n", 1)],
+        pieces: &SIZES,
+        printed: b"line 1: Form\n",
+        status: BAD_FORM,
+        ..NOTHING
+    },
+    Run {
+        script: &[("call 2vxsx-fae rwlgt-iiaaa-aaaaa-aaaaa-cai hello", 1)],
+        pieces: &SIZES,
+        printed: b"line 1: Form\n",
+        status: BAD_FORM,
+        ..NOTHING
+    },
+    Run {
+        script: &[("hello\n", 1)],
+        pieces: &SIZES,
+        printed: b"line 1: Form\n",
+        status: BAD_FORM,
+        ..NOTHING
+    },
+    Run {
+        script: &[("call swlgt-iiaaa-aaaaa-aaaaa-cai aaaaa-aa hello -\n", 1)],
+        pieces: &SIZES,
+        printed: b"line 1: Principal\n",
+        status: BAD_PRINCIPAL,
+        ..NOTHING
+    },
+    Run {
+        script: &[("call 2VXSX-FAE aaaaa-aa hello -\n", 1)],
+        pieces: &SIZES,
+        printed: b"line 1: Principal\n",
+        status: BAD_PRINCIPAL,
+        ..NOTHING
+    },
+    Run {
+        script: &[("call 2vxsx-fae aaaaa-aa hello abc\n", 1)],
+        pieces: &SIZES,
+        printed: b"line 1: Hex\n",
+        status: Status::BadLine {
             line: 1,
             cause: LineCause::Hex,
         },
-    ),
-    (
-        &["replica"],
-        "\ncall 2vxsx-fae aaaaa-aa hello -\nx\ny\n",
-        "accepted 0\nline 3: Form\n",
-        Status::BadLine {
+        ..NOTHING
+    },
+    Run {
+        script: &[("\ncall 2vxsx-fae aaaaa-aa hello -\nx\ny\n", 1)],
+        pieces: &SIZES,
+        printed: b"accepted 0\nline 3: Form\n",
+        status: Status::BadLine {
             line: 3,
             cause: LineCause::Form,
         },
-    ),
-    (
-        &["replica", "x"],
-        "state\n",
-        "usage: replica\n",
-        Status::BadWords,
-    ),
-    (&["replica", ""], "", "usage: replica\n", Status::BadWords),
+        ..NOTHING
+    },
+    Run {
+        words: &["replica", "x"],
+        script: &[("state\n", 1)],
+        pieces: &SIZES,
+        printed: b"usage: replica\n",
+        status: Status::BadWords,
+        ..NOTHING
+    },
+    Run {
+        words: &["replica", ""],
+        pieces: &SIZES,
+        printed: b"usage: replica\n",
+        status: Status::BadWords,
+        ..NOTHING
+    },
 ];
 
-fn rows() -> &'static [Row] {
+fn rows() -> &'static [Run<'static>] {
     &RUNS
 }
 
 #[test]
-fn runs(rt: HostRuntime) -> Result<(), Fail> {
-    for (words, script, printed, status) in rows() {
-        for bytes in [1, 7, 65_536] {
-            compare_words(
-                &rt,
-                words,
-                script.as_bytes(),
-                &steady(bytes),
-                printed.as_bytes(),
-                *status,
-            )?;
-        }
+fn runs(rt: HostRuntime) {
+    for (place, run) in rows().iter().enumerate() {
+        assert!(rt; is_run(&rt, run), "{place}");
     }
-    Ok(())
 }
 
 static CODES: [(Status, u8); 6] = [
@@ -131,118 +148,79 @@ fn codes(rt: HostRuntime) {
     }
 }
 
-const CALL: &str = "call 2vxsx-fae rwlgt-iiaaa-aaaaa-aaaaa-cai hello -\n";
-
-/// What stands before and after so many bytes of one kind, and what is printed.
-type Padded = (&'static str, u8, usize, &'static str, &'static str, Status);
-
-// Lines of 8,388,608 bytes: a comment, and a call whose argument has 4,194,289 bytes; and a comment
-// with one byte more. Their answers show that no memory was wanting.
-static LONGEST: [Padded; 3] = [
-    ("", b'#', 8_388_608, "", "", Status::Done),
-    (
-        "call 2vxsx-fae aaaaa-aa hello ",
-        b'0',
-        8_388_578,
-        "\n",
-        "accepted 0\nanswer 0 rejected 3 \"no canister aaaaa-aa\"\n",
-        Status::Done,
-    ),
-    (
-        "",
-        b'#',
-        8_388_609,
-        "",
-        "line 1: LineTooLong\n",
-        Status::BadLine {
+static LONG: [Run<'static>; 7] = [
+    // Lines of 8,388,608 bytes: a comment, and a call whose argument has 4,194,289 bytes; and a
+    // comment with one byte more. That the first two are answered shows that no memory was wanting.
+    Run {
+        script: &[("#", 8_388_608)],
+        ..NOTHING
+    },
+    Run {
+        script: &[
+            ("call 2vxsx-fae aaaaa-aa hello ", 1),
+            ("0", 8_388_578),
+            ("\n", 1),
+        ],
+        printed: b"accepted 0\nanswer 0 rejected 3 \"no canister aaaaa-aa\"\n",
+        ..NOTHING
+    },
+    Run {
+        script: &[("#", 8_388_609)],
+        printed: b"line 1: LineTooLong\n",
+        status: Status::BadLine {
             line: 1,
             cause: LineCause::LineTooLong,
         },
-    ),
+        ..NOTHING
+    },
+    // A bad line of 1, of 65,535 and of 65,536 bytes among 300,000. The source gives all that it is
+    // asked for, 65,536 bytes at a time, and is asked for no more than shows the line.
+    Run {
+        script: &[("x", 1), ("\n", 1), ("x", 299_998)],
+        pieces: &[(300_000, 100)],
+        printed: b"line 1: Form\n",
+        status: BAD_FORM,
+        left: Some(234_464),
+        ..NOTHING
+    },
+    Run {
+        script: &[("x", 65_535), ("\n", 1), ("x", 234_464)],
+        pieces: &[(300_000, 100)],
+        printed: b"line 1: Form\n",
+        status: BAD_FORM,
+        left: Some(234_464),
+        ..NOTHING
+    },
+    Run {
+        script: &[("x", 65_536), ("\n", 1), ("x", 234_463)],
+        pieces: &[(300_000, 100)],
+        printed: b"line 1: Form\n",
+        status: BAD_FORM,
+        left: Some(168_928),
+        ..NOTHING
+    },
+    // A call and a comment that goes on past the first read, which gives 65,536 bytes. The second
+    // read fails.
+    Run {
+        script: &[
+            ("call 2vxsx-fae rwlgt-iiaaa-aaaaa-aaaaa-cai hello -\n", 1),
+            ("#", 70_000),
+        ],
+        pieces: &[(1_000_000, 1_000_000)],
+        failing_reads: &[2],
+        printed: b"accepted 0\n",
+        status: Status::ReadFault,
+        ..NOTHING
+    },
 ];
 
-fn longest() -> &'static [Padded] {
-    &LONGEST
+fn long() -> &'static [Run<'static>] {
+    &LONG
 }
 
 #[test]
-fn longest_line(rt: HostRuntime) -> Result<(), Fail> {
-    for (front, byte, count, end, printed, status) in longest() {
-        let script = padded(rt.alloc(), front, *byte, *count, end)?;
-        compare(&rt, &script, &steady(65_536), printed.as_bytes(), *status)?;
+fn long_scripts(rt: HostRuntime) {
+    for (place, run) in long().iter().enumerate() {
+        assert!(rt; is_run(&rt, run), "{place}");
     }
-    Ok(())
-}
-
-// How many bytes are left of the source.
-fn left(source: &mut MemorySource) -> usize {
-    let mut buffer = [0; 1000];
-    let mut count = 0usize;
-    for _ in 0..1000 {
-        if let Ok(read) = source.read(&mut buffer) {
-            count = count.saturating_add(read);
-        }
-    }
-    count
-}
-
-// A bad line of so many bytes among 300,000, and how many of these a run reads. The source gives all
-// that it is asked for: 65,536 bytes at a time.
-static BAD_LINES: [(usize, usize); 3] = [(1, 65_536), (65_535, 65_536), (65_536, 131_072)];
-
-fn bad_lines() -> &'static [(usize, usize)] {
-    &BAD_LINES
-}
-
-// 300,000 letters, with a line feed in the place of one.
-fn one_line_feed(alloc: Global, place: usize) -> Result<Vec<u8>, Fail> {
-    let mut script = padded(alloc, "", b'x', 300_000, "")?;
-    if let Some(byte) = script.get_mut(place) {
-        *byte = b'\n';
-    }
-    Ok(script)
-}
-
-#[test]
-fn read_past_bad_lines(rt: HostRuntime) -> Result<(), Fail> {
-    for (size, read) in bad_lines() {
-        let script = one_line_feed(rt.alloc(), *size)?;
-        compare_read(&rt, &script, *read)?;
-    }
-    Ok(())
-}
-
-// Compares how many bytes a run over a source that gives all at once reads.
-fn compare_read<R: Abort + Threads + Sync + AllocGlobal>(
-    rt: &R,
-    script: &[u8],
-    read: usize,
-) -> Result<(), Fail> {
-    let words = texts(rt.alloc(), &["replica"])?;
-    let mut source = source_of(rt, script, 300_000, &[])?;
-    compare_source(
-        rt,
-        &words,
-        &mut source,
-        &steady(100),
-        b"line 1: Form\n",
-        BAD_FORM,
-    )?;
-    assert!(rt;
-        left(&mut source) == 300_000usize.saturating_sub(read),
-        "{read}"
-    );
-    Ok(())
-}
-
-// A call and a comment that goes on past the first read, which gives 65,536 bytes. The second read
-// fails.
-#[test]
-fn failing_second_read(rt: HostRuntime) -> Result<(), Fail> {
-    let script = padded(rt.alloc(), CALL, b'#', 70_000, "")?;
-    let streams = Streams {
-        failing_reads: &[2],
-        ..steady(1_000_000)
-    };
-    compare(&rt, &script, &streams, b"accepted 0\n", Status::ReadFault)
 }
