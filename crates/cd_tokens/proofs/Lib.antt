@@ -1,0 +1,5 @@
+pub mod Ends
+pub mod Fronts
+pub mod Gaps
+pub mod Firsts
+pub mod Streams

@@ -1,0 +1,7 @@
+pub mod Bytes
+pub mod Token
+pub mod Gap
+pub mod Lexed
+pub mod ReadGap
+pub mod ReadToken
+pub mod View

@@ -1,0 +1,114 @@
+ghost use Rattle.std.specs.Prelude.{◌≡◌, ◌==◌, ◌&&◌};
+ghost use Rattle.ic_base.specs.Gives.{Gives};
+ghost use Rattle.cd_tokens.specs.Bytes.{is_blank};
+ghost use Rattle.cd_tokens.specs.ReadGap.{step, may_end, may_stop, past_gap};
+
+use ic_base::ReadError;
+
+/// Where in a gap a byte stands.
+#[derive(Clone, Copy)]
+enum Place {
+    /// Before a blank, a comment or a token.
+    Between,
+    /// Behind the first slash of a comment.
+    Slash,
+    /// In a comment to the end of its line.
+    Line,
+    /// In a comment up to `*/`.
+    Block { star: bool },
+}
+
+fn is_blank(byte: u8) -> bool
+    ensures { result ≡ is_blank byte }
+{
+    matches!(byte, b' ' | b'\t' | b'\n' | b'\r')
+}
+
+fn begins_comment(comments: bool, byte: u8) -> bool
+    ensures { result ≡ (comments && byte == 47) }
+{
+    comments && byte == b'/'
+}
+
+impl Place {
+    fn step(self, comments: bool, byte: u8) -> Option<Place>
+        ensures { result ≡ step comments self byte }
+    {
+        match self {
+            Place::Between => {
+                if is_blank(byte) {
+                    Some(Place::Between)
+                } else if begins_comment(comments, byte) {
+                    Some(Place::Slash)
+                } else {
+                    None
+                }
+            }
+            Place::Slash => {
+                if byte == b'/' {
+                    Some(Place::Line)
+                } else if byte == b'*' {
+                    Some(Place::Block { star: false })
+                } else {
+                    None
+                }
+            }
+            Place::Line => {
+                if byte == b'\n' {
+                    Some(Place::Between)
+                } else {
+                    Some(Place::Line)
+                }
+            }
+            Place::Block { star } => {
+                if begins_comment(star, byte) {
+                    Some(Place::Between)
+                } else {
+                    Some(Place::Block { star: byte == b'*' })
+                }
+            }
+        }
+    }
+
+    fn may_end(self) -> bool
+        ensures { result ≡ may_end self }
+    {
+        match self {
+            Place::Between | Place::Line => true,
+            Place::Slash | Place::Block { .. } => false,
+        }
+    }
+
+    fn may_stop(self) -> bool
+        ensures { result ≡ may_stop self }
+    {
+        match self {
+            Place::Between => true,
+            Place::Slash | Place::Line | Place::Block { .. } => false,
+        }
+    }
+}
+
+/// What stands behind the gap. `Refused`: a comment is not closed.
+pub(crate) fn past_gap(comments: bool, text: &[u8]) -> Result<&[u8], ReadError>
+    ensures { Gives (λ rest. rest.now) result (past_gap comments text.now) }
+{
+    let mut place = Place::Between;
+    for (index, byte) in text.iter().enumerate() {
+        match place.step(comments, *byte) {
+            Some(next) => place = next,
+            None => {
+                return if place.may_stop() {
+                    Ok(text.split_at(index).1)
+                } else {
+                    Err(ReadError::Refused)
+                };
+            }
+        }
+    }
+    if place.may_end() {
+        Ok(&[])
+    } else {
+        Err(ReadError::Refused)
+    }
+}
