@@ -3,3 +3,4 @@ pub mod Fronts
 pub mod Gaps
 pub mod Firsts
 pub mod Streams
+pub mod Numerals

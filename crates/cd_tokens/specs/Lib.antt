@@ -5,3 +5,6 @@ pub mod Lexed
 pub mod ReadGap
 pub mod ReadToken
 pub mod View
+pub mod Numeral
+pub mod ReadNumeral
+pub mod GoOn

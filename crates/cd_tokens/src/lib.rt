@@ -8,8 +8,10 @@
 
 mod bytes;
 mod gap;
+mod number;
 mod piece;
 mod token;
 
+pub use number::{integer_of, natural_of};
 pub use piece::Piece;
 pub use token::{Token, tokens_of};
