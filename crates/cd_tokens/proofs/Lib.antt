@@ -4,3 +4,4 @@ pub mod Gaps
 pub mod Firsts
 pub mod Streams
 pub mod Numerals
+pub mod Strings

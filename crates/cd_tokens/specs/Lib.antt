@@ -8,3 +8,5 @@ pub mod View
 pub mod Numeral
 pub mod ReadNumeral
 pub mod GoOn
+pub mod Unescaped
+pub mod ReadString

@@ -10,8 +10,10 @@ mod bytes;
 mod gap;
 mod number;
 mod piece;
+mod string;
 mod token;
 
 pub use number::{integer_of, natural_of};
 pub use piece::Piece;
+pub use string::unescaped_of;
 pub use token::{Token, tokens_of};

@@ -3,10 +3,11 @@ ghost use Rattle.cd_tokens.specs.Numeral.{digit_of};
 ghost use Rattle.cd_tokens.specs.ReadNumeral.{digits_from, numeral_of, natural_of, integer_of, below, between};
 ghost use Rattle.cd_tokens.specs.GoOn.{go_on};
 
-fn digit_of(base: u32, byte: u8) -> Option<u32>
+pub(crate) fn digit_of(base: u32, byte: u8) -> Option<u32>
     requires least { 2 ≤ base }
     requires most { base ≤ 36 }
-    ensures { result ≡ digit_of base byte }
+    ensures value { result ≡ digit_of base byte }
+    ensures bound { IfSome result (λ d. d < base) }
 {
     char::from(byte).to_digit(base)
 }
