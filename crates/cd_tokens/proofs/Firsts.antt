@@ -1,6 +1,6 @@
 -- The first token of bytes is read exactly.
-use Rattle.std.proofs.Common.{◌≡◌, ℕ, zero, suc, ◌+◌, ◌≤◌, ◌<◌, Bool, true, false, List, [], ◌∷◌, ◌++◌, length, take, drop, Option, Some, None, refl, sym, ap, ◌∙◌, append_assoc, inl, inr, subst, arith}
-use Rattle.std.specs.Prelude.{◌&&◌, ◌||◌, ◌==◌, not, nat_le, codes}
+use Rattle.std.proofs.Common.{◌≡◌, ℕ, suc, ◌+◌, ◌<◌, Bool, true, false, List, [], ◌∷◌, ◌++◌, length, take, drop, Some, None, refl, sym, ap, ◌∙◌, append_assoc, inl, inr, subst, arith}
+use Rattle.std.specs.Prelude.{◌&&◌, ◌||◌, ◌==◌, not, codes}
 use Rattle.std.specs.List.{list_all, prefix_len}
 use Rattle.std.proofs.lemmas.List.{take_at, drop_at, take-append-drop, length-append}
 use Rattle.ic_base.proofs.Steps.{bind_some, some_is}
@@ -39,7 +39,7 @@ unfolding may_begin
 not_mark b bytes h = apart may_begin (codes "(){}:;,=.") refl b (run_byte b bytes h)
 
 one_apart : (q : ℕ → Bool) (k b : ℕ) → q k ≡ false → q b ≡ true → (b == k) ≡ false
-one_apart q k b e h = elim (true_or_false (b == k)) [ | inl holds ↦ let same : b ≡ k = is_equal b k holds in absurd (differ (q k) (subst (λ j. q j ≡ true) same h) e) | inr fails ↦ fails ]
+one_apart q k b e h = elim (true_or_false (b == k)) [ inl holds ↦ let same : b ≡ k = is_equal b k holds in absurd (differ (q k) (subst (λ j. q j ≡ true) same h) e) | inr fails ↦ fails ]
 
 not_quote : (b : ℕ) (bytes : List ℕ) → begins_run b bytes ≡ true → (b == 34) ≡ false
 unfolding may_begin
@@ -119,7 +119,7 @@ in_quotes b bytes s rest first e = rw (first, e) (ap (λ (xs : List ℕ). 34 ∷
 
 mark_begins : (m : ℕ) → is_mark m ≡ true → begins_token m ≡ true
 unfolding begins_token
-mark_begins m h = rw h (elim (true_or_false (may_begin m)) [ | inl e ↦ rw e refl | inr e ↦ rw e refl ])
+mark_begins m h = rw h (elim (true_or_false (may_begin m)) [ inl e ↦ rw e refl | inr e ↦ rw e refl ])
 
 run_begins : (b : ℕ) (bytes : List ℕ) → begins_run b bytes ≡ true → begins_token b ≡ true
 unfolding begins_token
@@ -168,21 +168,21 @@ token_takes (b ∷ bytes) z e = elim (true_or_false (is_mark b)) [
   | inl mark_is ↦ subst (Reads (b ∷ bytes)) (some_is {A = Token × List ℕ} (mark b, bytes) z (rw mark_is at e)) (record { front = b ∷ []; whole = refl; is_token = (mark_is, refl); ended = tt })
   | inr fails ↦ elim (true_or_false (b == 34)) [
     | inl quote ↦
-      let f : string_at bytes ≡ Some z = rw (fails, quote) at e in
-      let a = bind_some (end_of false bytes) (λ n. Some (quoted (take n bytes), drop (suc n) bytes)) z f in
-      let t = end_closed false bytes a.0 a.1 in
-      let first : b ≡ 34 = is_equal b 34 quote in
-      subst (Reads (b ∷ bytes)) (some_is {A = Token × List ℕ} (quoted (take a.0 bytes), drop (suc a.0) bytes) z a.2)
-      (record { front = 34 ∷ (take a.0 bytes ++ 34 ∷ []); whole = in_quotes b bytes (take a.0 bytes) (drop (suc a.0) bytes) first t.whole; is_token = (t.closed, refl); ended = tt })
+        let f : string_at bytes ≡ Some z = rw (fails, quote) at e in
+        let a = bind_some (end_of false bytes) (λ n. Some (quoted (take n bytes), drop (suc n) bytes)) z f in
+        let t = end_closed false bytes a.0 a.1 in
+        let first : b ≡ 34 = is_equal b 34 quote in
+        subst (Reads (b ∷ bytes)) (some_is {A = Token × List ℕ} (quoted (take a.0 bytes), drop (suc a.0) bytes) z a.2)
+        (record { front = 34 ∷ (take a.0 bytes ++ 34 ∷ []); whole = in_quotes b bytes (take a.0 bytes) (drop (suc a.0) bytes) first t.whole; is_token = (t.closed, refl); ended = tt })
     | inr other ↦ elim (true_or_false (begins_run b bytes)) [
       | inl run_is ↦
-        subst (Reads (b ∷ bytes)) (some_is {A = Token × List ℕ} (run_at (b ∷ bytes)) z (rw (fails, other, run_is) at e))
-        (record { front = b ∷ take (prefix_len is_word_byte bytes) bytes; whole = ap (λ (xs : List ℕ). b ∷ xs) (sym (take-append-drop (prefix_len is_word_byte bytes) bytes)); is_token = (rw (is_begun b bytes run_is, reached is_word_byte bytes) refl, refl); ended = stops_on (drop (prefix_len is_word_byte bytes) bytes) (stops_there is_word_byte bytes) })
+          subst (Reads (b ∷ bytes)) (some_is {A = Token × List ℕ} (run_at (b ∷ bytes)) z (rw (fails, other, run_is) at e))
+          (record { front = b ∷ take (prefix_len is_word_byte bytes) bytes; whole = ap (λ (xs : List ℕ). b ∷ xs) (sym (take-append-drop (prefix_len is_word_byte bytes) bytes)); is_token = (rw (is_begun b bytes run_is, reached is_word_byte bytes) refl, refl); ended = stops_on (drop (prefix_len is_word_byte bytes) bytes) (stops_there is_word_byte bytes) })
       | inr never ↦ elim (true_or_false (b == 45 && ends_arrow bytes)) [
         | inl arrow_is ↦
-          let h = both (b == 45) (ends_arrow bytes) arrow_is in
-          let whole = arrow_whole b bytes (is_equal b 45 h.0) h.1 in
-          subst (Reads (b ∷ bytes)) (some_is {A = Token × List ℕ} (arrow, drop 1 bytes) z (rw (fails, other, never, arrow_is) at e)) (record { front = codes "->"; whole = whole; is_token = refl; ended = tt })
+            let h = both (b == 45) (ends_arrow bytes) arrow_is in
+            let whole = arrow_whole b bytes (is_equal b 45 h.0) h.1 in
+            subst (Reads (b ∷ bytes)) (some_is {A = Token × List ℕ} (arrow, drop 1 bytes) z (rw (fails, other, never, arrow_is) at e)) (record { front = codes "->"; whole = whole; is_token = refl; ended = tt })
         | inr nothing ↦ let f : None ≡ Some z = rw (fails, other, never, nothing) at e in absurd cc
       ]
     ]

@@ -1,5 +1,5 @@
 -- Gaps are passed exactly.
-use Rattle.std.proofs.Common.{◌≡◌, ℕ, zero, suc, ◌+◌, ◌≤◌, ◌<◌, Bool, true, false, List, [], ◌∷◌, ◌++◌, length, drop, get_or, Option, Some, None, refl, sym, ap, subst, ◌∙◌, append_assoc, inl, inr, ◌⊎◌, arith, add-one, if◌then◌else◌}
+use Rattle.std.proofs.Common.{◌≡◌, ℕ, zero, suc, ◌+◌, ◌≤◌, ◌<◌, Bool, true, false, List, [], ◌∷◌, ◌++◌, length, drop, get_or, Option, Some, None, refl, sym, ap, subst, ◌∙◌, append_assoc, inl, inr, ◌⊎◌, arith, add-one}
 use Rattle.std.specs.Prelude.{◌&&◌, ◌==◌, not, cond}
 use Rattle.std.specs.List.{list_all}
 use Rattle.std.proofs.lemmas.List.{append-nil, length-append}
@@ -11,7 +11,7 @@ use Rattle.cd_tokens.specs.Bytes.{is_blank}
 use Rattle.cd_tokens.specs.Gap.{Piece, blank, line, block, is_end, is_line, is_block, IsPiece, IsGap, IsLastGap, is_inside_line}
 use Rattle.cd_tokens.specs.declared.gap.Place.{Place}
 use Rattle.cd_tokens.specs.declared.gap.Place.TheVariants.{Between, Slash, Line, Block}
-use Rattle.cd_tokens.specs.ReadGap.{step, may_end, may_stop, or_stopped, past_from, past_gap}
+use Rattle.cd_tokens.specs.ReadGap.{step, may_end, may_stop, past_from, past_gap}
 use Rattle.cd_tokens.proofs.Fronts.{both, true_or_false, is_equal, not_true}
 
 -- ---- the loop of the code
@@ -142,11 +142,11 @@ line_takes comments [] rest e = inr (refl, sym (some_is {A = List ℕ} [] rest e
 line_takes comments (b ∷ bytes) rest e = elim (true_or_false (b == 10)) [
   | inl feed ↦ let f : past_from comments Between bytes ≡ Some rest = rw feed at e in inl (record { front = b ∷ []; more = bytes; whole = refl; is = rw feed refl; passed = f })
   | inr other ↦
-    let f : past_from comments Line bytes ≡ Some rest = rw other at e in
-    elim (line_takes comments bytes rest f) [
-      | inl h ↦ inl (record { front = b ∷ h.front; more = h.more; whole = ap (λ (xs : List ℕ). b ∷ xs) h.whole; is = rw other h.is; passed = h.passed })
-      | inr h ↦ inr (rw (other, h.0) refl, h.1)
-    ]
+      let f : past_from comments Line bytes ≡ Some rest = rw other at e in
+      elim (line_takes comments bytes rest f) [
+        | inl h ↦ inl (record { front = b ∷ h.front; more = h.more; whole = ap (λ (xs : List ℕ). b ∷ xs) h.whole; is = rw other h.is; passed = h.passed })
+        | inr h ↦ inr (rw (other, h.0) refl, h.1)
+      ]
 ]
 
 block_takes : (comments star : Bool) (bytes rest : List ℕ) → past_from comments (Block star) bytes ≡ Some rest → Ends comments (λ s. is_block star s ≡ true) bytes rest
@@ -155,13 +155,16 @@ block_takes comments star [] rest e = absurd cc
 block_takes comments star (b ∷ bytes) rest e = elim (true_or_false (star && b == 47)) [
   | inl closed ↦ let f : past_from comments Between bytes ≡ Some rest = rw closed at e in record { front = b ∷ []; more = bytes; whole = refl; is = rw closed refl; passed = f }
   | inr other ↦
-    let f : past_from comments (Block (b == 42)) bytes ≡ Some rest = rw other at e in
-    let h = block_takes comments (b == 42) bytes rest f in
-    record { front = b ∷ h.front; more = h.more; whole = ap (λ (xs : List ℕ). b ∷ xs) h.whole; is = rw other h.is; passed = h.passed }
+      let f : past_from comments (Block (b == 42)) bytes ≡ Some rest = rw other at e in
+      let h = block_takes comments (b == 42) bytes rest f in
+      record { front = b ∷ h.front; more = h.more; whole = ap (λ (xs : List ℕ). b ∷ xs) h.whole; is = rw other h.is; passed = h.passed }
 ]
 
 two_bytes : (b k : ℕ) (bytes others : List ℕ) → b ≡ k → bytes ≡ others → 47 ∷ b ∷ bytes ≡ 47 ∷ k ∷ others
 two_bytes b k bytes others first e = rw (first, e) refl
+
+more_left : (front more bytes : List ℕ) → bytes ≡ front ++ more → length more < suc (length bytes)
+more_left front more bytes e = let n = ap length e in let m = length-append front more in omega (arith, n, m)
 
 -- behind a slash: a comment
 slash_takes : (comments : Bool) (bytes rest : List ℕ) → comments ≡ true → past_from comments Slash bytes ≡ Some rest → ((more : List ℕ) → length more < length bytes → past_from comments Between more ≡ Some rest → Passes comments more rest) → Passes comments (47 ∷ bytes) rest
@@ -169,20 +172,20 @@ unfolding past_from
 slash_takes comments [] rest on e law = absurd cc
 slash_takes comments (b ∷ bytes) rest on e law = elim (true_or_false (b == 47)) [
   | inl slash ↦
-    let f : past_from comments Line bytes ≡ Some rest = rw slash at e in
-    let at : b ≡ 47 = is_equal b 47 slash in
-    elim (line_takes comments bytes rest f) [
-      | inl h ↦ piece_before comments (line h.front) (47 ∷ 47 ∷ h.front) (47 ∷ b ∷ bytes) h.more rest (two_bytes b 47 bytes (h.front ++ h.more) at h.whole) (on, h.is, refl)
-        (law h.more (let n = ap length h.whole ∙ length-append h.front h.more in omega (arith, n)) h.passed)
-      | inr h ↦ all (inr ([], bytes, on, two_bytes b 47 bytes bytes at refl, ([], refl), h.0)) h.1
-    ]
+      let f : past_from comments Line bytes ≡ Some rest = rw slash at e in
+      let at : b ≡ 47 = is_equal b 47 slash in
+      elim (line_takes comments bytes rest f) [
+        | inl h ↦ piece_before comments (line h.front) (47 ∷ 47 ∷ h.front) (47 ∷ b ∷ bytes) h.more rest (two_bytes b 47 bytes (h.front ++ h.more) at h.whole) (on, h.is, refl)
+            (law h.more (more_left h.front h.more bytes h.whole) h.passed)
+        | inr h ↦ all (inr ([], bytes, on, two_bytes b 47 bytes bytes at refl, ([], refl), h.0)) h.1
+      ]
   | inr other ↦ elim (true_or_false (b == 42)) [
     | inl star ↦
-      let f : past_from comments (Block false) bytes ≡ Some rest = rw (other, star) at e in
-      let at : b ≡ 42 = is_equal b 42 star in
-      let h = block_takes comments false bytes rest f in
-      piece_before comments (block h.front) (47 ∷ 42 ∷ h.front) (47 ∷ b ∷ bytes) h.more rest (two_bytes b 42 bytes (h.front ++ h.more) at h.whole) (on, h.is, refl)
-      (law h.more (let n = ap length h.whole ∙ length-append h.front h.more in omega (arith, n)) h.passed)
+        let f : past_from comments (Block false) bytes ≡ Some rest = rw (other, star) at e in
+        let at : b ≡ 42 = is_equal b 42 star in
+        let h = block_takes comments false bytes rest f in
+        piece_before comments (block h.front) (47 ∷ 42 ∷ h.front) (47 ∷ b ∷ bytes) h.more rest (two_bytes b 42 bytes (h.front ++ h.more) at h.whole) (on, h.is, refl)
+        (law h.more (more_left h.front h.more bytes h.whole) h.passed)
     | inr neither ↦ let f : None ≡ Some rest = rw (other, neither) at e in absurd cc
   ]
 ]
@@ -196,16 +199,16 @@ takes_within zero comments bytes rest below e = absurd (omega (arith, below))
 takes_within (suc n) comments [] rest below e = subst (Passes comments []) (some_is {A = List ℕ} [] rest e) (gap [] refl ([], refl) refl)
 takes_within (suc n) comments (b ∷ bytes) rest below e = elim (true_or_false (is_blank b)) [
   | inl is ↦
-    let f : past_from comments Between bytes ≡ Some rest = rw is at e in
-    piece_before comments (blank b) (b ∷ []) (b ∷ bytes) bytes rest refl (is, refl) (takes_within n comments bytes rest (omega (arith, below)) f)
+      let f : past_from comments Between bytes ≡ Some rest = rw is at e in
+      piece_before comments (blank b) (b ∷ []) (b ∷ bytes) bytes rest refl (is, refl) (takes_within n comments bytes rest (omega (arith, below)) f)
   | inr other ↦ elim (true_or_false (comments && b == 47)) [
     | inl slash ↦
-      let h = both comments (b == 47) slash in
-      let f : past_from comments Slash bytes ≡ Some rest = rw (other, slash) at e in
-      let at : b ≡ 47 = is_equal b 47 h.1 in
-      subst (λ k. Passes comments (k ∷ bytes) rest) (sym at) (slash_takes comments bytes rest h.0 f (λ more less g. takes_within n comments more rest (omega (arith, below, less)) g))
+        let h = both comments (b == 47) slash in
+        let f : past_from comments Slash bytes ≡ Some rest = rw (other, slash) at e in
+        let at : b ≡ 47 = is_equal b 47 h.1 in
+        subst (λ k. Passes comments (k ∷ bytes) rest) (sym at) (slash_takes comments bytes rest h.0 f (λ more less g. takes_within n comments more rest (omega (arith, below, less)) g))
     | inr none ↦
-      subst (Passes comments (b ∷ bytes)) (some_is {A = List ℕ} (b ∷ bytes) rest (rw (other, none) at e)) (gap [] refl ([], refl) (clear_if comments b bytes other none))
+        subst (Passes comments (b ∷ bytes)) (some_is {A = List ℕ} (b ∷ bytes) rest (rw (other, none) at e)) (gap [] refl ([], refl) (clear_if comments b bytes other none))
   ]
 ]
 

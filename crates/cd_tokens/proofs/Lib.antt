@@ -5,3 +5,4 @@ pub mod Firsts
 pub mod Streams
 pub mod Numerals
 pub mod Strings
+pub mod Labels

@@ -1,5 +1,5 @@
 -- Numbers are read exactly.
-use Rattle.std.proofs.Common.{◌≡◌, ℕ, zero, suc, ◌+◌, ◌*◌, ◌^◌, ◌<◌, ◌≤◌, Bool, true, false, cond, List, [], ◌∷◌, ◌++◌, length, drop, get_or, Option, Some, None, refl, sym, ap, subst, ◌∙◌, append_assoc, inl, inr, ◌⊎◌, arith, add-one}
+use Rattle.std.proofs.Common.{◌≡◌, ℕ, ◌+◌, ◌*◌, ◌^◌, ◌<◌, ◌≤◌, Bool, true, false, cond, List, [], ◌∷◌, length, drop, get_or, Option, Some, None, refl, sym, ap, subst, ◌∙◌, inl, inr, arith, add-one}
 use Rattle.std.specs.Prelude.{◌==◌, ◌&&◌, ℤ, pos, neg_ℤ, nat_lt, option_map}
 use Rattle.std.specs.Int.Digits.{number_from_digits, number_from_digits_after}
 use Rattle.std.proofs.Math.ListN.{drop_of_length-le}
@@ -78,10 +78,10 @@ digits_found base [] false acc n e = ([], sym (some_is {A = ℕ} acc n e), nothi
 digits_found base (b ∷ bytes) needs acc n e = elim (true_or_false (b == 95)) [
   | inl under ↦ under_take base b bytes needs acc n under (rw under at e) (digits_found base bytes true acc n)
   | inr other ↦
-    let f : (digit_of base b >>= λ d. digits_from base false (acc * base + d) bytes) ≡ Some n = rw other at e in
-    let a = bind_some (digit_of base b) (λ d. digits_from base false (acc * base + d) bytes) n f in
-    let i = digits_found base bytes false (acc * base + a.0) n a.2 in
-    (a.0 ∷ i.0, i.1, digits (one_more base b a.0 i.0 bytes a.1 i.2))
+      let f : (digit_of base b >>= λ d. digits_from base false (acc * base + d) bytes) ≡ Some n = rw other at e in
+      let a = bind_some (digit_of base b) (λ d. digits_from base false (acc * base + d) bytes) n f in
+      let i = digits_found base bytes false (acc * base + a.0) n a.2 in
+      (a.0 ∷ i.0, i.1, digits (one_more base b a.0 i.0 bytes a.1 i.2))
 ]
 
 digits_take : (base : ℕ) (bytes : List ℕ) (n : ℕ) → digits_from base true 0 bytes ≡ Some n → (ds : List ℕ) × AreDigits base ds bytes × (n ≡ number_from_digits base ds)
@@ -116,9 +116,9 @@ one_digit base needs acc b x number least other digit is bytes =
     elim (true_or_false (nat_lt (acc * base + x) (2 ^ 128))) [
       | inl small ↦ let n : number ≡ Some (acc * base + x) = is ∙ rw small refl in rw (e, sym digit, n) refl
       | inr large ↦
-        let none : below (2 ^ 128) (Some (acc * base + x)) ≡ None = rw large refl in
-        let n : number ≡ None = is ∙ none in
-        rw (e, sym digit, n) (too_large (2 ^ 128) base false (acc * base + x) bytes _ (omega (arith, least)) refl none)
+          let none : below (2 ^ 128) (Some (acc * base + x)) ≡ None = rw large refl in
+          let n : number ≡ None = is ∙ none in
+          rw (e, sym digit, n) (too_large (2 ^ 128) base false (acc * base + x) bytes _ (omega (arith, least)) refl none)
     ]
 
 pub two_underscores : (limit base : ℕ) (acc b : ℕ) (needs : Bool) → b ≡ 95 → needs ≡ true → (bytes : List ℕ) → below limit (digits_from base needs acc (b ∷ bytes)) ≡ None
@@ -152,11 +152,11 @@ no_x : (a b : ℕ) (bytes : List ℕ) (n : ℕ) → digits_from 10 true 0 (a ∷
 unfolding digits_from
 no_x a b bytes n e = elim (true_or_false (a == 48 && b == 120)) [
   | inl holds ↦
-    let h = both (a == 48) (b == 120) holds in
-    let first : a ≡ 48 = is_equal a 48 h.0 in
-    let second : b ≡ 120 = is_equal b 120 h.1 in
-    let f : digits_from 10 true 0 (48 ∷ 120 ∷ bytes) ≡ Some n = subst (λ k. digits_from 10 true 0 (k ∷ 120 ∷ bytes) ≡ Some n) first (subst (λ k. digits_from 10 true 0 (a ∷ k ∷ bytes) ≡ Some n) second e) in
-    absurd cc
+      let h = both (a == 48) (b == 120) holds in
+      let first : a ≡ 48 = is_equal a 48 h.0 in
+      let second : b ≡ 120 = is_equal b 120 h.1 in
+      let f : digits_from 10 true 0 (48 ∷ 120 ∷ bytes) ≡ Some n = subst (λ k. digits_from 10 true 0 (k ∷ 120 ∷ bytes) ≡ Some n) first (subst (λ k. digits_from 10 true 0 (a ∷ k ∷ bytes) ≡ Some n) second e) in
+      absurd cc
   | inr fails ↦ fails
 ]
 
@@ -182,10 +182,10 @@ numeral_takes n [] e = absurd cc
 numeral_takes n (a ∷ []) e = inl (digits_take 10 (a ∷ []) n e)
 numeral_takes n (a ∷ b ∷ bytes) e = elim (true_or_false (a == 48 && b == 120)) [
   | inl hex ↦
-    let f : digits_from 16 true 0 bytes ≡ Some n = rw hex at e in
-    let h = both (a == 48) (b == 120) hex in
-    let t = digits_take 16 bytes n f in
-    inr (bytes, t.0, two_same a b bytes (is_equal a 48 h.0) (is_equal b 120 h.1), t.1, t.2)
+      let f : digits_from 16 true 0 bytes ≡ Some n = rw hex at e in
+      let h = both (a == 48) (b == 120) hex in
+      let t = digits_take 16 bytes n f in
+      inr (bytes, t.0, two_same a b bytes (is_equal a 48 h.0) (is_equal b 120 h.1), t.1, t.2)
   | inr plain ↦ let f : digits_from 10 true 0 (a ∷ b ∷ bytes) ≡ Some n = rw plain at e in inl (digits_take 10 (a ∷ b ∷ bytes) n f)
 ]
 
@@ -194,14 +194,14 @@ no_sign : (k : ℕ) → digit_of 10 k ≡ None → (k == 95) ≡ false → (k ==
 unfolding numeral_of digits_from
 no_sign k none under other a [] n e = elim (true_or_false (a == k)) [
   | inl same ↦
-    let f : numeral_of (k ∷ []) ≡ Some n = subst (λ j. numeral_of (j ∷ []) ≡ Some n) (is_equal a k same) e in
-    let g : None ≡ Some n = rw (under, none) at f in absurd cc
+      let f : numeral_of (k ∷ []) ≡ Some n = subst (λ j. numeral_of (j ∷ []) ≡ Some n) (is_equal a k same) e in
+      let g : None ≡ Some n = rw (under, none) at f in absurd cc
   | inr fails ↦ fails
 ]
 no_sign k none under other a (b ∷ bytes) n e = elim (true_or_false (a == k)) [
   | inl same ↦
-    let f : numeral_of (k ∷ b ∷ bytes) ≡ Some n = subst (λ j. numeral_of (j ∷ b ∷ bytes) ≡ Some n) (is_equal a k same) e in
-    let g : None ≡ Some n = rw (other, under, none) at f in absurd cc
+      let f : numeral_of (k ∷ b ∷ bytes) ≡ Some n = subst (λ j. numeral_of (j ∷ b ∷ bytes) ≡ Some n) (is_equal a k same) e in
+      let g : None ≡ Some n = rw (other, under, none) at f in absurd cc
   | inr fails ↦ fails
 ]
 
@@ -257,11 +257,11 @@ unfolding integer_of
 integer_takes z [] e = absurd cc
 integer_takes z (a ∷ bytes) e = elim (true_or_false (a == 45)) [
   | inl minus ↦
-    let f : option_map (λ n. neg_ℤ (pos n)) (numeral_of bytes) ≡ Some z = rw minus at e in
-    let m = mapped (λ n. neg_ℤ (pos n)) (numeral_of bytes) z f in
-    inr (m.0, bytes, m.2, behind_sign 45 a bytes (is_equal a 45 minus), numeral_takes m.0 bytes m.1)
+      let f : option_map (λ n. neg_ℤ (pos n)) (numeral_of bytes) ≡ Some z = rw minus at e in
+      let m = mapped (λ n. neg_ℤ (pos n)) (numeral_of bytes) z f in
+      inr (m.0, bytes, m.2, behind_sign 45 a bytes (is_equal a 45 minus), numeral_takes m.0 bytes m.1)
   | inr other ↦
-    let f : option_map (λ n. pos n) (natural_of (a ∷ bytes)) ≡ Some z = rw other at e in
-    let m = mapped (λ n. pos n) (natural_of (a ∷ bytes)) z f in
-    inl (m.0, m.2, natural_takes m.0 (a ∷ bytes) m.1)
+      let f : option_map (λ n. pos n) (natural_of (a ∷ bytes)) ≡ Some z = rw other at e in
+      let m = mapped (λ n. pos n) (natural_of (a ∷ bytes)) z f in
+      inl (m.0, m.2, natural_takes m.0 (a ∷ bytes) m.1)
 ]

@@ -1,6 +1,6 @@
 -- The tokens of a text, one after the other.
-use Rattle.std.proofs.Common.{◌≡◌, ℕ, zero, suc, ◌+◌, ◌≤◌, ◌<◌, Bool, true, false, List, [], ◌∷◌, ◌++◌, length, Option, Some, None, refl, sym, ap, ◌∙◌, append_assoc, inl, inr, ◌⊎◌, subst, arith}
-use Rattle.std.specs.Prelude.{Result, Ok, Err}
+use Rattle.std.proofs.Common.{◌≡◌, ℕ, ◌+◌, ◌<◌, Bool, true, List, [], ◌∷◌, ◌++◌, length, Option, Some, None, refl, sym, ap, ◌∙◌, append_assoc, inl, inr, subst, arith}
+use Rattle.std.specs.Prelude.{Err}
 use Rattle.std.proofs.lemmas.List.{append-nil, length-append, nil_from_length}
 use Rattle.ic_base.specs.declared.read_error.ReadError.{ReadError}
 use Rattle.ic_base.specs.declared.read_error.ReadError.TheVariants.{NoMemory, Refused}
@@ -8,12 +8,12 @@ use Rattle.ic_base.specs.Gives.{Fails}
 use Rattle.ic_base.specs.Spelling.{SpellsMany}
 use Rattle.ic_base.proofs.Steps.{some_is}
 use Rattle.cd_tokens.specs.Token.{Token, IsToken, IsEnded}
-use Rattle.cd_tokens.specs.Gap.{Piece, IsPiece, IsGap, IsLastGap}
-use Rattle.cd_tokens.specs.Lexed.{Next, IsTokens, Agrees}
+use Rattle.cd_tokens.specs.Gap.{Piece, IsPiece, IsGap}
+use Rattle.cd_tokens.specs.Lexed.{IsTokens, Agrees}
 use Rattle.cd_tokens.specs.ReadGap.{past_gap}
 use Rattle.cd_tokens.specs.ReadToken.{token_at}
-use Rattle.cd_tokens.proofs.Gaps.{is_clear, clear_stays, gap_again, last_again, Passes, gap, all, gap_takes}
-use Rattle.cd_tokens.proofs.Firsts.{token_again, Reads, token_takes, token_clear, some_byte}
+use Rattle.cd_tokens.proofs.Gaps.{is_clear, clear_stays, gap_again, last_again, gap, all, gap_takes}
+use Rattle.cd_tokens.proofs.Firsts.{token_again, token_takes, token_clear, some_byte}
 
 -- a token and what follows it, where no gap stands before
 at_once : (comments : Bool) (t : Token) (tokens : List Token) (front rest : List ℕ) → IsToken t front → IsEnded t rest → IsTokens comments tokens rest → IsTokens comments (t ∷ tokens) (front ++ rest)
@@ -126,12 +126,12 @@ one_read comments done rest text t after behind r some e passed = record {
   starts = clear_behind comments after behind passed;
   found = λ tokens is. subst (λ ts. IsTokens comments ts text) (sym (append_assoc done (t ∷ []) tokens)) (r.found (t ∷ tokens) (one_before comments t tokens rest after e (before comments tokens after behind passed is)));
   only = λ tokens is.
-    let m = r.only tokens is in
-    let f = first_of comments m.0 rest r.starts some m.2 in
-    let same : (f.first, f.rest) ≡ (t, after) = some_is {A = Token × List ℕ} (f.first, f.rest) (t, after) (sym f.read ∙ e) in
-    let first : f.first ≡ t = ap (λ (z : Token × List ℕ). z.0) same in
-    let rests : f.rest ≡ after = ap (λ (z : Token × List ℕ). z.1) same in
-    (f.more, m.1 ∙ ap (λ ts. done ++ ts) (f.are ∙ ap (λ (x : Token). x ∷ f.more) first) ∙ sym (append_assoc done (t ∷ []) f.more), past_is comments f.more after behind passed (subst (IsTokens comments f.more) rests f.follows));
+      let m = r.only tokens is in
+      let f = first_of comments m.0 rest r.starts some m.2 in
+      let same : (f.first, f.rest) ≡ (t, after) = some_is {A = Token × List ℕ} (f.first, f.rest) (t, after) (sym f.read ∙ e) in
+      let first : f.first ≡ t = ap (λ (z : Token × List ℕ). z.0) same in
+      let rests : f.rest ≡ after = ap (λ (z : Token × List ℕ). z.1) same in
+      (f.more, m.1 ∙ ap (λ ts. done ++ ts) (f.are ∙ ap (λ (x : Token). x ∷ f.more) first) ∙ sym (append_assoc done (t ∷ []) f.more), past_is comments f.more after behind passed (subst (IsTokens comments f.more) rests f.follows));
 }
 
 none_some : {A : Type 0} (x : A) (read : Option A) → read ≡ None → read ≡ Some x → ⊥

@@ -1,6 +1,6 @@
 -- Strings are read exactly.
-use Rattle.std.proofs.Common.{◌≡◌, ℕ, zero, suc, ◌+◌, ◌*◌, ◌^◌, ◌<◌, ◌≤◌, Bool, true, false, cond, List, [], ◌∷◌, ◌++◌, length, drop, get_or, Option, Some, None, refl, sym, ap, subst, ◌∙◌, append_assoc, inl, inr, ◌⊎◌, arith, add-one}
-use Rattle.std.specs.Prelude.{◌==◌, ◌&&◌, ◌||◌, not, nat_lt, encode_utf8}
+use Rattle.std.proofs.Common.{◌≡◌, ℕ, ◌+◌, ◌*◌, ◌^◌, ◌<◌, ◌≤◌, Bool, true, false, cond, List, [], ◌∷◌, ◌++◌, length, drop, get_or, Option, Some, None, refl, sym, ap, subst, ◌∙◌, append_assoc, inl, inr, arith, add-one}
+use Rattle.std.specs.Prelude.{◌==◌, ◌&&◌, ◌||◌, nat_lt, encode_utf8}
 use Rattle.std.specs.Int.Digits.{number_from_digits, number_from_digits_after}
 use Rattle.std.specs.Char.{IsScalar, digit_value}
 use Rattle.std.proofs.Math.Utf8.{scalar, scalar_cases}
@@ -18,7 +18,7 @@ use Rattle.cd_tokens.specs.declared.string.Within.TheVariants.{Plain, Backslash,
 use Rattle.cd_tokens.specs.declared.string.Said.{Said}
 use Rattle.cd_tokens.specs.declared.string.Said.TheVariants as said
 use Rattle.cd_tokens.specs.ReadString.{bytes_of, behind_backslash, paired, with_digit, string_step, is_plain, said_then, unescaped_from, unescaped_of}
-use Rattle.cd_tokens.proofs.Fronts.{both, true_or_false, is_equal, not_true}
+use Rattle.cd_tokens.proofs.Fronts.{both, true_or_false, is_equal}
 
 -- ---- the loop of the code
 
@@ -34,7 +34,7 @@ pub goes_further : (out more : List ℕ) (within next : Within) (what : Said) (i
 unfolding unescaped_from
 goes_further out more within next what i d bytes total inside step now so_far =
     let s : said_then out (unescaped_from within (drop i bytes)) ≡ said_then more (unescaped_from next (drop (i + 1) bytes)) =
-      rw (at_place bytes i d inside, sym step, now) (said_both out (bytes_of what) (unescaped_from next (drop (i + 1) bytes))) in
+    rw (at_place bytes i d inside, sym step, now) (said_both out (bytes_of what) (unescaped_from next (drop (i + 1) bytes))) in
     sym s ∙ so_far
 
 pub stops_here : (out : List ℕ) (within : Within) (i d : ℕ) (bytes : List ℕ) (total : Option (List ℕ)) → i < length bytes → None ≡ string_step within (get_or bytes i d) → said_then out (unescaped_from within (drop i bytes)) ≡ total → total ≡ None
@@ -70,7 +70,7 @@ below_base b d e = elim (true_or_false (nat_lt (digit_value b) 16)) [
   | inr large ↦ let f : None ≡ Some d = rw large at e in absurd cc
 ]
 
-is_below : (limit n : ℕ) → n < limit → below limit (Some n) ≡ Some n
+pub is_below : (limit n : ℕ) → n < limit → below limit (Some n) ≡ Some n
 is_below limit n h = let e : nat_lt n limit ≡ true = grind (arith, h) in rw e refl
 
 pair_again : (d e : ℕ) (written rest back : List ℕ) → written ≡ 92 ∷ rest → AreHex (d ∷ e ∷ []) rest → unescaped_from Plain (written ++ back) ≡ said_then ((d * 16 + e) ∷ []) (unescaped_from Plain back)
@@ -82,7 +82,7 @@ pair_again d e written rest back whole hex =
     (said_nothing (said_then [] (said_then ((d * 16 + e) ∷ []) (unescaped_from Plain back))) ∙ said_nothing (said_then ((d * 16 + e) ∷ []) (unescaped_from Plain back)))
 
 scalar_below : (n : ℕ) → IsScalar n → n < 2 ^ 32
-scalar_below n is = elim (scalar_cases n is) [ | inl h ↦ omega (arith, h) | inr h ↦ omega (arith, h) ]
+scalar_below n is = elim (scalar_cases n is) [ inl h ↦ omega (arith, h) | inr h ↦ omega (arith, h) ]
 
 digits_again : (count n : ℕ) (ds hex back : List ℕ) → AreHex ds hex → count + length ds ≤ 6 → 1 ≤ count + length ds → IsScalar (number_from_digits_after 16 n ds)
     → unescaped_from (Scalar count n) (hex ++ 125 ∷ back) ≡ said_then (encode_utf8 (number_from_digits_after 16 n ds)) (unescaped_from Plain back)
@@ -159,9 +159,9 @@ plain_takes b bytes r x e = elim (true_or_false (b == 92)) [
   | inr other ↦ elim (true_or_false (nat_lt b 32 || b == 34)) [
     | inl bad ↦ let f : None ≡ Some x = rw (other, bad) at e in absurd cc
     | inr good ↦
-      let high : 32 ≤ b = grind (arith, good) in
-      let quote : (b == 34) ≡ false = grind (arith, good) in
-      stepped Plain b bytes r (Plain, said.Byte b) x (rw (other, good) at e) (λ claim. part_before (byte b) (b ∷ []) (b ∷ []) r bytes (high, quote, other, refl, refl) claim)
+        let high : 32 ≤ b = grind (arith, good) in
+        let quote : (b == 34) ≡ false = grind (arith, good) in
+        stepped Plain b bytes r (Plain, said.Byte b) x (rw (other, good) at e) (λ claim. part_before (byte b) (b ∷ []) (b ∷ []) r bytes (high, quote, other, refl, refl) claim)
   ]
 ]
 
@@ -174,7 +174,7 @@ behind_takes b bytes r x None digit true is u is_digit e =
 behind_takes b bytes r x None None false is u is_digit e = absurd cc
 behind_takes b bytes r x None (Some d) false is u is_digit e = stepped Backslash b bytes r (Pair d, said.Nothing) x e (λ claim. claim b is_digit)
 
-number_below : (limit n m : ℕ) → below limit (Some n) ≡ Some m → n ≡ m
+pub number_below : (limit n m : ℕ) → below limit (Some n) ≡ Some m → n ≡ m
 number_below limit n m e = elim (true_or_false (nat_lt n limit)) [
   | inl small ↦ some_is {A = ℕ} n m (rw small at e)
   | inr large ↦ let f : None ≡ Some m = rw large at e in absurd cc
@@ -187,7 +187,7 @@ pair_takes d b bytes r x e =
     let m = bind_some (below (2 ^ 8) (Some (d * 16 + a.0))) (λ k. Some (Plain, said.Byte k)) x a.2 in
     let n = number_below (2 ^ 8) (d * 16 + a.0) m.0 m.1 in
     stepped (Pair d) b bytes r (Plain, said.Byte m.0) x m.2 (λ claim first digit.
-      part_before (pair d a.0) (m.0 ∷ []) (92 ∷ first ∷ b ∷ []) r bytes (first ∷ b ∷ [], refl, (first, b ∷ [], refl, digit, (b, [], refl, a.1, refl)), ap (λ (k : ℕ). k ∷ []) (sym n)) claim)
+    part_before (pair d a.0) (m.0 ∷ []) (92 ∷ first ∷ b ∷ []) r bytes (first ∷ b ∷ [], refl, (first, b ∷ [], refl, digit, (b, [], refl, a.1, refl)), ap (λ (k : ℕ). k ∷ []) (sym n)) claim)
 
 brace_takes : (b : ℕ) (bytes r : List ℕ) (x : Within × Said) → string_step Brace b ≡ Some x → Steps Brace b bytes r x
 unfolding Steps
@@ -201,11 +201,11 @@ unfolding Steps
 scalar_takes count n b bytes r x e = elim (true_or_false (b == 125)) [
   | inl brace ↦ elim (true_or_false (nat_lt 0 count && scalar n)) [
     | inl good ↦
-      let h = both (nat_lt 0 count) (scalar n) good in
-      stepped (Scalar count n) b bytes r (Plain, said.Char n) x (rw (brace, good) at e) (λ claim ds hex are many few number.
+        let h = both (nat_lt 0 count) (scalar n) good in
+        stepped (Scalar count n) b bytes r (Plain, said.Char n) x (rw (brace, good) at e) (λ claim ds hex are many few number.
         let some : 1 ≤ length ds = grind (arith, h.0, many) in
         let at : (92 ∷ 117 ∷ 123 ∷ (hex ++ 125 ∷ [])) ++ bytes ≡ 92 ∷ 117 ∷ 123 ∷ (hex ++ b ∷ bytes) =
-          ap (λ (xs : List ℕ). 92 ∷ 117 ∷ 123 ∷ xs) (append_assoc hex (125 ∷ []) bytes ∙ ap (λ (k : ℕ). hex ++ k ∷ bytes) (sym (is_equal b 125 brace))) in
+        ap (λ (xs : List ℕ). 92 ∷ 117 ∷ 123 ∷ xs) (append_assoc hex (125 ∷ []) bytes ∙ ap (λ (k : ℕ). hex ++ k ∷ bytes) (sym (is_equal b 125 brace))) in
         let is : IsScalar (number_from_digits 16 ds) = subst IsScalar number h.1 in
         subst (Unescaped (encode_utf8 n ++ r)) at
         (part_before (scalar_part ds) (encode_utf8 n) (92 ∷ 117 ∷ 123 ∷ (hex ++ 125 ∷ [])) r bytes (hex, refl, are, some, omega (arith, many, few), is, ap encode_utf8 number) claim))
@@ -213,11 +213,11 @@ scalar_takes count n b bytes r x e = elim (true_or_false (b == 125)) [
   ]
   | inr other ↦ elim (true_or_false (nat_lt count 6)) [
     | inl room ↦
-      let f : (digit_of 16 b >>= λ d. with_digit count n d) ≡ Some x = rw (other, room) at e in
-      let a = bind_some (digit_of 16 b) (λ d. with_digit count n d) x f in
-      let m = bind_some (below (2 ^ 32) (Some (n * 16 + a.0))) (λ k. Some (Scalar (count + 1) k, said.Nothing)) x a.2 in
-      let k = number_below (2 ^ 32) (n * 16 + a.0) m.0 m.1 in
-      stepped (Scalar count n) b bytes r (Scalar (count + 1) m.0, said.Nothing) x m.2 (λ claim ds hex are many few number.
+        let f : (digit_of 16 b >>= λ d. with_digit count n d) ≡ Some x = rw (other, room) at e in
+        let a = bind_some (digit_of 16 b) (λ d. with_digit count n d) x f in
+        let m = bind_some (below (2 ^ 32) (Some (n * 16 + a.0))) (λ k. Some (Scalar (count + 1) k, said.Nothing)) x a.2 in
+        let k = number_below (2 ^ 32) (n * 16 + a.0) m.0 m.1 in
+        stepped (Scalar count n) b bytes r (Scalar (count + 1) m.0, said.Nothing) x m.2 (λ claim ds hex are many few number.
         let at : (hex ++ b ∷ []) ++ bytes ≡ hex ++ b ∷ bytes = append_assoc hex (b ∷ []) bytes in
         let n_is : m.0 ≡ number_from_digits 16 (ds ++ a.0 ∷ []) = sym k ∙ ap (λ j. j * 16 + a.0) number ∙ sym (number_push 0 ds a.0) in
         let l : length (ds ++ a.0 ∷ []) ≡ count + 1 = length-append ds (a.0 ∷ []) ∙ ap (λ j. j + 1) many in

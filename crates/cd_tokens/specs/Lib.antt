@@ -10,3 +10,5 @@ pub mod ReadNumeral
 pub mod GoOn
 pub mod Unescaped
 pub mod ReadString
+pub mod Label
+pub mod ReadLabel

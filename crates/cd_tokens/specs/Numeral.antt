@@ -1,5 +1,5 @@
 -- How numbers are said (Candid specification, "Core Grammar", natural numbers and integers).
-use Rattle.std.specs.Prelude.{◌≡◌, ℕ, ℤ, pos, neg_ℤ, Bool, nat_lt, if◌then◌else◌, List, [], ◌∷◌, Option, Some, None, ◌⊎◌}
+use Rattle.std.specs.Prelude.{◌≡◌, ℕ, ℤ, pos, neg_ℤ, nat_lt, if◌then◌else◌, List, [], ◌∷◌, Option, Some, None, ◌⊎◌}
 use Rattle.std.specs.Int.Digits.{number_from_digits}
 use Rattle.std.specs.Char.{digit_value}
 

@@ -1,5 +1,5 @@
 -- What a string says, as a function that goes on byte by byte.
-use Rattle.std.specs.Prelude.{ℕ, suc, ◌+◌, ◌*◌, ◌^◌, Bool, true, false, ◌==◌, ◌&&◌, ◌||◌, nat_lt, cond, if◌then◌else◌, option_map, List, [], ◌∷◌, ◌++◌, Option, Some, None, encode_utf8}
+use Rattle.std.specs.Prelude.{ℕ, ◌+◌, ◌*◌, ◌^◌, Bool, true, false, ◌==◌, ◌&&◌, ◌||◌, nat_lt, if◌then◌else◌, List, [], ◌∷◌, ◌++◌, Option, Some, None, encode_utf8}
 use Rattle.std.proofs.Math.Utf8.{scalar}
 use Rattle.ic_base.specs.Reader.{◌>>=◌}
 use Rattle.cd_tokens.specs.Numeral.{digit_of}

@@ -1,5 +1,5 @@
 -- The first token of bytes, as a function that reads it.
-use Rattle.std.specs.Prelude.{ℕ, suc, Bool, true, false, ◌==◌, ◌&&◌, not, if◌then◌else◌, List, [], ◌∷◌, take, drop, Option, Some, None}
+use Rattle.std.specs.Prelude.{ℕ, suc, Bool, false, ◌==◌, ◌&&◌, not, if◌then◌else◌, List, [], ◌∷◌, take, drop, Option, Some, None}
 use Rattle.std.specs.List.{prefix_len}
 use Rattle.ic_base.specs.Reader.{Reader, ◌>>=◌}
 use Rattle.cd_tokens.specs.Bytes.{is_word_byte, is_mark}

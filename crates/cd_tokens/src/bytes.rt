@@ -23,7 +23,10 @@ pub(crate) fn is_sign(byte: u8) -> bool
 pub(crate) fn is_mark(byte: u8) -> bool
     ensures { result ≡ is_mark byte }
 {
-    matches!(byte, b'(' | b')' | b'{' | b'}' | b':' | b';' | b',' | b'=' | b'.')
+    matches!(
+        byte,
+        b'(' | b')' | b'{' | b'}' | b':' | b';' | b',' | b'=' | b'.'
+    )
 }
 
 /// Whether a letter, a digit or `_` stands first.

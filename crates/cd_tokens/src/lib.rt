@@ -8,11 +8,14 @@
 
 mod bytes;
 mod gap;
+mod label;
+pub mod laws;
 mod number;
 mod piece;
 mod string;
 mod token;
 
+pub use label::{is_name, label_of, name_of, text_of};
 pub use number::{integer_of, natural_of};
 pub use piece::Piece;
 pub use string::unescaped_of;

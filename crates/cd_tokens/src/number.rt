@@ -88,7 +88,7 @@ fn digits_of(base: u32, bytes: &[u8]) -> Option<u128>
 }
 
 #[tactic(auto, unfolding(crate::specs::ReadNumeral::numeral_of))]
-fn numeral_of(bytes: &[u8]) -> Option<u128>
+pub(crate) fn numeral_of(bytes: &[u8]) -> Option<u128>
     ensures { result ≡ below (2 ^ 128) (numeral_of bytes.now) }
 {
     match bytes {

@@ -1,5 +1,4 @@
-use Rattle.std.proofs.Common.{sym, ◌∙◌, ap}
-use Rattle.std.specs.Prelude.{cond, Some, None}
+use Rattle.std.proofs.Common.{sym, ◌∙◌}
 use Rattle.cd_tokens.proofs.Gaps.{goes_further, stops_here, ends_here}
 use Rattle.cd_tokens.proofs.gap.past_gap.Goals as goal
 

@@ -1,6 +1,6 @@
 use Rattle.std.proofs.Common.{◌^◌, ap, sym, ◌∙◌}
 use Rattle.std.specs.Prelude.{cond, Some, None}
-use Rattle.cd_tokens.proofs.Numerals.{at_byte, at_last, natural_again, integer_takes, integer_again, natural_takes}
+use Rattle.cd_tokens.proofs.Numerals.{at_last}
 use Rattle.cd_tokens.proofs.number.digits_of.Goals as goal
 
 pub returns-then-digits : goal.returns-then-digits
