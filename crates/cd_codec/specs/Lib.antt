@@ -1,6 +1,7 @@
 pub mod Content
 pub mod View
 pub mod Measure
+pub mod Missing
 pub mod Basic
 pub mod Plain
 pub mod Wire

@@ -9,6 +9,7 @@
 #![tactic(auto)]
 
 mod codes;
+mod expected;
 mod fault;
 mod header;
 mod header_reader;
@@ -21,6 +22,7 @@ mod room;
 mod value;
 mod writer;
 
+pub use expected::Expected;
 pub use fault::{HeaderFault, ValueFault};
 pub use header::Header;
 pub use header_reader::read_header;

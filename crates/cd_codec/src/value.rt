@@ -1,7 +1,10 @@
-ghost use Rattle.std.specs.Prelude.{◌≡◌, IfOk};
+ghost use Rattle.std.specs.Prelude.{◌≡◌, IfOk, option_map};
+ghost use Rattle.cd_types.specs.Shape.{shape};
 ghost use Rattle.cd_codec.specs.Content.{blob, none, some, list, record_of, variant, contents_of, parts_of};
+ghost use Rattle.cd_codec.specs.Missing.{missing};
 ghost use Rattle.cd_codec.specs.View.{view, views, views_of_fields};
 
+use cd_types::{Entry, Prim, TyRef, TypeTable};
 use ic_base::NoMemory;
 use ic_principal::{Bytes, Principal, Text};
 use std::alloc::Global;
@@ -54,6 +57,23 @@ pub struct FieldValues {
 }
 
 impl Value {
+    /// What stands for a missing field or argument of this type, if it may be missing: null,
+    /// reserved or none.
+    #[tactic(auto, using(crate::proofs::Views::layers))]
+    pub fn missing(table: &TypeTable, ty: TyRef) -> Option<Value>
+        ensures { option_map view result ≡ missing (shape table.now ty) }
+    {
+        match ty {
+            TyRef::Prim(Prim::Null) => Some(Value::Null),
+            TyRef::Prim(Prim::Reserved) => Some(Value::Reserved),
+            TyRef::Prim(_) => None,
+            TyRef::Index(index) => match table.entry(index) {
+                Some(Entry::Opt(_)) => Some(Value::Opt(None)),
+                _ => None,
+            },
+        }
+    }
+
     /// An `opt` without a value.
     #[tactic(auto, using(crate::proofs::Views::layers))]
     pub fn none() -> Value

@@ -9,7 +9,6 @@
 #![tactic(auto)]
 
 mod arguments;
-mod expected;
 mod fault;
 pub mod laws;
 mod message;
@@ -18,6 +17,6 @@ mod reading;
 mod shapes;
 mod step;
 
-pub use expected::Expected;
+pub use cd_codec::Expected;
 pub use fault::DidlFault;
 pub use message::{decode, decode_within};

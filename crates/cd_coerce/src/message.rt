@@ -7,12 +7,11 @@ ghost use Rattle.cd_coerce.specs.Step.{setting};
 ghost use Rattle.cd_coerce.specs.Decodes.{Decodes, HasFault};
 ghost use Rattle.cd_coerce.specs.Decoded.{decoded, message_read, values_read, IsAnswer, IsHeaderAnswer};
 
-use crate::expected::Expected;
 use crate::fault::DidlFault;
 use crate::laws::one_answer;
 use crate::shapes::well_formed_table;
 use crate::step::Coercion;
-use cd_codec::{Header, HeaderFault, ValueFault, Values, read_header, read_values};
+use cd_codec::{Expected, Header, HeaderFault, ValueFault, Values, read_header, read_values};
 use cd_types::TyRef;
 use ic_base::ReadError;
 use std::alloc::Global;

@@ -53,19 +53,10 @@ pub(crate) fn way_of(table: &TypeTable, ty: TyRef) -> Way
 }
 
 /// What stands for a missing field or argument of this type.
-#[tactic(auto, using(cd_codec::proofs::Views::layers))]
 pub(crate) fn missing_value(table: &TypeTable, ty: TyRef) -> Result<Value, ReadError>
     ensures { Gives view result (missing (shape table.now ty)) }
 {
-    match ty {
-        TyRef::Prim(Prim::Null) => Ok(Value::Null),
-        TyRef::Prim(Prim::Reserved) => Ok(Value::Reserved),
-        TyRef::Prim(_) => Err(ReadError::Refused),
-        TyRef::Index(index) => match table.entry(index) {
-            Some(Entry::Opt(_)) => Ok(Value::Opt(None)),
-            _ => Err(ReadError::Refused),
-        },
-    }
+    Value::missing(table, ty).ok_or(ReadError::Refused)
 }
 
 pub(crate) fn is_primitive(table: &TypeTable, ty: TyRef, prim: Prim) -> bool
