@@ -86,7 +86,7 @@ label_again (quoted s) id is = elim is [ inl number ↦ absurd number | inr name
 label_again (mark m) id is = elim is [ inl number ↦ absurd number | inr name ↦ absurd name.1 ]
 label_again arrow id is = elim is [ inl number ↦ absurd number | inr name ↦ absurd name.1 ]
 
-below_takes : (limit n : ℕ) (read : Option ℕ) → below limit read ≡ Some n → (read ≡ Some n) × (n < limit)
+pub below_takes : (limit n : ℕ) (read : Option ℕ) → below limit read ≡ Some n → (read ≡ Some n) × (n < limit)
 below_takes limit n None e = absurd cc
 below_takes limit n (Some m) e =
     let same = number_below limit m n e in

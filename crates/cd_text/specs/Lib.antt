@@ -1,0 +1,3 @@
+pub mod Types
+pub mod Printed
+pub mod Pieces

@@ -1,0 +1,91 @@
+-- The one printed text of values at their types (Candid specification, "Core Grammar", values).
+use Rattle.std.specs.Prelude.{ℕ, ℤ, suc, ◌/◌, ◌%◌, ◌==◌, ◌||◌, Bool, true, false, nat_lt, if◌then◌else◌, List, [], ◌∷◌, ◌++◌, codes}
+use Rattle.std.specs.List.{flat_map}
+use Rattle.std.specs.Fmt.{decimal, signed_decimal}
+use Rattle.std.specs.Char.{digit_char}
+use Rattle.ic_principal.specs.Text.{text_of as principal_text}
+use Rattle.cd_types.specs.declared.entry.TyRef.{TyRef}
+use Rattle.cd_types.specs.declared.entry.Entry.{Entry}
+use Rattle.cd_types.specs.Shape.{shape}
+use Rattle.cd_codec.specs.Content.{Content, Plain, null, bool, nat, int, nat8, nat16, nat32, nat64, int8, int16, int32, int64, text, reserved, func, service, principal, plain, blob, none, some, list, record_of, variant, Contents, no_content, content, Parts, no_part, part}
+use Rattle.cd_text.specs.Types.{inner_of, item_of, fields_of, field_at, type_at}
+
+-- a byte by two lower hex digits behind a backslash
+abbrev pub hex_escape : ℕ → List ℕ
+hex_escape b = 92 ∷ digit_char (b / 16) ∷ digit_char (b % 16) ∷ []
+
+-- a byte of a text: " and \ behind a backslash, control characters as hex, all else as it stands
+abbrev pub escape : ℕ → List ℕ
+escape b = if b == 34 || b == 92 then 92 ∷ b ∷ [] else if nat_lt b 32 || b == 127 then hex_escape b else b ∷ []
+
+-- a text between quotes
+abbrev pub quoted : List ℕ → List ℕ
+quoted s = 34 ∷ (flat_map escape s ++ 34 ∷ [])
+
+-- texts with a separator between
+abbrev pub joined : List ℕ → List (List ℕ) → List ℕ
+joined separator [] = []
+joined separator (first ∷ more) = first ++ flat_map (λ next. separator ++ next) more
+
+-- parts in braces: {} without parts, else { a; b }
+abbrev pub braced : List (List ℕ) → List ℕ
+braced [] = codes "{}"
+braced (first ∷ more) = codes "{ " ++ (joined (codes "; ") (first ∷ more) ++ codes " }")
+
+-- a label, = and a value
+abbrev pub labelled : ℕ → List ℕ → List ℕ
+labelled id value = decimal id ++ (codes " = " ++ value)
+
+abbrev pub bool_text : Bool → List ℕ
+bool_text true = codes "true"
+bool_text false = codes "false"
+
+-- a value without parts
+unfoldable pub plain_text : Plain → List ℕ
+plain_text null = codes "null"
+plain_text (bool b) = bool_text b
+plain_text (nat n) = decimal n
+plain_text (int z) = signed_decimal z
+plain_text (nat8 n) = decimal n
+plain_text (nat16 n) = decimal n
+plain_text (nat32 n) = decimal n
+plain_text (nat64 n) = decimal n
+plain_text (int8 z) = signed_decimal z
+plain_text (int16 z) = signed_decimal z
+plain_text (int32 z) = signed_decimal z
+plain_text (int64 z) = signed_decimal z
+plain_text (text s) = quoted s
+plain_text reserved = codes "null"
+plain_text (func p method) = codes "func " ++ (quoted (principal_text p) ++ (46 ∷ quoted method))
+plain_text (service p) = codes "service " ++ quoted (principal_text p)
+plain_text (principal p) = codes "principal " ++ quoted (principal_text p)
+
+unfoldable mutual
+  -- a value at its type
+  pub value_text : List Entry → TyRef → Content → List ℕ
+  value_text table type (plain p) = plain_text p
+  value_text table type (blob s) = codes "blob " ++ (34 ∷ (flat_map hex_escape s ++ 34 ∷ []))
+  value_text table type none = codes "null"
+  value_text table type (some v) = codes "opt " ++ value_text table (inner_of (shape table type)) v
+  value_text table type (list vs) = codes "vec " ++ braced (item_texts table (item_of (shape table type)) vs)
+  value_text table type (record_of ps) = codes "record " ++ braced (field_texts table (fields_of (shape table type)) 0 ps)
+  value_text table type (variant i v) = let case = field_at (fields_of (shape table type)) i in codes "variant " ++ braced (labelled case.0 (value_text table case.1 v) ∷ [])
+
+  -- the values of a vec
+  pub item_texts : List Entry → TyRef → Contents → List (List ℕ)
+  item_texts table item no_content = []
+  item_texts table item (content v vs) = value_text table item v ∷ item_texts table item vs
+
+  -- the fields of a record, the first of which stands at this place
+  pub field_texts : List Entry → List (ℕ × TyRef) → ℕ → Parts → List (List ℕ)
+  field_texts table fields place no_part = []
+  field_texts table fields place (part id v ps) = labelled id (value_text table (field_at fields place).1 v) ∷ field_texts table fields (suc place) ps
+
+-- each value at its type; the first stands at this place
+abbrev pub argument_texts : List Entry → List TyRef → ℕ → List Content → List (List ℕ)
+argument_texts table types place [] = []
+argument_texts table types place (v ∷ vs) = value_text table (type_at types place) v ∷ argument_texts table types (suc place) vs
+
+-- the values between parentheses, with commas between
+abbrev pub printed : List Entry → List TyRef → List Content → List ℕ
+printed table types values = 40 ∷ (joined (codes ", ") (argument_texts table types 0 values) ++ 41 ∷ [])

@@ -1,0 +1,172 @@
+ghost use Rattle.std.specs.Prelude.{◌≡◌, ◌++◌, ◌∷◌, [], map, OnOk, IfOk, codes};
+ghost use Rattle.cd_text.specs.Pieces.{before, closing};
+ghost use Rattle.cd_codec.specs.View.{view, views, views_of_fields};
+ghost use Rattle.cd_codec.specs.Content.{parts_of};
+ghost use Rattle.cd_text.specs.Printed.{value_text, field_texts, joined, braced, labelled, argument_texts, printed};
+
+use crate::plain_writer::{
+    write_blob, write_bool, write_integer, write_method, write_natural, write_principal, write_text,
+};
+use crate::types::{field_at, fields_of, inner_of, item_of, type_at};
+use cd_codec::Value;
+use cd_types::{TyRef, TypeTable};
+use ic_base::NoMemory;
+use ic_principal::Bytes;
+use std::alloc::Global;
+
+// What stands before the part at a place.
+fn before<'a>(first: &'a [u8], other: &'a [u8], place: usize) -> &'a [u8]
+    ensures { result.now ≡ before first.now other.now place }
+{
+    if place == 0 { first } else { other }
+}
+
+// What stands behind parts in braces.
+fn closing(empty: bool) -> &'static [u8]
+    ensures { result.now ≡ closing empty }
+{
+    if empty { b"{}" } else { b" }" }
+}
+
+#[cycle(printer)]
+#[tactic(auto, using(cd_codec::proofs::Views::layers), unfolding(crate::specs::Printed::value_text, crate::specs::Printed::plain_text))]
+fn write_value(
+    alloc: Global,
+    table: &TypeTable,
+    ty: TyRef,
+    value: &Value,
+    out: &mut Vec<u8>,
+) -> Result<(), NoMemory>
+    ensures { OnOk result (out.new.items ≡ out.old.items ++ value_text table.now ty (view value.now)) }
+{
+    match value {
+        Value::Null => out.extend_from_slice(b"null")?,
+        Value::Reserved => out.extend_from_slice(b"null")?,
+        Value::Bool(b) => write_bool(*b, out)?,
+        Value::Nat(n) => write_natural(alloc, *n, out)?,
+        Value::Int(z) => write_integer(alloc, *z, out)?,
+        Value::Nat8(n) => write_natural(alloc, u128::from(*n), out)?,
+        Value::Nat16(n) => write_natural(alloc, u128::from(*n), out)?,
+        Value::Nat32(n) => write_natural(alloc, u128::from(*n), out)?,
+        Value::Nat64(n) => write_natural(alloc, u128::from(*n), out)?,
+        Value::Int8(z) => write_integer(alloc, i128::from(*z), out)?,
+        Value::Int16(z) => write_integer(alloc, i128::from(*z), out)?,
+        Value::Int32(z) => write_integer(alloc, i128::from(*z), out)?,
+        Value::Int64(z) => write_integer(alloc, i128::from(*z), out)?,
+        Value::Text(text) => write_text(text, out)?,
+        Value::Opt(part) => match part {
+            None => out.extend_from_slice(b"null")?,
+            Some(part) => {
+                out.extend_from_slice(b"opt ")?;
+                write_value(alloc, table, inner_of(table, ty), part, out)?;
+            }
+        },
+        Value::Blob(bytes) => write_blob(&bytes.items, out)?,
+        Value::Seq(values) => {
+            out.extend_from_slice(b"vec ")?;
+            write_items(alloc, table, item_of(table, ty), &values.items, out)?;
+        }
+        Value::Rec(fields) => {
+            out.extend_from_slice(b"record ")?;
+            write_fields(alloc, table, fields_of(table, ty), &fields.items, out)?;
+        }
+        Value::Var { position, part } => {
+            let (id, ty) = field_at(fields_of(table, ty), *position as usize);
+            out.extend_from_slice(b"variant { ")?;
+            write_field(alloc, table, ty, id, part, out)?;
+            out.extend_from_slice(b" }")?;
+        }
+        Value::Func { service, method } => write_method(alloc, service, method, out)?,
+        Value::Service(id) => write_principal(alloc, b"service ", id, out)?,
+        Value::Principal(id) => write_principal(alloc, b"principal ", id, out)?,
+    }
+    Ok(())
+}
+
+#[cycle(printer)]
+fn write_items(
+    alloc: Global,
+    table: &TypeTable,
+    item: TyRef,
+    values: &[Value],
+    out: &mut Vec<u8>,
+) -> Result<(), NoMemory>
+    ensures { OnOk result (out.new.items ≡ out.old.items ++ braced (map (value_text table.now item) (views values.now))) }
+{
+    for (place, value) in values.iter().enumerate() {
+        out.extend_from_slice(before(b"{ ", b"; ", place))?;
+        write_value(alloc, table, item, value, out)?;
+    }
+    out.extend_from_slice(closing(values.is_empty()))?;
+    Ok(())
+}
+
+#[cycle(printer)]
+fn write_field(
+    alloc: Global,
+    table: &TypeTable,
+    ty: TyRef,
+    id: u32,
+    value: &Value,
+    out: &mut Vec<u8>,
+) -> Result<(), NoMemory>
+    ensures { OnOk result (out.new.items ≡ out.old.items ++ labelled id (value_text table.now ty (view value.now))) }
+{
+    write_natural(alloc, u128::from(id), out)?;
+    out.extend_from_slice(b" = ")?;
+    write_value(alloc, table, ty, value, out)?;
+    Ok(())
+}
+
+#[cycle(printer)]
+fn write_fields(
+    alloc: Global,
+    table: &TypeTable,
+    types: &[(u32, TyRef)],
+    fields: &[(u32, Value)],
+    out: &mut Vec<u8>,
+) -> Result<(), NoMemory>
+    ensures { OnOk result (out.new.items ≡ out.old.items ++ braced (field_texts table.now types.now 0 (parts_of (views_of_fields fields.now)))) }
+{
+    for (place, (id, value)) in fields.iter().enumerate() {
+        let (_, ty) = field_at(types, place);
+        out.extend_from_slice(before(b"{ ", b"; ", place))?;
+        write_field(alloc, table, ty, *id, value, out)?;
+    }
+    out.extend_from_slice(closing(fields.is_empty()))?;
+    Ok(())
+}
+
+fn write_arguments(
+    alloc: Global,
+    table: &TypeTable,
+    types: &[TyRef],
+    values: &[Value],
+    out: &mut Vec<u8>,
+) -> Result<(), NoMemory>
+    ensures { OnOk result (out.new.items ≡ out.old.items ++ joined (codes ", ") (argument_texts table.now types.now 0 (views values.now))) }
+{
+    for (place, value) in values.iter().enumerate() {
+        out.extend_from_slice(before(b"", b", ", place))?;
+        write_value(alloc, table, type_at(types, place), value, out)?;
+    }
+    Ok(())
+}
+
+/// The one printed text of values at their types: no annotation, no parentheses within the outer
+/// ones, decimal numbers, labels by number, all fields in the order of their ids. A `vec nat8` is a
+/// `blob` of hex escapes. The call recurses as deep as the values nest.
+pub fn print(
+    alloc: Global,
+    table: &TypeTable,
+    types: &[TyRef],
+    values: &[Value],
+) -> Result<Bytes, NoMemory>
+    ensures { IfOk result (λ text. text ≡ printed table.now types.now (views values.now)) }
+{
+    let mut items = Vec::new(alloc);
+    items.push(b'(')?;
+    write_arguments(alloc, table, types, values, &mut items)?;
+    items.push(b')')?;
+    Ok(Bytes { items })
+}
