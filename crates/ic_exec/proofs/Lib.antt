@@ -1,0 +1,9 @@
+pub mod Enters
+pub mod Numbers
+pub mod Applies
+pub mod Rooms
+pub mod CallRuns
+pub mod AnswerRuns
+pub mod Handles
+pub mod Trapped
+pub mod Conserves

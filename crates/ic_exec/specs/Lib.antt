@@ -1,0 +1,8 @@
+pub mod Entered
+pub mod Views
+pub mod Executed
+pub mod Query
+pub mod Inspection
+pub mod Placed
+pub mod TrapLeaves
+pub mod Cleanups

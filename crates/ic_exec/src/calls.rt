@@ -1,0 +1,90 @@
+ghost use Rattle.std.specs.Prelude.{◌≡◌, ◌≤◌, Some, slice_get, IfOk};
+ghost use Rattle.std.specs.List.{position};
+ghost use Rattle.ic_behaviour.specs.State.{Code as SomeCode};
+ghost use Rattle.ic_behaviour.specs.Entry.{enters_by};
+ghost use Rattle.ic_behaviour.specs.Executing.{is_own, called};
+ghost use Rattle.ic_state.specs.Seen.{seen};
+ghost use Rattle.ic_state.specs.IsCanister.{IsCanister};
+ghost use Rattle.ic_calls.specs.Received.{CanEnter};
+ghost use Rattle.ic_api.specs.System.{system_api};
+ghost use Rattle.ic_exec.specs.Executed.{work_of};
+ghost use Rattle.ic_exec.specs.Entered.{parts_of};
+
+use crate::effects::{answer_alone, returned};
+use crate::entering::{Entered, attempt};
+use crate::views::{view_in, with_call};
+use crate::work::{Work, silent};
+use ic_base::NoMemory;
+use ic_principal::{Bytes, Principal, Text};
+use ic_state::{Admitted, Canister, Context, EntryKind, Env, Origin};
+use std::alloc::Global;
+use wm_semantics::Target;
+
+/// A call that the canister takes.
+#[derive(Drop)]
+pub struct TakenCall {
+    pub origin: Origin,
+    pub sender: Principal,
+    pub method: Text,
+    pub arg: Bytes,
+    pub cycles: u128,
+}
+
+// The function, what kind of entry it is, and whether what it does to the store is kept.
+fn parts_of(entry: Admitted) -> (u32, EntryKind, bool)
+    ensures { result ≡ parts_of entry }
+{
+    match entry {
+        Admitted::Update(function) => (function, EntryKind::Update, true),
+        Admitted::Query(function) => (function, EntryKind::Query, false),
+    }
+}
+
+/// Runs a method in the context of its call, which stands at that place.
+pub fn run_call(
+    alloc: Global,
+    canister: &mut Canister,
+    place: usize,
+    context: Context,
+    method: Text,
+    arg: Bytes,
+    entry: Admitted,
+    env: Env,
+) -> Result<Work, NoMemory>
+    requires keeps { IsCanister canister.old }
+    requires place { position (is_own context.id) canister.old.contexts ≡ Some place }
+    requires there { slice_get canister.old.contexts place ≡ Some context }
+    requires entry { CanEnter canister.old.code entry }
+    ensures work { IfOk result (λ w. (code : SomeCode) → (seen canister.old).code ≡ Some code
+        → work_of canister.new w ≡ called (enters_by system_api) env (seen canister.old) context.id context method arg code entry) }
+    ensures keeps { IfOk result (λ _. IsCanister canister.new) }
+    ensures used { IfOk result (λ w. w.used ≤ env.limit) }
+{
+    let _next_call = canister.next_call;
+    let view = with_call(view_in(alloc, env, canister, &context)?, method, arg);
+    let (function, kind, keeps) = parts_of(entry);
+    let Some(code) = &canister.code else {
+        unreachable!();
+    };
+    let Entered { ended, used } = attempt(
+        alloc,
+        code,
+        &mut canister.store,
+        Target::Function(function),
+        kind,
+        view,
+        env.limit,
+        keeps,
+    )?;
+    match ended {
+        Ok(effects) => {
+            if keeps {
+                returned(alloc, canister, place, context, effects, used)
+            } else {
+                let effects = answer_alone(alloc, canister, &context, effects)?;
+                returned(alloc, canister, place, context, effects, used)
+            }
+        }
+        Err(cause) => Ok(silent(alloc, used, Some((context.id, cause)))),
+    }
+}

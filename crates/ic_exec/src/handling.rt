@@ -1,0 +1,295 @@
+ghost use Rattle.std.specs.Prelude.{◌≡◌, ◌+◌, ◌-◌, ◌*◌, ◌<◌, ◌≤◌, ◌^◌, ◌++◌, not, ◌&&◌, is_some, min, find, Some, None, IfOk, IfSome};
+ghost use Rattle.std.specs.Option.{IsSomeAnd};
+ghost use Rattle.ic_behaviour.specs.State.{Code as SomeCode, id_of};
+ghost use Rattle.ic_behaviour.specs.Entry.{enters_by};
+ghost use Rattle.ic_behaviour.specs.Executing.{is_own};
+ghost use Rattle.ic_behaviour.specs.Closing.{closed, closing, finished};
+ghost use Rattle.ic_behaviour.specs.Local.{admitted, refused, context_of, with_answer, begin_call, local_call, begin_answer, local};
+ghost use Rattle.ic_state.specs.declared.canister.Canister.{Canister as StoredCanister};
+ghost use Rattle.ic_state.specs.Seen.{seen};
+ghost use Rattle.ic_state.specs.IsCanister.{IsCanister, cycles_of};
+ghost use Rattle.ic_calls.specs.Received.{IsExpected, CanEnter};
+ghost use Rattle.ic_api.specs.System.{system_api};
+ghost use Rattle.ic_exec.specs.Executed.{handled_of, done_of, work_of, message_cycles, executed_cycles};
+ghost use Rattle.ic_exec.specs.TrapLeaves.{TrapLeaves};
+
+use crate::answers::run_callback;
+use crate::calls::{TakenCall, run_call};
+use crate::executed::Executed;
+use crate::work::{Done, Work, silent};
+use ic_api::entries_are_lawful;
+use ic_base::NoMemory;
+use ic_calls::{
+    add_context, admit, close, context_at, out_of_cycles, refused as refusal_of, take_refund,
+};
+use ic_state::{
+    Admitted, Answered, AnsweredList, CallId, Callback, Canister, Context, Env, Message, Messages,
+    Origin, Response,
+};
+use std::alloc::Global;
+use wm_semantics::Trap;
+
+// A call that is refused: all its cycles go back.
+fn refuse(alloc: Global, origin: Origin, cycles: u128, response: Response) -> Result<Done, NoMemory>
+    ensures { IfOk result (λ d. (c : StoredCanister) → done_of c d ≡ refused (seen c) origin cycles response) }
+{
+    let mut answers = Vec::new(alloc);
+    answers.push(Answered {
+        origin,
+        response,
+        refund: cycles,
+    })?;
+    Ok(Done {
+        calls: Messages {
+            items: Vec::new(alloc),
+        },
+        answers: AnsweredList { items: answers },
+        used: 0,
+        burned: 0,
+        trapped: None,
+    })
+}
+
+// Both lists, one behind the other.
+fn joined(front: AnsweredList, back: AnsweredList) -> Result<AnsweredList, NoMemory>
+    ensures { IfOk result (λ l. l ≡ front ++ back) }
+{
+    let mut items = front.items;
+    let mut more = back.items;
+    items.append(&mut more)?;
+    Ok(AnsweredList { items })
+}
+
+// Contexts without calls close; the message's own context is told its trap.
+fn close_after(
+    alloc: Global,
+    canister: &mut Canister,
+    trapped: &Option<(CallId, Trap)>,
+) -> Result<AnsweredList, NoMemory>
+    requires keeps { IsCanister canister.old }
+    ensures answers { IfOk result (λ answers. answers ≡ closing trapped.now (seen canister.old)) }
+    ensures closed { IfOk result (λ _. seen canister.new ≡ closed (seen canister.old)) }
+    ensures keeps { IfOk result (λ _. IsCanister canister.new) }
+{
+    match trapped {
+        Some((own, cause)) => close(alloc, canister, Some(own), Some(cause)),
+        None => close(alloc, canister, None, None),
+    }
+}
+
+// What was used is paid, and contexts without calls close.
+fn finish(alloc: Global, canister: &mut Canister, work: Work, price: u64) -> Result<Done, NoMemory>
+    requires keeps { IsCanister canister.old }
+    ensures done { IfOk result (λ d. done_of canister.new d ≡ finished price (work_of canister.old work)) }
+    ensures keeps { IfOk result (λ _. IsCanister canister.new) }
+{
+    let Work {
+        calls,
+        answers,
+        used,
+        trapped,
+    } = work;
+    let burned = canister.balance.min(price as u128 * used as u128);
+    canister.balance -= burned;
+    let closing = close_after(alloc, canister, &trapped)?;
+    Ok(Done {
+        calls,
+        answers: joined(answers, closing)?,
+        used,
+        burned,
+        trapped: trapped.map(|own| own.1),
+    })
+}
+
+// A call that the canister takes.
+fn begin_call(
+    alloc: Global,
+    canister: &mut Canister,
+    call: TakenCall,
+    entry: Admitted,
+    env: Env,
+) -> Result<Done, NoMemory>
+    requires keeps { IsCanister canister.old }
+    requires fresh { find (is_own (id_of call.origin)) canister.old.contexts ≡ None }
+    requires entry { CanEnter canister.old.code entry }
+    requires room { cycles_of canister.old + call.cycles ≤ 2 ^ 127 - 1 }
+    ensures done { IfOk result (λ d. (code : SomeCode) → (seen canister.old).code ≡ Some code
+        → done_of canister.new d ≡ begin_call (enters_by system_api) env (seen canister.old) (context_of call.origin call.sender call.cycles) call.method call.arg (code, entry)) }
+    ensures keeps { IfOk result (λ _. IsCanister canister.new) }
+{
+    let TakenCall {
+        origin,
+        sender,
+        method,
+        arg,
+        cycles,
+    } = call;
+    let place = add_context(canister, &origin, &sender, cycles)?;
+    let context = context_at(&canister.contexts, place);
+    let work = run_call(alloc, canister, place, context, method, arg, entry, env)?;
+    finish(alloc, canister, work, env.price)
+}
+
+// A call that the canister takes, or refuses.
+fn handle_call(
+    alloc: Global,
+    canister: &mut Canister,
+    call: TakenCall,
+    env: Env,
+) -> Result<Done, NoMemory>
+    requires keeps { IsCanister canister.old }
+    requires fresh { find (is_own (id_of call.origin)) canister.old.contexts ≡ None }
+    requires room { cycles_of canister.old + call.cycles ≤ 2 ^ 127 - 1 }
+    ensures done { IfOk result (λ d. done_of canister.new d
+        ≡ local_call (enters_by system_api) env (seen canister.old) call.origin call.sender call.method call.arg call.cycles (admitted (seen canister.old) call.method)) }
+    ensures keeps { IfOk result (λ _. IsCanister canister.new) }
+{
+    match admit(canister, call.method.items.as_str()) {
+        Err(refusal) => {
+            let response = refusal_of(alloc, refusal)?;
+            refuse(alloc, call.origin, call.cycles, response)
+        }
+        Ok(entry) => {
+            if canister.balance < env.limit as u128 * env.price as u128 {
+                let response = out_of_cycles(alloc)?;
+                refuse(alloc, call.origin, call.cycles, response)
+            } else {
+                begin_call(alloc, canister, call, entry, env)
+            }
+        }
+    }
+}
+
+// Whether a callback runs in the context.
+fn runs_callback(canister: &Canister, context: &Context) -> bool
+    ensures { result ≡ (not context.now.deleted && is_some canister.now.code) }
+{
+    !context.deleted && canister.code.is_some()
+}
+
+// An answer to the call of a context that is there.
+fn handle_answer(
+    alloc: Global,
+    canister: &mut Canister,
+    own: CallId,
+    callback: Callback,
+    response: Response,
+    refund: u128,
+    env: Env,
+) -> Result<Done, NoMemory>
+    requires keeps { IsCanister canister.old }
+    requires expected { IsSomeAnd (find (is_own own) canister.old.contexts) (λ x. 0 < x.outstanding) }
+    requires room { cycles_of canister.old + refund ≤ 2 ^ 127 - 1 }
+    requires limit { env.limit ≤ 1000000000000 }
+    ensures done { IfOk result (λ d. done_of canister.new d
+        ≡ begin_answer (enters_by system_api) env (with_answer own refund (seen canister.old)) own callback response refund) }
+    ensures keeps { IfOk result (λ _. IsCanister canister.new) }
+{
+    let place = take_refund(canister, &own, refund);
+    let context = context_at(&canister.contexts, place);
+    if runs_callback(canister, &context) {
+        let work = run_callback(
+            alloc, canister, place, context, callback, response, refund, env,
+        )?;
+        finish(alloc, canister, work, env.price)
+    } else {
+        let work = silent(alloc, 0, None);
+        finish(alloc, canister, work, env.price)
+    }
+}
+
+// Handles a message. After `NoMemory` nothing is said of the canister.
+fn handle(
+    alloc: Global,
+    canister: &mut Canister,
+    message: Message,
+    env: Env,
+) -> Result<Done, NoMemory>
+    requires keeps { IsCanister canister.old }
+    requires expected { IsExpected (seen canister.old) message }
+    requires room { cycles_of canister.old + message_cycles message ≤ 2 ^ 127 - 1 }
+    requires limit { env.limit ≤ 1000000000000 }
+    ensures done { IfOk result (λ d. done_of canister.new d ≡ local (enters_by system_api) env (seen canister.old) message) }
+    ensures keeps { IfOk result (λ _. IsCanister canister.new) }
+{
+    match message {
+        Message::Call {
+            origin,
+            sender,
+            method,
+            arg,
+            cycles,
+            ..
+        } => handle_call(
+            alloc,
+            canister,
+            TakenCall {
+                origin,
+                sender,
+                method,
+                arg,
+                cycles,
+            },
+            env,
+        ),
+        Message::Answer {
+            origin,
+            response,
+            refund,
+            ..
+        } => match origin {
+            Origin::Canister {
+                context,
+                callback,
+                ..
+            } => handle_answer(alloc, canister, context, callback, response, refund, env),
+            Origin::Ingress(_) => unreachable!(),
+        },
+    }
+}
+
+/// Executes a message (IC Interface Specification, "Message execution" and "Callback invocation").
+/// Calls take the numbers from `next_call` on in the order in which they were performed. The
+/// argument of a call is moved and not copied. After `NoMemory` the canister is dropped.
+pub fn execute(
+    alloc: Global,
+    canister: Canister,
+    message: Message,
+    env: Env,
+) -> Result<Executed, NoMemory>
+    requires keeps { IsCanister canister }
+    // The context of a call is not there yet; that of an answer is, and awaits one.
+    requires expected { IsExpected (seen canister) message }
+    requires room { cycles_of canister + message_cycles message ≤ 2 ^ 127 - 1 }
+    requires limit { env.limit ≤ 1000000000000 }
+    ensures handled { IfOk result (λ e. handled_of e ≡ local (enters_by system_api) env (seen canister) message) }
+    ensures keeps { IfOk result (λ e. IsCanister e.canister) }
+    // Cycles are neither made nor lost.
+    ensures conserved { IfOk result (λ e. executed_cycles e ≡ cycles_of canister + message_cycles message) }
+    ensures trapped { IfOk result (λ e. IfSome e.trapped (λ cause. TrapLeaves (seen canister) message cause (handled_of e))) }
+    // The price of what was used, or all that the effects left, where that is less.
+    ensures burned { IfOk result (λ e. e.burned ≡ min (e.canister.balance + e.burned) (env.price * e.used)) }
+{
+    entries_are_lawful();
+    let mut canister = canister;
+    match handle(alloc, &mut canister, message, env) {
+        Ok(done) => {
+            let Done {
+                calls,
+                answers,
+                used,
+                burned,
+                trapped,
+            } = done;
+            Ok(Executed {
+                canister,
+                calls,
+                answers,
+                used,
+                trapped,
+                burned,
+            })
+        }
+        Err(e) => Err(e),
+    }
+}
