@@ -1,7 +1,6 @@
+use crate::pieces::{Piece, message_of};
 use cd_codec::{encode, read_header};
 use cd_coerce::*;
-use ic_base::NoMemory;
-use ic_leb::write_u;
 use ic_principal::Bytes;
 use std::alloc::Global;
 use std::test::*;
@@ -24,8 +23,6 @@ const OPT_NAT: &[u8] = b"DIDL\x01\x6e\x7d\x01\x00";
 
 const VEC_NAT8: &[u8] = b"DIDL\x01\x6d\x7b\x01\x00";
 
-const VEC_NULL: &[u8] = b"DIDL\x01\x6d\x7f\x01\x00";
-
 const LIST: &[u8] = b"DIDL\x02\x6e\x01\x6c\x02\x00\x7d\x01\x00\x01\x00";
 
 /// The same with two cells written out.
@@ -37,7 +34,7 @@ const REFERENCES: &[u8] = b"DIDL\x02\x6a\x00\x00\x00\x69\x00\x03\x68\x01\x00";
 
 const BAD_VALUE: Result<&[u8], DidlFault> = Err(DidlFault::BadValue);
 
-static FAULTS: [Row; 17] = [
+static ROWS: [Row; 41] = [
     (NAT, b"DIDL\x00\x01\x7d\x2a", Ok(b"\x2a")),
     (
         b"DIDL\x00\x01\x71",
@@ -107,13 +104,6 @@ static FAULTS: [Row; 17] = [
         b"DIDL\x00\x01\x7d\x80\x80\x80\x80\x80\x80\x80\x80\x80\x80\x80\x80\x80\x80\x80\x80\x80\x80\x02",
         BAD_VALUE,
     ),
-];
-
-fn faults() -> &'static [Row] {
-    &FAULTS
-}
-
-static NUMBERS: [Row; 4] = [
     (NAT, b"DIDL\x00\x01\x7d\xff\x00", Ok(b"\x7f")),
     // 2^128 - 1
     (
@@ -124,13 +114,6 @@ static NUMBERS: [Row; 4] = [
     // 64 takes a second byte as an int.
     (INT, b"DIDL\x00\x01\x7d\x40", Ok(b"\xc0\x00")),
     (RESERVED, b"DIDL\x00\x01\x7d\x2a", Ok(b"")),
-];
-
-fn numbers() -> &'static [Row] {
-    &NUMBERS
-}
-
-static OPTS: [Row; 10] = [
     // A nat; a text, which is no subtype; null; none; reserved; a missing argument; some.
     (OPT_NAT, b"DIDL\x00\x01\x7d\x2a", Ok(b"\x01\x2a")),
     (OPT_NAT, b"DIDL\x00\x01\x71\x01a", Ok(b"\x00")),
@@ -157,13 +140,6 @@ static OPTS: [Row; 10] = [
         b"DIDL\x01\x6c\x01\x00\x7d\x01\x00\x05",
         Ok(b"\x00"),
     ),
-];
-
-fn opts() -> &'static [Row] {
-    &OPTS
-}
-
-static RECORDS: [Row; 5] = [
     // Fields that are not expected, in front and behind.
     (
         b"DIDL\x01\x6c\x01\x05\x7d\x01\x00",
@@ -193,13 +169,6 @@ static RECORDS: [Row; 5] = [
         b"DIDL\x01\x6b\x02\x01\x7f\x03\x7d\x01\x00\x01\x09",
         Ok(b"\x02\x09"),
     ),
-];
-
-fn records() -> &'static [Row] {
-    &RECORDS
-}
-
-static VECS: [Row; 5] = [
     // Bytes, as they are and as opts; an empty vec of empty as bytes.
     (
         VEC_NAT8,
@@ -226,8 +195,8 @@ static VECS: [Row; 5] = [
     ),
 ];
 
-fn vecs() -> &'static [Row] {
-    &VECS
+fn rows() -> &'static [Row] {
+    &ROWS
 }
 
 /// The expected types that a header names.
@@ -249,133 +218,107 @@ fn written(alloc: Global, expected: &Expected, message: &[u8]) -> Result<Bytes, 
     }
 }
 
-fn is_read(alloc: Global, row: &Row) -> bool {
+fn is_read_at(alloc: Global, expected: &Expected, row: &Row) -> bool {
     let (header, message, wanted) = *row;
-    match expected_of(alloc, header) {
+    match written(alloc, expected, message) {
+        Ok(bytes) => bytes.items.strip_prefix(header).map(Ok) == Some(wanted),
+        Err(fault) => wanted == Err(fault),
+    }
+}
+
+fn is_read(alloc: Global, row: &Row) -> bool {
+    match expected_of(alloc, row.0) {
+        Some(expected) => is_read_at(alloc, &expected, row),
         None => false,
-        Some(expected) => match written(alloc, &expected, message) {
-            Ok(bytes) => bytes.items.strip_prefix(header).map(Ok) == Some(wanted),
-            Err(fault) => wanted == Err(fault),
-        },
-    }
-}
-
-/// The place of the first row that is read otherwise.
-fn first_other(alloc: Global, rows: &[Row]) -> Option<usize> {
-    rows.iter().position(|row| !is_read(alloc, row))
-}
-
-#[test]
-fn messages_and_faults(rt: HostRuntime) {
-    assert_eq!(rt; first_other(rt.alloc(), faults()), None);
-}
-
-#[test]
-fn messages_and_values(rt: HostRuntime) {
-    for rows in [numbers(), opts(), records(), vecs()] {
-        assert_eq!(rt; first_other(rt.alloc(), rows), None);
-    }
-}
-
-/// How many arguments are read, at the types of a header.
-fn read_within(
-    alloc: Global,
-    header: &[u8],
-    message: &[u8],
-    most_values: u32,
-) -> Result<usize, DidlFault> {
-    match expected_of(alloc, header) {
-        None => Err(DidlFault::NotHeader),
-        Some(expected) => match decode_within(alloc, &expected, message, most_values) {
-            Ok(values) => Ok(values.items.len()),
-            Err(fault) => Err(fault),
-        },
     }
 }
 
 #[test]
-fn no_more_values_than_the_most(rt: HostRuntime) {
-    // A vec of 99 nulls is 100 values.
-    let message = b"DIDL\x01\x6d\x7f\x01\x00\x63";
-    assert_eq!(rt; read_within(rt.alloc(), VEC_NULL, message, 100), Ok(1));
-    let message = b"DIDL\x01\x6d\x7f\x01\x00\x64";
-    assert_eq!(rt;
-        read_within(rt.alloc(), VEC_NULL, message, 100),
-        Err(DidlFault::NoMemory)
-    );
-    assert_eq!(rt; read_within(rt.alloc(), VEC_NULL, message, 101), Ok(1));
-}
-
-/// A header, a piece again and again, and an end.
-fn repeated(
-    alloc: Global,
-    header: &[u8],
-    piece: &[u8],
-    count: usize,
-    end: &[u8],
-) -> Result<Vec<u8>, NoMemory> {
-    let mut message = Vec::from_slice(alloc, header)?;
-    for _ in 0..count {
-        message.extend_from_slice(piece)?;
+fn messages_at_types(rt: HostRuntime) {
+    for row in rows() {
+        assert!(rt; is_read(rt.alloc(), row), "{:?}", row.1);
     }
-    message.extend_from_slice(end)?;
-    Ok(message)
 }
 
-/// How many arguments are read of a message with a repeated piece, at its own types.
-fn read_repeated(
-    alloc: Global,
-    header: &[u8],
-    piece: &[u8],
-    count: usize,
-    end: &[u8],
-) -> Result<usize, DidlFault> {
-    match repeated(alloc, header, piece, count, end) {
-        Ok(message) => read_within(alloc, header, &message, 16_777_216),
-        Err(_) => Err(DidlFault::NoMemory),
+/// A header with the expected types, a message, the most values that may be made, and how many
+/// arguments are read, or the fault.
+type Limit = (
+    &'static [u8],
+    &'static [Piece<'static>],
+    u32,
+    Result<usize, DidlFault>,
+);
+
+const VEC_NULL: &[u8] = b"DIDL\x01\x6d\x7f\x01\x00";
+
+const OPTS: &[u8] = b"DIDL\x01\x6e\x00\x01\x00";
+
+const RECORDS: &[u8] = b"DIDL\x02\x6d\x01\x6c\x02\x00\x7d\x01\x71\x01\x00";
+
+static LIMITS: [Limit; 6] = [
+    // A vec of 99 nulls is 100 values, and one of 100 is 101.
+    (VEC_NULL, &[(VEC_NULL, 1), (b"\x63", 1)], 100, Ok(1)),
+    (
+        VEC_NULL,
+        &[(VEC_NULL, 1), (b"\x64", 1)],
+        100,
+        Err(DidlFault::NoMemory),
+    ),
+    (VEC_NULL, &[(VEC_NULL, 1), (b"\x64", 1)], 101, Ok(1)),
+    // Opts that nest 128 and 129 deep.
+    (
+        OPTS,
+        &[(OPTS, 1), (b"\x01", 127), (b"\x00", 1)],
+        16_777_216,
+        Ok(1),
+    ),
+    (
+        OPTS,
+        &[(OPTS, 1), (b"\x01", 128), (b"\x00", 1)],
+        16_777_216,
+        Err(DidlFault::BadValue),
+    ),
+    // A message of 2 MiB: 74,896 records of 28 bytes, each a nat and a text of 26 letters.
+    (
+        RECORDS,
+        &[
+            (RECORDS, 1),
+            (b"\x90\xc9\x04", 1),
+            (b"\x07\x1aabcdefghijklmnopqrstuvwxyz", 74_896),
+        ],
+        16_777_216,
+        Ok(1),
+    ),
+];
+
+fn limits() -> &'static [Limit] {
+    &LIMITS
+}
+
+fn is_limited(alloc: Global, expected: &Expected, message: &[u8], limit: &Limit) -> bool {
+    match decode_within(alloc, expected, message, limit.2) {
+        Ok(values) => limit.3 == Ok(values.items.len()),
+        Err(fault) => limit.3 == Err(fault),
+    }
+}
+
+fn is_limited_at(alloc: Global, message: &[u8], limit: &Limit) -> bool {
+    match expected_of(alloc, limit.0) {
+        Some(expected) => is_limited(alloc, &expected, message, limit),
+        None => false,
+    }
+}
+
+fn holds(alloc: Global, limit: &Limit) -> bool {
+    match message_of(alloc, limit.1) {
+        Ok(message) => is_limited_at(alloc, &message, limit),
+        Err(_) => false,
     }
 }
 
 #[test]
-fn deep_values(rt: HostRuntime) {
-    let opts = b"DIDL\x01\x6e\x00\x01\x00";
-    assert_eq!(rt;
-        read_repeated(rt.alloc(), opts, b"\x01", 127, b"\x00"),
-        Ok(1)
-    );
-    assert_eq!(rt;
-        read_repeated(rt.alloc(), opts, b"\x01", 128, b"\x00"),
-        Err(DidlFault::BadValue)
-    );
-}
-
-/// How many arguments are read of a message whose one argument is a vec of so many items.
-fn read_counted(
-    alloc: Global,
-    header: &[u8],
-    count: usize,
-    item: &[u8],
-) -> Result<usize, DidlFault> {
-    match counted(alloc, header, count, item) {
-        Ok(message) => read_within(alloc, header, &message, 16_777_216),
-        Err(_) => Err(DidlFault::NoMemory),
+fn limits_of_decoding(rt: HostRuntime) {
+    for (place, limit) in limits().iter().enumerate() {
+        assert!(rt; holds(rt.alloc(), limit), "{place}");
     }
-}
-
-/// A header, and the same item so many times behind their number.
-fn counted(alloc: Global, header: &[u8], count: usize, item: &[u8]) -> Result<Vec<u8>, NoMemory> {
-    let mut message = Vec::from_slice(alloc, header)?;
-    write_u(count as u128, &mut message)?;
-    for _ in 0..count {
-        message.extend_from_slice(item)?;
-    }
-    Ok(message)
-}
-
-// 74,896 records of 28 bytes, each a nat and a text of 26 letters.
-#[test]
-fn a_message_of_two_mebibytes(rt: HostRuntime) {
-    let records = b"DIDL\x02\x6d\x01\x6c\x02\x00\x7d\x01\x71\x01\x00";
-    let record = b"\x07\x1aabcdefghijklmnopqrstuvwxyz";
-    assert_eq!(rt; read_counted(rt.alloc(), records, 74_896, record), Ok(1));
 }

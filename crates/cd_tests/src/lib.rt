@@ -8,6 +8,10 @@ mod messages;
 #[cfg(test)]
 mod numbers;
 #[cfg(test)]
+mod pieces;
+#[cfg(test)]
+mod sketch;
+#[cfg(test)]
 mod subtypes;
 #[cfg(test)]
 mod tables;

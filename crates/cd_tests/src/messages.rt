@@ -1,43 +1,46 @@
+use crate::pieces::{Piece, message_of};
 use cd_codec::*;
-use ic_base::NoMemory;
 use ic_principal::Bytes;
 use std::alloc::Global;
 use std::test::*;
 
-#[derive(Clone, Copy, Debug, PartialEq, Eq)]
-enum Outcome {
+/// What reading a message gives.
+enum Wanted {
     Header(HeaderFault),
     Values(ValueFault),
+    /// So many values.
     Read(usize),
+    /// A record with so many fields of the kinds that belong to their ids.
+    Kinds(usize),
+    /// Values that are written so.
+    Written(&'static [u8]),
+    /// Values that are written as they were.
+    Same,
+    /// Values that are read again as they were: so many types, and as many values.
+    Again(usize),
 }
 
-// What reading a message answers: how many values, or the fault.
-fn answer(alloc: Global, message: &[u8]) -> Outcome {
-    match read_header(alloc, message) {
-        Err(fault) => Outcome::Header(fault),
-        Ok(header) if header.length > message.len() => Outcome::Header(HeaderFault::NotHeader),
-        Ok(header) => match read_values(alloc, &header, message, header.length) {
-            Err(fault) => Outcome::Values(fault),
-            Ok(values) => Outcome::Read(values.items.len()),
-        },
-    }
-}
+const NOT_HEADER: Wanted = Wanted::Header(HeaderFault::NotHeader);
 
-const NOT_HEADER: Outcome = Outcome::Header(HeaderFault::NotHeader);
+const FLOAT: Wanted = Wanted::Header(HeaderFault::Float);
 
-const FLOAT: Outcome = Outcome::Header(HeaderFault::Float);
+const BAD_VALUE: Wanted = Wanted::Values(ValueFault::BadValue);
 
-const BAD_VALUE: Outcome = Outcome::Values(ValueFault::BadValue);
+// bool, int -1, nat8, int16 -2, opt, blob, variant, principal, func and service, in one record.
+const EVERY_KIND: &[u8] =
+    b"DIDL\x06\x6e\x7d\x6d\x7b\x6b\x02\x00\x7f\x01\x7d\x6a\x00\x00\x01\x01\x69\x00\x6c\x0a\
+\x00\x7e\x01\x7c\x02\x7b\x03\x76\x04\x00\x05\x01\x06\x02\x07\x68\x08\x03\x09\x04\x01\x05\
+\x01\x7f\x07\xfe\xff\x01\x05\x02ab\x01\x09\x01\x01\x04\x01\x01\x00\x01m\x01\x00";
 
 // A table in a test would be long to prove, so each stands behind a function.
-static MESSAGES: [(&[u8], Outcome); 34] = [
-    (b"DIDL\x00\x00", Outcome::Read(0)),
-    (b"DIDL\x00\x01\x7d\x2a", Outcome::Read(1)),
+static MESSAGES: [(&[u8], Wanted); 44] = [
+    (b"DIDL\x00\x00", Wanted::Read(0)),
+    (b"DIDL\x00\x01\x7d\x2a", Wanted::Read(1)),
     // A padded number, of 2 and of 24 bytes, and one of 25.
-    (b"DIDL\x00\x01\x7d\xff\x00", Outcome::Read(1)),
+    (b"DIDL\x00\x01\x7d\xff\x00", Wanted::Read(1)),
     (
         b"DIDL\x00\x01\x7d\x80\x80\x80\x80\x80\x80\x80\x80\x80\x80\x80\x80\x80\x80\x80\x80\x80\x80\x80\x80\x80\x80\x80\x00",
-        Outcome::Read(1),
+        Wanted::Read(1),
     ),
     (
         b"DIDL\x00\x01\x7d\x80\x80\x80\x80\x80\x80\x80\x80\x80\x80\x80\x80\x80\x80\x80\x80\x80\x80\x80\x80\x80\x80\x80\x80\x00",
@@ -51,11 +54,11 @@ static MESSAGES: [(&[u8], Outcome); 34] = [
     // 2^128 - 1, and as signed numbers -2^127 and 2^127.
     (
         b"DIDL\x00\x01\x7d\xff\xff\xff\xff\xff\xff\xff\xff\xff\xff\xff\xff\xff\xff\xff\xff\xff\xff\x03",
-        Outcome::Read(1),
+        Wanted::Read(1),
     ),
     (
         b"DIDL\x00\x01\x7c\x80\x80\x80\x80\x80\x80\x80\x80\x80\x80\x80\x80\x80\x80\x80\x80\x80\x80\x7e",
-        Outcome::Read(1),
+        Wanted::Read(1),
     ),
     (
         b"DIDL\x00\x01\x7c\x80\x80\x80\x80\x80\x80\x80\x80\x80\x80\x80\x80\x80\x80\x80\x80\x80\x80\x02",
@@ -70,7 +73,7 @@ static MESSAGES: [(&[u8], Outcome); 34] = [
     // Ids that rise, and that do not.
     (
         b"DIDL\x01\x6c\x02\x00\x7d\x01\x7d\x01\x00\x01\x02",
-        Outcome::Read(1),
+        Wanted::Read(1),
     ),
     (
         b"DIDL\x01\x6c\x02\x01\x7d\x00\x7d\x01\x00\x01\x02",
@@ -79,11 +82,11 @@ static MESSAGES: [(&[u8], Outcome); 34] = [
     // The greatest id, and one more.
     (
         b"DIDL\x01\x6c\x01\xff\xff\xff\xff\x0f\x7f\x00",
-        Outcome::Read(0),
+        Wanted::Read(0),
     ),
     (b"DIDL\x01\x6c\x01\x80\x80\x80\x80\x10\x7f\x00", NOT_HEADER),
     // The greatest annotation, and one more.
-    (b"DIDL\x01\x6a\x00\x00\x01\x03\x00", Outcome::Read(0)),
+    (b"DIDL\x01\x6a\x00\x00\x01\x03\x00", Wanted::Read(0)),
     (b"DIDL\x01\x6a\x00\x00\x01\x04\x00", NOT_HEADER),
     // A bool of 2, an opt of 2, the case after the last, and a reference that is opaque.
     (b"DIDL\x00\x01\x7e\x02", BAD_VALUE),
@@ -97,7 +100,7 @@ static MESSAGES: [(&[u8], Outcome); 34] = [
     ),
     (b"DIDL\x01\x6c\x01\x00\x00\x01\x00", BAD_VALUE),
     // Texts: UTF-8, an overlong form, a surrogate, a length past the end.
-    (b"DIDL\x00\x01\x71\x02hi", Outcome::Read(1)),
+    (b"DIDL\x00\x01\x71\x02hi", Wanted::Read(1)),
     (b"DIDL\x00\x01\x71\x02\xc0\x80", BAD_VALUE),
     (b"DIDL\x00\x01\x71\x03\xed\xa0\x80", BAD_VALUE),
     (b"DIDL\x00\x01\x71\x03hi", BAD_VALUE),
@@ -111,99 +114,44 @@ static MESSAGES: [(&[u8], Outcome); 34] = [
     (b"DIDL\x00\x01\x00", NOT_HEADER),
     (b"DIDL\x00\x01\x6f", BAD_VALUE),
     (b"DIDM\x00\x00", NOT_HEADER),
+    (b"DIDL\x00\x00", Wanted::Written(b"DIDL\x00\x00")),
+    // Each number padded.
+    (
+        b"DIDL\x80\x00\x81\x00\xfd\x7f\xaa\x00",
+        Wanted::Written(b"DIDL\x00\x01\x7d\x2a"),
+    ),
+    // -2^127 behind a padded count, and a text.
+    (
+        b"DIDL\x00\x82\x00\x7c\x71\x80\x80\x80\x80\x80\x80\x80\x80\x80\x80\x80\x80\x80\x80\x80\x80\x80\x80\x7e\x02hi",
+        Wanted::Written(
+            b"DIDL\x00\x02\x7c\x71\x80\x80\x80\x80\x80\x80\x80\x80\x80\x80\x80\x80\x80\x80\x80\x80\x80\x80\x7e\x02hi",
+        ),
+    ),
+    // Messages that are written as they are.
+    // A record with a nat and the rest of a list.
+    (
+        b"DIDL\x04\x6e\x01\x6c\x02\x00\x7d\x01\x02\x6e\x03\x6c\x02\x00\x7d\x01\x00\x01\x00\x01\x05\x00",
+        Wanted::Same,
+    ),
+    // A service with a query method of type (nat) -> (service).
+    (
+        b"DIDL\x02\x69\x01\x01m\x01\x6a\x01\x7d\x01\x00\x01\x01\x01\x00\x01\x01\x04",
+        Wanted::Same,
+    ),
+    // Numbers of fixed width, null and reserved.
+    (
+        b"DIDL\x00\x09\x7f\x70\x7b\x7a\x79\x78\x77\x75\x74\x01\x02\x03\x04\x05\x06\x07\x08\x09\x0a\x0b\x0c\x0d\x0e\x0f\xf0\xf1\xf2\xf3\xf4\xf5\xf6\xf7\xf8\xf9\xfa\xfb\xfc",
+        Wanted::Same,
+    ),
+    (EVERY_KIND, Wanted::Same),
+    (EVERY_KIND, Wanted::Kinds(10)),
+    (EVERY_KIND, Wanted::Again(1)),
+    (b"DIDL\x00\x02\x7d\x71\xff\x00\x02hi", Wanted::Again(2)),
 ];
 
-fn messages() -> &'static [(&'static [u8], Outcome)] {
+fn messages() -> &'static [(&'static [u8], Wanted)] {
     &MESSAGES
 }
-
-#[test]
-fn messages_and_faults(rt: HostRuntime) {
-    for (message, expected) in messages() {
-        assert_eq!(rt; answer(rt.alloc(), message), *expected);
-    }
-}
-
-// `DIDL`, the front of a header's rest, a piece again and again, and an end.
-fn repeated(
-    alloc: Global,
-    front: &[u8],
-    piece: &[u8],
-    count: usize,
-    end: &[u8],
-) -> Result<Vec<u8>, NoMemory> {
-    let mut message = Vec::from_slice(alloc, b"DIDL")?;
-    message.extend_from_slice(front)?;
-    for _ in 0..count {
-        message.extend_from_slice(piece)?;
-    }
-    message.extend_from_slice(end)?;
-    Ok(message)
-}
-
-/// What stands behind `DIDL`, a piece and how often it stands there, an end, and the answer.
-type Limit = (&'static [u8], &'static [u8], usize, &'static [u8], Outcome);
-
-static LIMITS: [Limit; 14] = [
-    // 10,000 and 10,001 entries.
-    (b"\x90\x4e", b"\x6e\x7f", 10_000, b"\x00", Outcome::Read(0)),
-    (b"\x91\x4e", b"\x6e\x7f", 10_001, b"\x00", NOT_HEADER),
-    // 10,000 and 10,001 arguments.
-    (b"\x00\x90\x4e", b"\x7f", 10_000, b"", Outcome::Read(10_000)),
-    (b"\x00\x91\x4e", b"\x7f", 10_001, b"", NOT_HEADER),
-    // The number of a type in 24 and in 25 bytes.
-    (b"\x00\x01\xfd", b"\xff", 22, b"\x7f\x2a", Outcome::Read(1)),
-    (b"\x00\x01\xfd", b"\xff", 23, b"\x7f\x2a", NOT_HEADER),
-    // Opts that nest 128 and 129 deep.
-    (
-        b"\x01\x6e\x00\x01\x00",
-        b"\x01",
-        127,
-        b"\x00",
-        Outcome::Read(1),
-    ),
-    (b"\x01\x6e\x00\x01\x00", b"\x01", 128, b"\x00", BAD_VALUE),
-    // A vec of 999,999 nulls is 1,000,000 values.
-    (
-        b"\x01\x6d\x7f\x01\x00",
-        b"",
-        0,
-        b"\xbf\x84\x3d",
-        Outcome::Read(1),
-    ),
-    (b"\x01\x6d\x7f\x01\x00", b"", 0, b"\xc0\x84\x3d", BAD_VALUE),
-    // A signed number in 24 and in 25 bytes.
-    (b"\x00\x01\x7c", b"\xff", 23, b"\x7f", Outcome::Read(1)),
-    (b"\x00\x01\x7c", b"\xff", 24, b"\x7f", BAD_VALUE),
-    // A principal of 29 and of 30 bytes.
-    (b"\x00\x01\x68\x01\x1d", b"\x04", 29, b"", Outcome::Read(1)),
-    (b"\x00\x01\x68\x01\x1e", b"\x04", 30, b"", BAD_VALUE),
-];
-
-fn limits() -> &'static [Limit] {
-    &LIMITS
-}
-
-fn answer_repeated(alloc: Global, limit: &Limit) -> Result<Outcome, NoMemory> {
-    let (front, piece, count, end, _) = *limit;
-    match repeated(alloc, front, piece, count, end) {
-        Ok(message) => Ok(answer(alloc, &message)),
-        Err(error) => Err(error),
-    }
-}
-
-#[test]
-fn limits_of_messages(rt: HostRuntime) {
-    for limit in limits() {
-        assert_eq!(rt; answer_repeated(rt.alloc(), limit), Ok(limit.4));
-    }
-}
-
-// bool, int -1, nat8, int16 -2, opt, blob, variant, principal, func and service, in one record.
-const EVERY_KIND: &[u8] =
-    b"DIDL\x06\x6e\x7d\x6d\x7b\x6b\x02\x00\x7f\x01\x7d\x6a\x00\x00\x01\x01\x69\x00\x6c\x0a\
-\x00\x7e\x01\x7c\x02\x7b\x03\x76\x04\x00\x05\x01\x06\x02\x07\x68\x08\x03\x09\x04\x01\x05\
-\x01\x7f\x07\xfe\xff\x01\x05\x02ab\x01\x09\x01\x01\x04\x01\x01\x00\x01m\x01\x00";
 
 fn is_kind(id: u32, part: &Value) -> bool {
     match id {
@@ -232,21 +180,29 @@ fn right_kinds(values: &Values) -> usize {
     }
 }
 
-fn right_kinds_in(alloc: Global, message: &[u8]) -> usize {
-    match read_header(alloc, message) {
-        Ok(header) if header.length <= message.len() => {
-            match read_values(alloc, &header, message, header.length) {
-                Ok(values) => right_kinds(&values),
-                Err(_) => 0,
-            }
-        }
-        _ => 0,
+fn are_so(values: &Values, wanted: &Wanted) -> bool {
+    match wanted {
+        Wanted::Read(count) => values.items.len() == *count,
+        Wanted::Kinds(count) => right_kinds(values) == *count,
+        _ => false,
     }
 }
 
-#[test]
-fn each_kind_of_value(rt: HostRuntime) {
-    assert_eq!(rt; right_kinds_in(rt.alloc(), EVERY_KIND), 10);
+fn is_so(alloc: Global, header: &Header, message: &[u8], wanted: &Wanted) -> bool {
+    if header.length > message.len() {
+        return false;
+    }
+    match read_values(alloc, header, message, header.length) {
+        Ok(values) => are_so(&values, wanted),
+        Err(fault) => matches!(wanted, Wanted::Values(wanted) if *wanted == fault),
+    }
+}
+
+fn is_read(alloc: Global, message: &[u8], wanted: &Wanted) -> bool {
+    match read_header(alloc, message) {
+        Ok(header) => is_so(alloc, &header, message, wanted),
+        Err(fault) => matches!(wanted, Wanted::Header(wanted) if *wanted == fault),
+    }
 }
 
 // What is written for the values of a message.
@@ -266,50 +222,6 @@ fn is_written(alloc: Global, message: &[u8], expected: &[u8]) -> bool {
     match written(alloc, message) {
         Some(bytes) => bytes.items.as_slice() == expected,
         None => false,
-    }
-}
-
-// A message, and how its values are written.
-static WRITTEN: [(&[u8], &[u8]); 3] = [
-    (b"DIDL\x00\x00", b"DIDL\x00\x00"),
-    // Each number padded.
-    (
-        b"DIDL\x80\x00\x81\x00\xfd\x7f\xaa\x00",
-        b"DIDL\x00\x01\x7d\x2a",
-    ),
-    // -2^127 behind a padded count, and a text.
-    (
-        b"DIDL\x00\x82\x00\x7c\x71\x80\x80\x80\x80\x80\x80\x80\x80\x80\x80\x80\x80\x80\x80\x80\x80\x80\x80\x7e\x02hi",
-        b"DIDL\x00\x02\x7c\x71\x80\x80\x80\x80\x80\x80\x80\x80\x80\x80\x80\x80\x80\x80\x80\x80\x80\x80\x7e\x02hi",
-    ),
-];
-
-fn rows_written() -> &'static [(&'static [u8], &'static [u8])] {
-    &WRITTEN
-}
-
-// Messages that are written as they are.
-static SAME: [&[u8]; 4] = [
-    // A record with a nat and the rest of a list.
-    b"DIDL\x04\x6e\x01\x6c\x02\x00\x7d\x01\x02\x6e\x03\x6c\x02\x00\x7d\x01\x00\x01\x00\x01\x05\x00",
-    // A service with a query method of type (nat) -> (service).
-    b"DIDL\x02\x69\x01\x01m\x01\x6a\x01\x7d\x01\x00\x01\x01\x01\x00\x01\x01\x04",
-    // Numbers of fixed width, null and reserved.
-    b"DIDL\x00\x09\x7f\x70\x7b\x7a\x79\x78\x77\x75\x74\x01\x02\x03\x04\x05\x06\x07\x08\x09\x0a\x0b\x0c\x0d\x0e\x0f\xf0\xf1\xf2\xf3\xf4\xf5\xf6\xf7\xf8\xf9\xfa\xfb\xfc",
-    EVERY_KIND,
-];
-
-fn same_messages() -> &'static [&'static [u8]] {
-    &SAME
-}
-
-#[test]
-fn messages_written(rt: HostRuntime) {
-    for (message, expected) in rows_written() {
-        assert!(rt; is_written(rt.alloc(), message, expected));
-    }
-    for message in same_messages() {
-        assert!(rt; is_written(rt.alloc(), message, message));
     }
 }
 
@@ -335,9 +247,107 @@ fn read_again(alloc: Global, message: &[u8]) -> Option<(usize, usize)> {
     }
 }
 
+fn is_answered(alloc: Global, message: &[u8], wanted: &Wanted) -> bool {
+    match wanted {
+        Wanted::Written(bytes) => is_written(alloc, message, bytes),
+        Wanted::Same => is_written(alloc, message, message),
+        Wanted::Again(count) => read_again(alloc, message) == Some((*count, *count)),
+        _ => is_read(alloc, message, wanted),
+    }
+}
+
 #[test]
-fn read_back(rt: HostRuntime) {
-    assert_eq!(rt; read_again(rt.alloc(), EVERY_KIND), Some((1, 1)));
-    let message = b"DIDL\x00\x02\x7d\x71\xff\x00\x02hi";
-    assert_eq!(rt; read_again(rt.alloc(), message), Some((2, 2)));
+fn messages_and_faults(rt: HostRuntime) {
+    for (message, wanted) in messages() {
+        assert!(rt; is_answered(rt.alloc(), message, wanted), "{message:?}");
+    }
+}
+
+static LIMITS: [(&[Piece], Wanted); 14] = [
+    // 10,000 and 10,001 entries.
+    (
+        &[(b"DIDL\x90\x4e", 1), (b"\x6e\x7f", 10_000), (b"\x00", 1)],
+        Wanted::Read(0),
+    ),
+    (
+        &[(b"DIDL\x91\x4e", 1), (b"\x6e\x7f", 10_001), (b"\x00", 1)],
+        NOT_HEADER,
+    ),
+    // 10,000 and 10,001 arguments.
+    (
+        &[(b"DIDL\x00\x90\x4e", 1), (b"\x7f", 10_000)],
+        Wanted::Read(10_000),
+    ),
+    (&[(b"DIDL\x00\x91\x4e", 1), (b"\x7f", 10_001)], NOT_HEADER),
+    // The number of a type in 24 and in 25 bytes.
+    (
+        &[(b"DIDL\x00\x01\xfd", 1), (b"\xff", 22), (b"\x7f\x2a", 1)],
+        Wanted::Read(1),
+    ),
+    (
+        &[(b"DIDL\x00\x01\xfd", 1), (b"\xff", 23), (b"\x7f\x2a", 1)],
+        NOT_HEADER,
+    ),
+    // Opts that nest 128 and 129 deep.
+    (
+        &[
+            (b"DIDL\x01\x6e\x00\x01\x00", 1),
+            (b"\x01", 127),
+            (b"\x00", 1),
+        ],
+        Wanted::Read(1),
+    ),
+    (
+        &[
+            (b"DIDL\x01\x6e\x00\x01\x00", 1),
+            (b"\x01", 128),
+            (b"\x00", 1),
+        ],
+        BAD_VALUE,
+    ),
+    // A vec of 999,999 nulls is 1,000,000 values.
+    (
+        &[(b"DIDL\x01\x6d\x7f\x01\x00", 1), (b"\xbf\x84\x3d", 1)],
+        Wanted::Read(1),
+    ),
+    (
+        &[(b"DIDL\x01\x6d\x7f\x01\x00", 1), (b"\xc0\x84\x3d", 1)],
+        BAD_VALUE,
+    ),
+    // A signed number in 24 and in 25 bytes.
+    (
+        &[(b"DIDL\x00\x01\x7c", 1), (b"\xff", 23), (b"\x7f", 1)],
+        Wanted::Read(1),
+    ),
+    (
+        &[(b"DIDL\x00\x01\x7c", 1), (b"\xff", 24), (b"\x7f", 1)],
+        BAD_VALUE,
+    ),
+    // A principal of 29 and of 30 bytes.
+    (
+        &[(b"DIDL\x00\x01\x68\x01\x1d", 1), (b"\x04", 29)],
+        Wanted::Read(1),
+    ),
+    (
+        &[(b"DIDL\x00\x01\x68\x01\x1e", 1), (b"\x04", 30)],
+        BAD_VALUE,
+    ),
+];
+
+fn limits() -> &'static [(&'static [Piece<'static>], Wanted)] {
+    &LIMITS
+}
+
+fn holds(alloc: Global, pieces: &[Piece], wanted: &Wanted) -> bool {
+    match message_of(alloc, pieces) {
+        Ok(message) => is_answered(alloc, &message, wanted),
+        Err(_) => false,
+    }
+}
+
+#[test]
+fn limits_of_messages(rt: HostRuntime) {
+    for (place, (pieces, wanted)) in limits().iter().enumerate() {
+        assert!(rt; holds(rt.alloc(), pieces, wanted), "{place}");
+    }
 }

@@ -1,7 +1,7 @@
+use crate::sketch::{Sketch, fields, table_of};
 use cd_sub::{Subtyping, is_top, may_miss, subtype};
-use cd_types::{Entry, Fields, Methods, Prim, TyRef, TyRefs, TypeTable};
+use cd_types::{Entry, Prim, TyRef, TypeTable};
 use ic_base::NoMemory;
-use ic_principal::{Bytes, Text};
 use std::alloc::Global;
 use std::test::*;
 
@@ -19,115 +19,28 @@ const EMPTY: TyRef = TyRef::Prim(Prim::Empty);
 
 const PRINCIPAL: TyRef = TyRef::Prim(Prim::Principal);
 
-const fn at(index: u32) -> TyRef {
-    TyRef::Index(index)
-}
-
-fn fields(a: Global, items: &[(u32, TyRef)]) -> Result<Fields, NoMemory> {
-    Ok(Fields {
-        items: Vec::from_slice(a, items)?,
-    })
-}
-
-fn types(a: Global, items: &[TyRef]) -> Result<TyRefs, NoMemory> {
-    Ok(TyRefs {
-        items: Vec::from_slice(a, items)?,
-    })
-}
-
-fn func(a: Global, args: &[TyRef], results: &[TyRef], notes: &[u8]) -> Result<Entry, NoMemory> {
-    let args = types(a, args)?;
-    let results = types(a, results)?;
-    let notes = Bytes {
-        items: Vec::from_slice(a, notes)?,
-    };
-    Ok(Entry::Func {
-        args,
-        results,
-        notes,
-    })
-}
-
-fn service(a: Global, methods: &[(&str, u32)]) -> Result<Entry, NoMemory> {
-    let mut items = Vec::new(a);
-    for (name, index) in methods {
-        let name = Text {
-            items: String::from_str(a, name)?,
-        };
-        items.push((name, at(*index)))?;
-    }
-    Ok(Entry::Service(Methods { items }))
-}
-
-fn table(entries: Result<Vec<Entry>, NoMemory>) -> Option<TypeTable> {
-    match entries {
-        Ok(entries) => TypeTable::new(entries).ok(),
-        Err(_) => None,
-    }
-}
-
-// Whether the one type is a subtype of the other, if both are inside their tables.
-fn below(a: Global, t1: &TypeTable, x: TyRef, t2: &TypeTable, y: TyRef) -> Option<bool> {
-    if t1.contains(x) && t2.contains(y) {
-        subtype(a, t1, x, t2, y).ok()
-    } else {
-        None
-    }
-}
-
 /// Two types of one table, and whether the first is a subtype of the second.
 type Row = (TyRef, TyRef, bool);
 
-// The place of the first row that is answered otherwise; none is if there is no table.
-fn first_other(a: Global, entries: Result<Vec<Entry>, NoMemory>, rows: &[Row]) -> Option<usize> {
-    match table(entries) {
-        Some(table) => rows.iter().position(|row| below(a, &table, row.0, &table, row.1)
-            != Some(row.2)),
-        None => Some(rows.len()),
-    }
-}
-
-// Whether the first type of one table is a subtype of the first of another.
-fn first_below(
-    a: Global,
-    t1: Result<Vec<Entry>, NoMemory>,
-    t2: Result<Vec<Entry>, NoMemory>,
-) -> Option<bool> {
-    match (table(t1), table(t2)) {
-        (Some(t1), Some(t2)) => below(a, &t1, at(0), &t2, at(0)),
-        _ => None,
-    }
-}
+/// The entries of a table, and rows over it.
+type Family = (&'static [Sketch], &'static [Row]);
 
 // vec, opt, records and variants
-fn data_types(a: Global) -> Result<Vec<Entry>, NoMemory> {
-    let mut entries = Vec::new(a);
-    for entry in [
-        Entry::Seq(NAT),
-        Entry::Seq(INT),
-        Entry::Opt(NAT),
-        Entry::Opt(TEXT),
-    ] {
-        entries.push(entry)?;
-    }
-    let records: [&[(u32, TyRef)]; 5] = [
-        &[],
-        &[(0, NAT)],
-        &[(0, NULL)],
-        &[(0, INT), (7, at(3))],
-        &[(0, NAT), (3, TEXT), (9, RESERVED)],
-    ];
-    for items in records {
-        entries.push(Entry::Rec(fields(a, items)?))?;
-    }
-    let variants: [&[(u32, TyRef)]; 2] = [&[(1, NAT)], &[(0, TEXT), (1, INT)]];
-    for items in variants {
-        entries.push(Entry::Var(fields(a, items)?))?;
-    }
-    Ok(entries)
-}
+const DATA_TYPES: &[Sketch] = &[
+    Sketch::Vec(NAT),
+    Sketch::Vec(INT),
+    Sketch::Opt(NAT),
+    Sketch::Opt(TEXT),
+    Sketch::Record(&[]),
+    Sketch::Record(&[(0, NAT)]),
+    Sketch::Record(&[(0, NULL)]),
+    Sketch::Record(&[(0, INT), (7, TyRef::Index(3))]),
+    Sketch::Record(&[(0, NAT), (3, TEXT), (9, RESERVED)]),
+    Sketch::Variant(&[(1, NAT)]),
+    Sketch::Variant(&[(0, TEXT), (1, INT)]),
+];
 
-static DATA: [Row; 25] = [
+const DATA: &[Row] = &[
     (NAT, NAT, true),
     (NAT, INT, true),
     (INT, NAT, false),
@@ -155,44 +68,21 @@ static DATA: [Row; 25] = [
     (TyRef::Index(4), TyRef::Index(9), false),
 ];
 
-fn data_rows() -> &'static [Row] {
-    &DATA
-}
+const REFERENCE_TYPES: &[Sketch] = &[
+    Sketch::Opt(NAT),
+    Sketch::Func(&[], &[], &[]),
+    Sketch::Func(&[NAT], &[INT], &[]),
+    Sketch::Func(&[INT], &[NAT], &[]),
+    Sketch::Func(&[TyRef::Index(0)], &[], &[]),
+    Sketch::Func(&[], &[RESERVED, NULL], &[]),
+    Sketch::Func(&[], &[], &[1, 2]),
+    Sketch::Func(&[], &[], &[2, 1]),
+    Sketch::Service(&[]),
+    Sketch::Service(&[("a", 2), ("c", 1)]),
+    Sketch::Service(&[("a", 3), ("b", 1), ("c", 1)]),
+];
 
-#[test]
-fn rules_of_data(rt: HostRuntime) {
-    let a = rt.alloc();
-    assert_eq!(rt; first_other(a, data_types(a), data_rows()), None);
-}
-
-type FuncRow<'a> = (&'a [TyRef], &'a [TyRef], &'a [u8]);
-
-fn reference_types(a: Global) -> Result<Vec<Entry>, NoMemory> {
-    let mut entries = vec![in a; Entry::Opt(NAT)]?;
-    let funcs: [FuncRow<'_>; 7] = [
-        (&[], &[], &[]),
-        (&[NAT], &[INT], &[]),
-        (&[INT], &[NAT], &[]),
-        (&[at(0)], &[], &[]),
-        (&[], &[RESERVED, NULL], &[]),
-        (&[], &[], &[1, 2]),
-        (&[], &[], &[2, 1]),
-    ];
-    for (args, results, notes) in funcs {
-        entries.push(func(a, args, results, notes)?)?;
-    }
-    let services: [&[(&str, u32)]; 3] = [
-        &[],
-        &[("a", 2), ("c", 1)],
-        &[("a", 3), ("b", 1), ("c", 1)],
-    ];
-    for methods in services {
-        entries.push(service(a, methods)?)?;
-    }
-    Ok(entries)
-}
-
-static REFERENCES: [Row; 19] = [
+const REFERENCES: &[Row] = &[
     (TyRef::Index(1), TyRef::Index(1), true),
     (TyRef::Index(3), TyRef::Index(2), true),
     (TyRef::Index(2), TyRef::Index(3), false),
@@ -214,28 +104,20 @@ static REFERENCES: [Row; 19] = [
     (PRINCIPAL, TyRef::Index(8), false),
 ];
 
-fn reference_rows() -> &'static [Row] {
-    &REFERENCES
-}
-
-#[test]
-fn rules_of_references(rt: HostRuntime) {
-    let a = rt.alloc();
-    assert_eq!(rt; first_other(a, reference_types(a), reference_rows()), None);
-}
-
 // Lists over nat, and lists over int whose first two cells are written out. A list is a variant
 // of the end and of a record of an item and a list.
-fn lists(a: Global) -> Result<Vec<Entry>, NoMemory> {
-    let mut entries = Vec::new(a);
-    for (cell, item, rest) in [(1, NAT, 0), (3, INT, 4), (5, INT, 6), (7, INT, 6)] {
-        entries.push(Entry::Var(fields(a, &[(0, NULL), (1, at(cell))])?))?;
-        entries.push(Entry::Rec(fields(a, &[(0, item), (1, at(rest))])?))?;
-    }
-    Ok(entries)
-}
+const LIST_TYPES: &[Sketch] = &[
+    Sketch::Variant(&[(0, NULL), (1, TyRef::Index(1))]),
+    Sketch::Record(&[(0, NAT), (1, TyRef::Index(0))]),
+    Sketch::Variant(&[(0, NULL), (1, TyRef::Index(3))]),
+    Sketch::Record(&[(0, INT), (1, TyRef::Index(4))]),
+    Sketch::Variant(&[(0, NULL), (1, TyRef::Index(5))]),
+    Sketch::Record(&[(0, INT), (1, TyRef::Index(6))]),
+    Sketch::Variant(&[(0, NULL), (1, TyRef::Index(7))]),
+    Sketch::Record(&[(0, INT), (1, TyRef::Index(6))]),
+];
 
-static LISTS: [Row; 7] = [
+const LISTS: &[Row] = &[
     (TyRef::Index(0), TyRef::Index(0), true),
     (TyRef::Index(2), TyRef::Index(4), true),
     (TyRef::Index(4), TyRef::Index(2), true),
@@ -245,96 +127,144 @@ static LISTS: [Row; 7] = [
     (TyRef::Index(6), TyRef::Index(0), false),
 ];
 
-fn list_rows() -> &'static [Row] {
-    &LISTS
+static FAMILIES: [Family; 3] = [
+    (DATA_TYPES, DATA),
+    (REFERENCE_TYPES, REFERENCES),
+    (LIST_TYPES, LISTS),
+];
+
+fn families() -> &'static [Family] {
+    &FAMILIES
 }
 
-#[test]
-fn types_that_contain_themselves(rt: HostRuntime) {
-    let a = rt.alloc();
-    assert_eq!(rt; first_other(a, lists(a), list_rows()), None);
-}
-
-// Records in a ring: each contains the next one, and a field of a type, which at the last record
-// is another type.
-fn ring(a: Global, count: u32, ty: TyRef, last: TyRef) -> Result<Vec<Entry>, NoMemory> {
-    let mut entries = Vec::new(a);
-    for place in 1..count {
-        entries.push(Entry::Rec(fields(a, &[(0, at(place)), (1, ty)])?))?;
+// Whether the one type is a subtype of the other, if both are inside their tables.
+fn below(alloc: Global, t1: &TypeTable, x: TyRef, t2: &TypeTable, y: TyRef) -> Option<bool> {
+    if t1.contains(x) && t2.contains(y) {
+        subtype(alloc, t1, x, t2, y).ok()
+    } else {
+        None
     }
-    entries.push(Entry::Rec(fields(a, &[(0, at(0)), (1, last)])?))?;
-    Ok(entries)
 }
 
-#[test]
-fn rings_that_differ_late(rt: HostRuntime) {
-    let a = rt.alloc();
-    let differ = first_below(a, ring(a, 61, NAT, TEXT), ring(a, 67, RESERVED, INT));
-    assert_eq!(rt; differ, Some(false));
-    let alike = first_below(a, ring(a, 61, NAT, TEXT), ring(a, 67, RESERVED, RESERVED));
-    assert_eq!(rt; alike, Some(true));
-}
-
-fn below_twice(a: Global, t1: &TypeTable, t2: &TypeTable, ty: TyRef) -> Option<(bool, bool)> {
-    if t1.contains(ty) && t2.contains(ty) {
-        let mut subtyping = Subtyping::new(a, t1, t2);
-        let once = subtyping.is_subtype(ty, ty).ok()?;
-        let again = subtyping.is_subtype(ty, ty).ok()?;
-        return Some((once, again));
-    }
-    None
-}
-
-// The answers to a question that is asked twice, where the tables differ and where they do not.
-fn asked_twice(a: Global) -> Option<[(bool, bool); 2]> {
-    match (
-        table(ring(a, 499, NAT, TEXT)),
-        table(ring(a, 500, RESERVED, INT)),
-    ) {
-        (Some(wire), Some(expected)) => {
-            let differ = below_twice(a, &wire, &expected, at(0))?;
-            let alike = below_twice(a, &wire, &wire, at(0))?;
-            Some([differ, alike])
+fn are_answered(alloc: Global, table: &TypeTable, rows: &[Row]) -> bool {
+    for (x, y, is_below) in rows {
+        if below(alloc, table, *x, table, *y) != Some(*is_below) {
+            return false;
         }
+    }
+    true
+}
+
+fn is_family(alloc: Global, family: &Family) -> bool {
+    match table_of(alloc, family.0) {
+        Some(table) => are_answered(alloc, &table, family.1),
+        None => false,
+    }
+}
+
+#[test]
+fn rules(rt: HostRuntime) {
+    for (place, family) in families().iter().enumerate() {
+        assert!(rt; is_family(rt.alloc(), family), "{place}");
+    }
+}
+
+/// Records in a ring: how many, a type, and another. Each record contains the next one, and a field
+/// of the first type, which at the last record is of the other.
+type Ring = (u32, TyRef, TyRef);
+
+fn extend_ring(alloc: Global, ring: Ring, entries: &mut Vec<Entry>) -> Result<(), NoMemory> {
+    let (count, ty, last) = ring;
+    for place in 1..count {
+        let record = Entry::Rec(fields(alloc, &[(0, TyRef::Index(place)), (1, ty)])?);
+        entries.push(record)?;
+    }
+    let record = Entry::Rec(fields(alloc, &[(0, TyRef::Index(0)), (1, last)])?);
+    entries.push(record)?;
+    Ok(())
+}
+
+fn ring_table(alloc: Global, ring: Ring) -> Option<TypeTable> {
+    let mut entries = Vec::new(alloc);
+    match extend_ring(alloc, ring, &mut entries) {
+        Ok(()) => TypeTable::new(entries).ok(),
+        Err(_) => None,
+    }
+}
+
+// Whether the first type of one table is a subtype of the first of another, asked twice.
+fn below_twice(alloc: Global, t1: &TypeTable, t2: &TypeTable) -> Option<(bool, bool)> {
+    let first = TyRef::Index(0);
+    if !t1.contains(first) || !t2.contains(first) {
+        return None;
+    }
+    let mut subtyping = Subtyping::new(alloc, t1, t2);
+    let once = subtyping.is_subtype(first, first);
+    let again = subtyping.is_subtype(first, first);
+    match (once, again) {
+        (Ok(once), Ok(again)) => Some((once, again)),
         _ => None,
     }
 }
 
-#[test]
-fn a_question_asked_twice(rt: HostRuntime) {
-    assert_eq!(rt;
-        asked_twice(rt.alloc()),
-        Some([(false, false), (true, true)])
-    );
-}
-
-fn greatest(a: Global) -> Option<bool> {
-    match table(ring(a, 10_000, NAT, NAT)) {
-        Some(table) => below(a, &table, at(0), &table, at(0)),
+fn asked_twice(alloc: Global, t1: &TypeTable, ring: Ring) -> Option<(bool, bool)> {
+    match ring_table(alloc, ring) {
+        Some(t2) => below_twice(alloc, t1, &t2),
         None => None,
     }
 }
 
-#[test]
-fn tables_of_the_greatest_size(rt: HostRuntime) {
-    assert_eq!(rt; greatest(rt.alloc()), Some(true));
+fn rings_twice(alloc: Global, first: Ring, second: Ring) -> Option<(bool, bool)> {
+    match ring_table(alloc, first) {
+        Some(t1) => asked_twice(alloc, &t1, second),
+        None => None,
+    }
 }
 
-// Which of null, reserved, an opt and nat may be missing, and are above every type.
-fn of_special_types(a: Global) -> Option<([bool; 4], [bool; 4])> {
-    match table(data_types(a)) {
-        Some(table) => {
-            let types = [NULL, RESERVED, at(2), NAT];
-            let missing = types.map(|ty| may_miss(&table, ty));
-            let tops = types.map(|ty| is_top(&table, ty));
-            Some((missing, tops))
-        }
-        None => None,
+/// Two rings, and whether the first type of the one is a subtype of the first of the other.
+type RingRow = (Ring, Ring, bool);
+
+// Rings that differ late, and not at all; the last have the greatest size of a table.
+static RINGS: [RingRow; 5] = [
+    ((61, NAT, TEXT), (67, RESERVED, INT), false),
+    ((61, NAT, TEXT), (67, RESERVED, RESERVED), true),
+    ((499, NAT, TEXT), (500, RESERVED, INT), false),
+    ((499, NAT, TEXT), (499, NAT, TEXT), true),
+    ((10_000, NAT, NAT), (10_000, NAT, NAT), true),
+];
+
+fn ring_rows() -> &'static [RingRow] {
+    &RINGS
+}
+
+#[test]
+fn rings_asked_twice(rt: HostRuntime) {
+    for (first, second, below) in ring_rows() {
+        let answers = rings_twice(rt.alloc(), *first, *second);
+        assert_eq!(rt; answers, Some((*below, *below)));
+    }
+}
+
+/// Whether a value of the type may be missing, and whether the type is above every type.
+fn special(table: &TypeTable, ty: TyRef) -> (bool, bool) {
+    (may_miss(table, ty), is_top(table, ty))
+}
+
+fn are_special(table: &TypeTable) -> bool {
+    special(table, NULL) == (true, false)
+        && special(table, RESERVED) == (true, true)
+        && special(table, TyRef::Index(0)) == (true, true)
+        && special(table, NAT) == (false, false)
+}
+
+fn is_special(alloc: Global) -> bool {
+    match table_of(alloc, &[Sketch::Opt(NAT)]) {
+        Some(table) => are_special(&table),
+        None => false,
     }
 }
 
 #[test]
 fn special_types(rt: HostRuntime) {
-    let expected = ([true, true, true, false], [false, true, true, false]);
-    assert_eq!(rt; of_special_types(rt.alloc()), Some(expected));
+    assert!(rt; is_special(rt.alloc()));
 }
