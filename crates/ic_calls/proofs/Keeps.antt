@@ -1,5 +1,5 @@
 -- What a canister keeps by itself, over the changes of its contexts.
-use Rattle.std.proofs.Common.{◌≡◌, ℕ, zero, suc, ◌+◌, ◌-◌, ◌<◌, ◌≤◌, ◌^◌, nat_lt, Bool, true, false, cond, List, [], ◌∷◌, ◌++◌, length, Option, Some, None, find, refl, sym, ap, ◌∙◌, subst, arith, true≢false}
+use Rattle.std.proofs.Common.{◌≡◌, ℕ, ◌+◌, ◌-◌, ◌≤◌, ◌^◌, Bool, true, false, cond, List, [], ◌∷◌, ◌++◌, length, None, find, refl, sym, ap, ◌∙◌, subst, arith}
 use Rattle.std.specs.List.{AllByRecursion, filter}
 use Rattle.std.specs.List.Sorted.{IsStrictlySortedBy}
 use Rattle.std.specs.Option.{IsSome}
@@ -12,7 +12,7 @@ use Rattle.ic_behaviour.specs.declared.phase.Waiter.{Waiter}
 use Rattle.ic_behaviour.specs.declared.phase.Phase.{Phase}
 use Rattle.ic_behaviour.specs.declared.phase.Phase.TheVariants.{Running, Stopping, Stopped}
 use Rattle.ic_behaviour.specs.Totals.{total, one}
-use Rattle.ic_behaviour.specs.State.{same_id, id_of, waiting}
+use Rattle.ic_behaviour.specs.State.{same_id, waiting}
 use Rattle.ic_behaviour.specs.Executing.{is_own}
 use Rattle.ic_behaviour.specs.Closing.{is_open, phase_after}
 use Rattle.ic_behaviour.proofs.Weights.{total-append, total-at, each-map, same_id-is}

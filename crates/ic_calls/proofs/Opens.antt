@@ -1,7 +1,6 @@
 -- Whether a context is open.
 use Rattle.std.proofs.Common.{◌≡◌, Bool, true, false, ◌||◌, cond, List, [], ◌∷◌, refl, true≢false, sym}
 use Rattle.std.specs.List.{filter, list_any}
-use Rattle.ic_behaviour.specs.declared.call.Answered.{Answered}
 use Rattle.ic_behaviour.specs.declared.context.Context.{Context}
 use Rattle.ic_behaviour.specs.declared.phase.Waiter.{Waiter}
 use Rattle.ic_behaviour.specs.declared.phase.Phase.TheVariants.{Stopping}

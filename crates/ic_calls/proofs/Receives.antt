@@ -7,7 +7,6 @@ use Rattle.ic_behaviour.specs.declared.call.Origin.{Origin}
 use Rattle.ic_behaviour.specs.declared.context.Context.{Context}
 use Rattle.ic_behaviour.specs.declared.phase.Phase.{Phase}
 use Rattle.ic_behaviour.specs.declared.phase.Phase.TheVariants.{Running, Stopping, Stopped}
-use Rattle.ic_behaviour.specs.declared.env.Admitted.{Admitted}
 use Rattle.ic_behaviour.specs.Totals.{total}
 use Rattle.ic_behaviour.specs.State.{id_of}
 use Rattle.ic_behaviour.specs.Executing.{change, is_own}

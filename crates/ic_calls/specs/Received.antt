@@ -17,10 +17,10 @@ use Rattle.ic_state.specs.declared.canister.Code.{Code}
 
 -- ---- what is asked of a message
 
--- no context has the id of a call; the context of an answer is there, and awaits one
+-- No context has the id of a call. The context of an answer is there, and awaits one; no answer to a user goes to a canister.
 abbrev pub IsExpected : CountedCanister → Message → Type 0
 IsExpected c (Call from sender callee method arg cycles) = find (is_own (id_of from)) c.contexts ≡ None
-IsExpected c (Answer (origin.Ingress k) sender response refund) = Unit {0}
+IsExpected c (Answer (origin.Ingress k) sender response refund) = ⊥
 IsExpected c (Answer (origin.Canister caller n own callback) sender response refund) = IsSomeAnd (find (is_own own) c.contexts) (λ x. 0 < x.outstanding)
 
 -- the canister does not refuse a call

@@ -1,7 +1,5 @@
 use Rattle.std.proofs.Common.{ap, sym, ◌∙◌, ◌-◌, ◌+◌}
 use Rattle.ic_behaviour.specs.Executing.{is_own}
-use Rattle.ic_state.specs.declared.canister.Canister.{Canister}
-use Rattle.ic_calls.proofs.Splits.{within-split, put_there}
 use Rattle.ic_calls.proofs.Receives.{some_place, outstanding_there, outstanding_all, lessened, same_place, same_within, answer_keeps}
 use Rattle.ic_calls.proofs.receiving.take_refund.Goals as goal
 
