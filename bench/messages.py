@@ -14,8 +14,20 @@ def row(kind, size, times):
         subprocess.run(["python3", "bench/message.py", kind, str(size)], stdout=message, check=True)
     row = Row(program, path, *times)
     row.print(kind)
+    let_go(kind, times[0], row)
     decoded(kind, times[0], row)
     return row
+
+
+def let_go(kind, times, row):
+    """Prints how long it takes to give back the memory of what was read."""
+    kept, _ = measured([program, str(times), "0", "0"], path)
+    gone, _ = measured([program, str(times), "0", "0", "1"], path)
+    print(
+        f"{kind}, {row.size:,} bytes: let go in {1000 * (gone - kept) / times:.2f} ms,"
+        f" {(gone - kept) / times / row.hashed:.2f} times sha256sum",
+        flush=True,
+    )
 
 
 def decoded(kind, times, row):

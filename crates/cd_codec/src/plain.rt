@@ -175,6 +175,7 @@ fn bool_of(bytes: &[u8]) -> Result<(bool, &[u8]), ReadError>
 }
 
 /// A value of a primitive type. `left` is answered as it is.
+#[inline(always)]
 #[tactic(auto, using(crate::proofs::Views::layers), unfolding(crate::specs::ReadPlain::primitive_at, crate::specs::ReadPlain::integer_at))]
 pub(crate) fn primitive_of(
     alloc: Global,

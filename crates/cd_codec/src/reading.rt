@@ -23,6 +23,8 @@ const MAX_NESTING: u32 = 128;
 /// How many values a message may have. A `vec nat8` is one value.
 const MAX_VALUES: u32 = 1_000_000;
 
+// Part of each loop that calls it, so that a value is made where it is kept.
+#[inline(always)]
 #[cycle(reader)]
 #[tactic(auto, unfolding(crate::specs::ReadValue::value_at))]
 fn value_of<'a>(
@@ -50,6 +52,7 @@ fn value_of<'a>(
     }
 }
 
+#[inline(never)]
 #[cycle(reader)]
 #[tactic(auto, unfolding(crate::specs::ReadValue::entry_at, crate::specs::ReadValue::seq_at))]
 fn entry_of<'a>(

@@ -55,6 +55,7 @@ pub(crate) fn opt_rule_of(value: &Value) -> OptRule
 }
 
 /// The value, if its type is the one that is expected.
+#[inline(always)]
 fn keep(fits: bool, value: Value) -> Result<Option<Value>, ReadError>
     ensures { Gives view_within result (answer_of_plain (if fits then Some (view value) else None)) }
 {
@@ -80,6 +81,7 @@ fn keep_nat(table: &TypeTable, ty: TyRef, n: u128) -> Result<Option<Value>, Read
 }
 
 /// A value without parts, read at a type that is no opt; no value where it has parts.
+#[inline(always)]
 #[tactic(auto, using(cd_codec::proofs::Views::layers))]
 pub(crate) fn plain_of(
     table: &TypeTable,

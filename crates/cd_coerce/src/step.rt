@@ -71,6 +71,7 @@ impl<'a> Coercion<'a> {
     }
 
     /// Takes one from the values that may still be made.
+    #[inline(always)]
     pub(crate) fn count(&mut self) -> Result<(), NoMemory>
         ensures { self.new ≡ self.old }
     {
@@ -100,6 +101,7 @@ impl<'a> Coercion<'a> {
     }
 
     /// Some of what was read, where it is lifted.
+    #[inline(always)]
     pub(crate) fn wrap(
         &mut self,
         lift: bool,
@@ -117,6 +119,7 @@ impl<'a> Coercion<'a> {
     }
 
     /// At a type that is no opt.
+    #[inline(always)]
     fn settle_own(
         &mut self,
         value: &Value,
@@ -170,6 +173,7 @@ impl<'a> Coercion<'a> {
         }
     }
 
+    #[inline(never)]
     fn settle_opt(&mut self, value: &Value, t: TyRef, w: TyRef) -> Result<Step, ReadError>
         ensures tables { self.new ≡ self.old }
         ensures settles { Settles ((coercions (setting self.old.0 self.old.1) (view value.now)).opt t w) (coerced_by (setting self.old.0 self.old.1) (view value.now) t) result }
@@ -182,6 +186,7 @@ impl<'a> Coercion<'a> {
     }
 
     /// How a value of the type t is read at the type u.
+    #[inline(always)]
     pub(crate) fn settle(&mut self, value: &Value, t: TyRef, u: TyRef) -> Result<Step, ReadError>
         ensures tables { self.new ≡ self.old }
         ensures settles { Settles (coerced (setting self.old.0 self.old.1) (view value.now) t u) (coerced_by (setting self.old.0 self.old.1) (view value.now) t) result }
