@@ -1,0 +1,258 @@
+-- The code's first phase is the definition's.
+use Rattle.std.proofs.Common.{◌≡◌, ℕ, suc, Bool, true, false, cond, List, [], ◌∷◌, length, map, Option, Some, None, inl, inr, refl, sym, ap, ◌∙◌, subst}
+use Rattle.std.specs.Prelude.{is_some}
+use Rattle.std.specs.Option.{option_map}
+use Rattle.std.specs.List.{list_any, find, fold, AllByRecursion}
+use Rattle.std.specs.Map.{lookup, keys_of, remove_entry}
+use Rattle.std.specs.Ordering.{nat_cmp}
+use Rattle.std.specs.Cmp.Lexicographic.{slice_cmp}
+use Rattle.std.proofs.lemmas.Bool.{cases_Bool}
+use Rattle.std.proofs.lemmas.List.{length-map}
+use Rattle.std.proofs.lemmas.Map.Keys.{IsDistinct-from_sorted}
+use Rattle.std.proofs.lemmas.Map.Made.{is_some-lookup, keys_of-map_values, lookup-map_values}
+use Rattle.ic_behaviour.specs.declared.call.Message.{Message}
+use Rattle.ic_behaviour.specs.State.{at, callee_of, Canister, State}
+use Rattle.ic_behaviour.specs.Counted.{counted, dropped}
+use Rattle.ic_behaviour.specs.Deliver.{Outside, as_absent, env_at}
+use Rattle.ic_behaviour.specs.Sound.{Sound}
+use Rattle.ic_behaviour.proofs.Ties.{tallied}
+use Rattle.ic_behaviour.proofs.Weights.{at-is}
+use Rattle.ic_accounting.proofs.Delivers.{deliver_sound, as_absent_keeps}
+use Rattle.ic_runs.specs.Steps.{Rules, step, along}
+use Rattle.ic_runs.specs.Round.{turns, busy, first_for, first_phase}
+use Rattle.ic_state.specs.declared.canister.Canister.{Canister as StoredCanister}
+use Rattle.ic_state.specs.declared.world.Parts.{Parts}
+use Rattle.ic_state.specs.Seen.{seen, state_of}
+use Rattle.ic_state.specs.IsCanister.{IsCanister}
+use Rattle.ic_state.specs.IsWorld.{HasCounts, IsWorld}
+use Rattle.ic_accounting.specs.System.{system_rules}
+use Rattle.ic_rounds.specs.Settling.{entering}
+use Rattle.ic_rounds.specs.declared.slot.Slot.{Slot as StoredSlot}
+use Rattle.ic_rounds.specs.Taking.{Taking, is_key, sort_out, none_taken}
+use Rattle.ic_rounds.specs.Dealing.{Dealing, deal, none_dealt}
+use Rattle.ic_rounds.specs.Settling.{Stored, Slot, seen_entry, stored_of, slot_of, settle, IsReady, AreReady, AreCanisters}
+use Rattle.ic_accounting.proofs.Systems.{entries_keep}
+use Rattle.ic_rounds.proofs.Slots.{left, IsSlot}
+use Rattle.ic_rounds.proofs.Batches.{AreDistinct, keys_of_slots, counted_state, batch}
+use Rattle.ic_rounds.proofs.PutBacks.{Rises, minus, put_back}
+use Rattle.ic_rounds.proofs.Deals.{Deals, deals, pairs_of, IsTheirs, each-minus}
+use Rattle.ic_rounds.proofs.Takes.{left_by}
+use Rattle.ic_rounds.proofs.Firsts.{find_self, left_is, sorted, found, firsts_busy, left_taken, slot_message}
+use Rattle.ic_rounds.proofs.Ready.{ready, ready_all}
+use Rattle.ic_rounds.proofs.Worlds.{bare_state, bare_back, stored_is, world_from}
+
+length-turns : (rules : Rules) (s : State) (keys : List (List ℕ)) → length (turns rules s keys) ≡ length keys
+length-turns rules s [] = refl
+length-turns rules s (key ∷ keys) = ap (λ n. suc n) (length-turns rules (step rules s (first_for key s.messages)) keys)
+
+along_sound : (limit price : ℕ) (s : State) (places : List ℕ) → Sound s → Sound (along (system_rules as_absent limit price) s places)
+along_sound limit price s [] sound = sound
+along_sound limit price s (place ∷ places) sound =
+    along_sound limit price (step (system_rules as_absent limit price) s place) places (deliver_sound entering entries_keep as_absent as_absent_keeps limit price s place (tallied s sound))
+
+-- ---- what is looked up
+
+each-lookup : (P : List ℕ × StoredCanister → Type 0) (es : List (List ℕ × StoredCanister)) (key : List ℕ) (c : StoredCanister) → AllByRecursion P es → lookup (at key) es ≡ Some c → P (key, c)
+each-lookup P [] key c all is = cc
+each-lookup P (e ∷ es) key c all is =
+    elim (cases_Bool (at key e.0)) [
+      | inl here ↦
+          let now : Some e.1 ≡ Some c = rw here at is in
+          let value : e.1 ≡ c = cc in
+          let same = sym (at-is key e.0 here) in
+          subst P (λ i. (same i, value i)) all.0
+      | inr there ↦ let later : lookup (at key) es ≡ Some c = rw there at is in each-lookup P es key c all.1 later
+    ]
+
+seen-remove : (key : List ℕ) (es : List (List ℕ × StoredCanister)) → map seen_entry (remove_entry (at key) es) ≡ remove_entry (at key) (map seen_entry es)
+seen-remove key [] = refl
+seen-remove key (e ∷ es) = elim (cases_Bool (at key e.0)) [ inl here ↦ rw here refl | inr there ↦ rw there (ap (λ l. seen_entry e ∷ l) (seen-remove key es)) ]
+
+seen-minus : (keys : List (List ℕ)) (es : List (List ℕ × StoredCanister)) → map seen_entry (minus keys es) ≡ minus keys (map seen_entry es)
+seen-minus [] es = refl
+seen-minus (key ∷ keys) es = seen-minus keys (remove_entry (at key) es) ∙ ap (minus keys) (seen-remove key es)
+
+slot_keys : (slots : List StoredSlot) → keys_of_slots (map slot_of slots) ≡ keys_of (pairs_of slots)
+slot_keys [] = refl
+slot_keys (slot ∷ slots) = ap (λ l. slot.key ∷ l) (slot_keys slots)
+
+module _ (p : Parts) (is : IsWorld p) where
+  abbrev pub s : State
+  s = state_of p
+
+  abbrev es : List (List ℕ × StoredCanister)
+  es = p.canisters.entries
+
+  abbrev pub T : Taking
+  T = fold (sort_out (is_key es)) none_taken p.messages
+
+  abbrev pub D : Dealing
+  D = fold deal (none_dealt es) T.firsts
+
+  abbrev slots : List Slot
+  slots = map slot_of D.slots
+
+  same_key : (key : List ℕ) → is_key s.canisters key ≡ is_key es key
+  same_key key = ap is_some (lookup-map_values (λ c. dropped (seen c)) (at key) es) ∙ mapped (lookup (at key) es) where
+    mapped : (o : Option StoredCanister) → is_some (option_map (λ c. dropped (seen c)) o) ≡ is_some o
+    mapped None = refl
+    mapped (Some c) = refl
+
+  same_test : is_key s.canisters ≡ is_key es
+  same_test = λ i key. same_key key i
+
+  abbrev taken : Taking
+  taken = fold (sort_out (is_key s.canisters)) none_taken s.messages
+
+  taken_is : taken ≡ T
+  taken_is = ap (λ test. fold (sort_out test) none_taken s.messages) same_test
+
+  rises : Rises (keys_of s.canisters)
+  rises = (tallied s is.sound).rises
+
+  rises_stored : Rises (keys_of es)
+  rises_stored = subst Rises (keys_of-map_values (λ c. dropped (seen c)) es) rises
+
+  busy_is : keys_of T.firsts ≡ busy s
+  busy_is = ap (λ (t : Taking). keys_of t.firsts) (sym taken_is) ∙ firsts_busy s rises
+
+  firsts_distinct : AreDistinct (keys_of T.firsts)
+  firsts_distinct = IsDistinct-from_sorted (slice_cmp nat_cmp) (keys_of T.firsts) (subst (λ (t : Taking). Rises (keys_of t.firsts)) taken_is (sorted s rises).ordered)
+
+  firsts_are : AllByRecursion (λ (e : List ℕ × Message). lookup (at e.0) T.firsts ≡ Some e.1) T.firsts
+  firsts_are = find_self T.firsts firsts_distinct
+
+  found_first : (q : List ℕ) → lookup (at q) T.firsts ≡ cond (is_key s.canisters q) (find (λ (m : Message). at q (callee_of m)) s.messages) None
+  found_first q = ap (λ (t : Taking). lookup (at q) t.firsts) (sym taken_is) ∙ found s rises q
+
+  there : (fs : List (List ℕ × Message)) → AllByRecursion (λ (e : List ℕ × Message). lookup (at e.0) T.firsts ≡ Some e.1) fs → AllByRecursion (λ (e : List ℕ × Message). is_some (lookup (at e.0) es) ≡ true) fs
+  there [] all = tt
+  there (f ∷ fs) all = (sym (same_key f.0) ∙ known (is_key s.canisters f.0) (sym (found_first f.0) ∙ all.0), there fs all.1) where
+    known : (b : Bool) → cond b (find (λ (m : Message). at f.0 (callee_of m)) s.messages) None ≡ Some f.1 → b ≡ true
+    known true e = refl
+    known false e = cc
+
+  dealt : Deals (none_dealt es) T.firsts D
+  dealt = deals (none_dealt es) T.firsts rises_stored firsts_distinct (there T.firsts firsts_are)
+
+  pairs : pairs_of D.slots ≡ T.firsts
+  pairs = ap pairs_of dealt.slots ∙ dealt.pairs
+
+  theirs : AllByRecursion (IsTheirs es) D.slots
+  theirs = subst (AllByRecursion (IsTheirs es)) (sym dealt.slots) dealt.theirs
+
+  keys_are : keys_of_slots slots ≡ keys_of T.firsts
+  keys_are = slot_keys D.slots ∙ ap keys_of pairs
+
+  distinct : AreDistinct (keys_of_slots slots)
+  distinct = subst AreDistinct (sym keys_are) firsts_distinct
+
+  -- ---- each is a slot of the state, and ready
+
+  is_slot : (slot : StoredSlot) → IsTheirs es slot → lookup (at slot.key) T.firsts ≡ Some slot.message → IsSlot s (slot_of slot)
+  is_slot slot their first = record {
+    there = lookup-map_values (λ c. dropped (seen c)) (at slot.key) es ∙ ap (option_map (λ c. dropped (seen c))) their;
+    counts = each-lookup (HasCounts s) es slot.key slot.canister is.counts their;
+    message = slot_message s rises slot.key slot.message (ap (λ (t : Taking). lookup (at slot.key) t.firsts) taken_is ∙ first);
+  }
+
+  are_slots : (more : List StoredSlot) → AllByRecursion (IsTheirs es) more → AllByRecursion (λ (e : List ℕ × Message). lookup (at e.0) T.firsts ≡ Some e.1) (pairs_of more)
+      → AllByRecursion (IsSlot s) (map slot_of more)
+  are_slots [] their first = tt
+  are_slots (slot ∷ more) their first = (is_slot slot their.0 first.0, are_slots more their.1 first.1)
+
+  all_slots : AllByRecursion (IsSlot s) slots
+  all_slots = are_slots D.slots theirs (subst (AllByRecursion (λ (e : List ℕ × Message). lookup (at e.0) T.firsts ≡ Some e.1)) (sym pairs) firsts_are)
+
+  are_ready : (limit price : ℕ) (more : List StoredSlot) → AllByRecursion (IsTheirs es) more → AllByRecursion (IsSlot s) (map slot_of more) → AllByRecursion IsReady more
+  are_ready limit price [] their all = tt
+  are_ready limit price (slot ∷ more) their all =
+      (ready limit price s is.sound slot all.0 (each-lookup (λ e. IsCanister e.1) es slot.key slot.canister is.canisters their.0), are_ready limit price more their.1 all.1)
+
+  pub all_ready : (limit price : ℕ) (w : Stored) → w.burned ≡ p.burned → AreReady (env_at p.time limit price) w D.slots
+  all_ready limit price w same = ready_all limit price s w D.slots is.sound distinct all_slots (are_ready limit price D.slots theirs all_slots) same
+
+  pub idle_keep : AllByRecursion (λ (e : List ℕ × StoredCanister). IsCanister e.1) D.canisters
+  idle_keep = subst (AllByRecursion (λ (e : List ℕ × StoredCanister). IsCanister e.1)) (sym dealt.others) (each-minus (λ e. IsCanister e.1) (keys_of T.firsts) es is.canisters)
+
+  -- ---- the whole
+
+  left_is_left : T.left ≡ left slots s.messages
+  left_is_left =
+      ap (λ (t : Taking). t.left) (sym taken_is) ∙ left_taken s rises ∙ ap (λ (t : Taking). left_by (keys_of t.firsts) s.messages) taken_is
+      ∙ ap (λ ks. left_by ks s.messages) (sym keys_are) ∙ left_is slots s.messages
+
+  keys_stored : keys_of (counted_state s).canisters ≡ keys_of s.canisters
+  keys_stored = same s.canisters where
+    same : (fs : List (List ℕ × Canister)) → keys_of (map (λ (e : List ℕ × Canister). (e.0, counted s e.0 e.1)) fs) ≡ keys_of fs
+    same [] = refl
+    same (f ∷ fs) = ap (λ l. f.0 ∷ l) (same fs)
+
+  known : AllByRecursion (λ (slot : Slot). list_any (at slot.key) (keys_of s.canisters) ≡ true) slots
+  known = each slots all_slots where
+    each : (more : List Slot) → AllByRecursion (IsSlot s) more → AllByRecursion (λ (slot : Slot). list_any (at slot.key) (keys_of s.canisters) ≡ true) more
+    each [] all = tt
+    each (slot ∷ more) all = (sym (is_some-lookup (at slot.key) s.canisters) ∙ ap is_some all.0.there, each more all.1)
+
+  begins_at : record (stored_of p) { canisters = map seen_entry D.canisters; messages = T.left }
+      ≡ record (counted_state s) { canisters = minus (keys_of_slots slots) (counted_state s).canisters; messages = left slots s.messages }
+  begins_at =
+      let canisters : map seen_entry D.canisters ≡ minus (keys_of_slots slots) (counted_state s).canisters =
+      ap (map seen_entry) dealt.others ∙ seen-minus (keys_of T.firsts) es ∙ ap (λ (w : Stored). minus (keys_of T.firsts) w.canisters) (stored_is p is) ∙ ap (λ ks. minus ks (counted_state s).canisters) (sym keys_are) in
+      let messages = left_is_left in
+      λ i. record (counted_state s) { canisters = canisters i; messages = messages i }
+
+  phase_is : (outside : Outside) (limit price : ℕ)
+      → fold (settle (env_at p.time limit price)) (record (stored_of p) { canisters = map seen_entry D.canisters; messages = T.left }) slots
+      ≡ counted_state (along (system_rules outside limit price) s (first_phase (system_rules outside limit price) s))
+  unfolding first_phase
+  phase_is outside limit price =
+      ap (λ w. fold (settle (env_at p.time limit price)) w slots) begins_at
+      ∙ put_back (env_at p.time limit price) (keys_of s.canisters) (record (counted_state s) { messages = left slots s.messages }) slots keys_stored rises distinct known
+      ∙ sym (batch outside limit price s slots is.sound distinct all_slots)
+      ∙ ap (λ ks. counted_state (along (system_rules outside limit price) s (turns (system_rules outside limit price) s ks))) (keys_are ∙ busy_is)
+
+  pub many : (outside : Outside) (limit price : ℕ) → length D.slots ≡ length (first_phase (system_rules outside limit price) s)
+  unfolding first_phase
+  many outside limit price =
+      sym (length-map D.slots (λ (slot : StoredSlot). (slot.key, slot.message))) ∙ ap length pairs ∙ sym (length-map T.firsts (λ e. e.0))
+      ∙ ap length busy_is ∙ sym (length-turns (system_rules outside limit price) s (busy s))
+
+  -- what the slots come to is a world, and the state after the first phase
+  pub phase_ends : (limit price : ℕ) (after : Parts) → AreCanisters after
+      → stored_of after ≡ fold (settle (env_at p.time limit price)) (record (stored_of p) { canisters = map seen_entry D.canisters; messages = T.left }) slots
+      → IsWorld after × ((outside : Outside) → state_of after ≡ along (system_rules outside limit price) s (first_phase (system_rules outside limit price) s))
+  phase_ends limit price after keep stored =
+      let end = λ (outside : Outside). along (system_rules outside limit price) s (first_phase (system_rules outside limit price) s) in
+      let sound = along_sound limit price s (first_phase (system_rules as_absent limit price) s) is.sound in
+      let world = world_from (end as_absent) after sound keep (stored ∙ phase_is as_absent limit price) in
+      (world.0, λ outside. world.1 ∙ same_end outside) where
+        same_end : (outside : Outside) → along (system_rules as_absent limit price) s (first_phase (system_rules as_absent limit price) s) ≡ along (system_rules outside limit price) s (first_phase (system_rules outside limit price) s)
+        same_end outside = sym (bare_back _) ∙ ap bare_state (sym (phase_is as_absent limit price) ∙ phase_is outside limit price) ∙ bare_back _
+
+  -- the values that the code has
+  pub record Passed (left : List Message) (canisters : List (List ℕ × StoredCanister)) (dealt_slots : List StoredSlot) : Type 0 where
+    pub left_are : left ≡ T.left
+    pub canisters_are : canisters ≡ D.canisters
+    pub slots_are : dealt_slots ≡ D.slots
+
+  pub passed : (code_taken : Taking) (firsts : List (List ℕ × Message)) (left : List Message) (dealing : Dealing) (canisters : List (List ℕ × StoredCanister)) (dealt_slots : List StoredSlot)
+      → code_taken ≡ T → firsts ≡ code_taken.firsts → left ≡ code_taken.left → dealing ≡ fold deal (none_dealt es) firsts → canisters ≡ dealing.canisters → dealt_slots ≡ dealing.slots
+      → Passed left canisters dealt_slots
+  passed code_taken firsts left dealing canisters dealt_slots is_taken is_firsts is_left is_dealing is_canisters is_slots =
+      let all : dealing ≡ D = is_dealing ∙ ap (fold deal (none_dealt es)) (is_firsts ∙ ap (λ (t : Taking). t.firsts) is_taken) in
+      record {
+        left_are = is_left ∙ ap (λ (t : Taking). t.left) is_taken;
+        canisters_are = is_canisters ∙ ap (λ (d : Dealing). d.canisters) all;
+        slots_are = is_slots ∙ ap (λ (d : Dealing). d.slots) all;
+      }
+
+  pub code_ends : (limit price : ℕ) (left : List Message) (canisters : List (List ℕ × StoredCanister)) (dealt_slots : List StoredSlot) (after : Parts) → Passed left canisters dealt_slots → AreCanisters after
+      → stored_of after ≡ fold (settle (env_at p.time limit price)) (record (stored_of p) { canisters = map seen_entry canisters; messages = left }) (map slot_of dealt_slots)
+      → IsWorld after × ((outside : Outside) → state_of after ≡ along (system_rules outside limit price) s (first_phase (system_rules outside limit price) s))
+  code_ends limit price left canisters dealt_slots after values keep stored =
+      let canisters_are = values.canisters_are in
+      let left_are = values.left_are in
+      let slots_are = values.slots_are in
+      phase_ends limit price after keep
+      (stored ∙ (λ i. fold (settle (env_at p.time limit price)) (record (stored_of p) { canisters = map seen_entry (canisters_are i); messages = left_are i }) (map slot_of (slots_are i))))

@@ -1,0 +1,10 @@
+pub mod Slots
+pub mod Takes
+pub mod Settles
+pub mod Batches
+pub mod PutBacks
+pub mod Deals
+pub mod Firsts
+pub mod Ready
+pub mod Worlds
+pub mod FirstPhases

@@ -1,0 +1,89 @@
+-- Slots that are handled one after another.
+use Rattle.std.proofs.Common.{◌≡◌, ℕ, ◌+◌, ◌-◌, ◌<◌, ◌≤◌, ◌^◌, List, [], ◌∷◌, ◌++◌, map, length, take, refl, sym, ap, ◌∙◌, subst, arith, not-suc-le-zero}
+use Rattle.std.specs.Prelude.{get_or}
+use Rattle.std.specs.List.{fold, flat_map, AllByRecursion}
+use Rattle.std.specs.BTreeMap.{insert_entry}
+use Rattle.std.specs.declared.cmp.Ordering.{Ordering}
+use Rattle.std.specs.declared.cmp.Ordering.TheVariants.{Less, Equal, Greater}
+use Rattle.std.specs.Ordering.{nat_cmp, match_ordering}
+use Rattle.std.specs.Cmp.Lexicographic.{slice_cmp}
+use Rattle.ic_behaviour.specs.declared.call.Message.{Message}
+use Rattle.ic_behaviour.specs.declared.call.Answered.{Answered}
+use Rattle.ic_behaviour.specs.declared.env.Env.{Env}
+use Rattle.ic_behaviour.specs.Closing.{Handled}
+use Rattle.ic_behaviour.specs.Deliver.{filled, routed}
+use Rattle.ic_state.specs.declared.canister.Canister.{Canister as StoredCanister}
+use Rattle.ic_state.specs.declared.world.Parts.{Parts}
+use Rattle.ic_state.specs.Seen.{seen}
+use Rattle.ic_state.specs.IsCanister.{IsCanister}
+use Rattle.ic_calls.specs.Sent.{sent_from}
+use Rattle.ic_rounds.specs.declared.slot.Slot.{Slot as StoredSlot}
+use Rattle.ic_rounds.specs.Settling.{Stored, seen_entry, stored_of, slot_of, ran, put, settle, IsReady, AreReady, AreCanisters, IsBack}
+
+-- ---- the map of canisters
+
+seen-insert : (es : List (List ℕ × StoredCanister)) (k : List ℕ) (c : StoredCanister)
+    → map seen_entry (insert_entry (slice_cmp nat_cmp) es k c) ≡ insert_entry (slice_cmp nat_cmp) (map seen_entry es) k (seen c)
+seen-insert [] k c = refl
+seen-insert (e ∷ es) k c = by (slice_cmp nat_cmp k e.0) (seen-insert es k c) where
+  by : (o : Ordering) → map seen_entry (insert_entry (slice_cmp nat_cmp) es k c) ≡ insert_entry (slice_cmp nat_cmp) (map seen_entry es) k (seen c)
+      → map seen_entry (match_ordering o ((k, c) ∷ e ∷ es) ((e.0, c) ∷ es) (e ∷ insert_entry (slice_cmp nat_cmp) es k c))
+      ≡ match_ordering o ((k, seen c) ∷ seen_entry e ∷ map seen_entry es) ((e.0, seen c) ∷ map seen_entry es) (seen_entry e ∷ insert_entry (slice_cmp nat_cmp) (map seen_entry es) k (seen c))
+  by Less more = refl
+  by Equal more = refl
+  by Greater more = ap (λ l. seen_entry e ∷ l) more
+
+each-insert : (P : StoredCanister → Type 0) (es : List (List ℕ × StoredCanister)) (k : List ℕ) (c : StoredCanister) → P c
+    → AllByRecursion (λ (e : List ℕ × StoredCanister). P e.1) es → AllByRecursion (λ (e : List ℕ × StoredCanister). P e.1) (insert_entry (slice_cmp nat_cmp) es k c)
+each-insert P [] k c here all = (here, tt)
+each-insert P (e ∷ es) k c here all = by (slice_cmp nat_cmp k e.0) (each-insert P es k c here all.1) where
+  by : (o : Ordering) → AllByRecursion (λ (e : List ℕ × StoredCanister). P e.1) (insert_entry (slice_cmp nat_cmp) es k c)
+      → AllByRecursion (λ (e : List ℕ × StoredCanister). P e.1) (match_ordering o ((k, c) ∷ e ∷ es) ((e.0, c) ∷ es) (e ∷ insert_entry (slice_cmp nat_cmp) es k c))
+  by Less more = (here, all)
+  by Equal more = (here, all.1)
+  by Greater more = (all.0, more)
+
+-- ---- one slot
+
+pub put-is : (before back after : Parts) (key : List ℕ) (c : StoredCanister) (calls : List Message) (answers : List Answered) (burned : ℕ) (h : Handled)
+    → seen c ≡ h.canister → calls ≡ h.calls → answers ≡ h.answers → burned ≡ h.burned
+    → IsBack before key c burned back → after ≡ sent_from key calls answers back → stored_of after ≡ put (stored_of before) key h
+put-is before back after key c calls answers burned h is_canister is_calls is_answers is_burned back_is after_is =
+    let canisters : map seen_entry back.canisters.entries ≡ insert_entry (slice_cmp nat_cmp) (map seen_entry before.canisters.entries) key h.canister =
+    ap (map seen_entry) back_is.canisters ∙ seen-insert before.canisters.entries key c ∙ ap (insert_entry (slice_cmp nat_cmp) (map seen_entry before.canisters.entries) key) is_canister in
+    let messages : back.messages ++ calls ++ flat_map (routed key) answers ≡ before.messages ++ h.calls ++ flat_map (routed key) h.answers =
+    λ i. back_is.messages i ++ is_calls i ++ flat_map (routed key) (is_answers i) in
+    let requests : fold filled back.requests answers ≡ fold filled before.requests h.answers = λ i. fold filled (back_is.requests i) (is_answers i) in
+    let burns : back.burned ≡ before.burned + h.burned = back_is.burned ∙ ap (λ n. before.burned + n) is_burned in
+    let time = back_is.time in
+    let created = back_is.created in
+    let next = back_is.next_canister in
+    ap stored_of after_is ∙ (λ i. record {
+      canisters = canisters i;
+      messages = messages i;
+      requests = requests i;
+      time = time i;
+      created = created i;
+      burned = burns i;
+      next_canister = next i;
+    })
+
+pub keep-is : (before back after : Parts) (key : List ℕ) (c : StoredCanister) (calls : List Message) (answers : List Answered) (burned : ℕ)
+    → IsCanister c → AreCanisters before → IsBack before key c burned back → after ≡ sent_from key calls answers back → AreCanisters after
+keep-is before back after key c calls answers burned keeps all back_is after_is =
+    subst AreCanisters (sym after_is)
+    (subst (AllByRecursion (λ (e : List ℕ × StoredCanister). IsCanister e.1)) (sym back_is.canisters) (each-insert IsCanister before.canisters.entries key c keeps all))
+
+-- ---- slots in their turn
+
+pub ready_turn : (env : Env) (w : Stored) (slots front : List StoredSlot) (slot : StoredSlot) → AreReady env w slots → length front < length slots → slot ≡ get_or slots (length front) slot
+    → front ≡ take (length front) slots
+    → IsReady slot × ((fold (settle env) w (map slot_of front)).burned + (ran env (slot_of slot)).burned ≤ 2 ^ 127 - 1)
+ready_turn env w [] front slot ready inside is so_far = absurd (not-suc-le-zero inside)
+ready_turn env w (x ∷ slots) [] slot ready inside is so_far =
+    subst (λ (y : StoredSlot). IsReady y × (w.burned + (ran env (slot_of y)).burned ≤ 2 ^ 127 - 1)) (sym is) (ready.0, ready.1)
+ready_turn env w (x ∷ slots) (y ∷ front) slot ready inside is so_far =
+    let first : y ≡ x = cc in
+    let rest : front ≡ take (length front) slots = cc in
+    let more = ready_turn env (settle env w (slot_of x)) slots front slot ready.2 (omega (arith, inside)) is rest in
+    subst (λ (z : StoredSlot). IsReady slot × ((fold (settle env) (settle env w (slot_of z)) (map slot_of front)).burned + (ran env (slot_of slot)).burned ≤ 2 ^ 127 - 1)) (sym first) more

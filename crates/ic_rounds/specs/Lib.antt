@@ -1,0 +1,3 @@
+pub mod Taking
+pub mod Dealing
+pub mod Settling

@@ -1,0 +1,80 @@
+ghost use Rattle.std.specs.Prelude.{◌≡◌, [], IfOk};
+ghost use Rattle.std.specs.List.{fold};
+ghost use Rattle.ic_rounds.specs.Dealing.{deal, none_dealt};
+
+use crate::slot::Slot;
+use ic_base::NoMemory;
+use ic_principal::Principal;
+use ic_state::{Canister, Message};
+use std::alloc::Global;
+use std::collections::BTreeMap;
+use std::marker::Model;
+
+/// The canisters that have no slot, and the slots.
+#[derive(Drop)]
+pub struct Dealt {
+    canisters: BTreeMap<Principal, Canister>,
+    slots: Vec<Slot>,
+}
+
+impl Model for Dealt {
+    ghost use Rattle.ic_rounds.specs.Dealing.{Dealing};
+
+    ghost Value = { Dealing };
+
+    ghost view = { λ w. record { canisters = w.canisters.entries; slots = w.slots.items } };
+}
+
+impl Dealt {
+    fn new(alloc: Global, canisters: BTreeMap<Principal, Canister>) -> Dealt
+        ensures { result ≡ none_dealt canisters.entries }
+    {
+        Dealt {
+            canisters,
+            slots: Vec::new(alloc),
+        }
+    }
+
+    /// The canisters that have no slot, and the slots in rising order of their canisters.
+    pub fn open(self) -> (BTreeMap<Principal, Canister>, Vec<Slot>)
+        ensures canisters { result.0.entries ≡ self.canisters }
+        ensures slots { result.1.items ≡ self.slots }
+    {
+        let Dealt { canisters, slots } = self;
+        (canisters, slots)
+    }
+
+    // Puts a canister into a slot, with its first message.
+    fn deal(self, key: Principal, message: Message) -> Result<Dealt, NoMemory>
+        ensures { IfOk result (λ w. w ≡ deal self (key, message)) }
+    {
+        let Dealt {
+            mut canisters,
+            mut slots,
+        } = self;
+        let Some(canister) = canisters.remove(&key) else {
+            return Ok(Dealt { canisters, slots });
+        };
+        slots.push(Slot {
+            key,
+            canister,
+            message,
+        })?;
+        Ok(Dealt { canisters, slots })
+    }
+}
+
+/// Puts the canisters that have a first message into slots, in rising order.
+pub fn deal_out(
+    alloc: Global,
+    canisters: BTreeMap<Principal, Canister>,
+    firsts: BTreeMap<Principal, Message>,
+) -> Result<Dealt, NoMemory>
+    ensures { IfOk result (λ w. w ≡ fold deal (none_dealt canisters.entries) firsts.entries) }
+{
+    let mut dealt = Dealt::new(alloc, canisters);
+    for (key, message) in firsts {
+        dealt = dealt.deal(key, message)?;
+    }
+    Ok(dealt)
+}

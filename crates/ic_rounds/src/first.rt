@@ -1,0 +1,61 @@
+ghost use Rattle.std.specs.Prelude.{◌≡◌, ◌<◌, ◌≤◌, ◌^◌, length, IfOk};
+ghost use Rattle.ic_behaviour.specs.Deliver.{Outside};
+ghost use Rattle.ic_runs.specs.Steps.{along};
+ghost use Rattle.ic_runs.specs.Round.{first_phase};
+ghost use Rattle.ic_accounting.specs.System.{system_rules};
+
+use crate::dealt::deal_out;
+use crate::settled::settled;
+use crate::taken::taken_out;
+use ic_base::NoMemory;
+use ic_outside::Gate;
+use ic_state::{Env, Parts, World};
+use std::alloc::Global;
+
+/// The first phase of a round: in rising id, each canister that had a message at the round's start
+/// handles the first one. Gives the number of messages that were handled. One worker runs, and passes
+/// no gate. `limit` is the most instructions that one execution may use, and `price` the cycles that
+/// an instruction costs. Whatever delivers calls to the management canister, none is delivered here.
+pub fn canister_turns<G: Gate + Sync>(
+    alloc: Global,
+    world: World,
+    workers: u32,
+    limit: u64,
+    price: u64,
+    gate: &G,
+) -> Result<(World, u64), NoMemory>
+    requires workers { workers ≡ 1 }
+    requires limit { limit ≤ 1000000000000 }
+    ensures state { IfOk result (λ r. (outside : Outside)
+        → r.0 ≡ along (system_rules outside limit price) world
+        (first_phase (system_rules outside limit price) world)) }
+    ensures handled { IfOk result (λ r. (outside : Outside)
+        → r.1 ≡ length (first_phase (system_rules outside limit price) world)) }
+    ensures few { IfOk result (λ r. r.1 < 2 ^ 63) }
+{
+    let _workers = workers;
+    let _gate = gate;
+    let Parts {
+        canisters,
+        messages,
+        requests,
+        time,
+        created,
+        burned,
+        next_canister,
+    } = world.open();
+    let (firsts, left) = taken_out(alloc, &canisters, messages)?.open();
+    let (canisters, slots) = deal_out(alloc, canisters, firsts)?.open();
+    let handled = slots.len() as u64;
+    let parts = Parts {
+        canisters,
+        messages: left,
+        requests,
+        time,
+        created,
+        burned,
+        next_canister,
+    };
+    let parts = settled(alloc, parts, slots, Env { time, limit, price })?;
+    Ok((World::seal(parts), handled))
+}

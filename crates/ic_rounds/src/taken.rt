@@ -1,0 +1,99 @@
+ghost use Rattle.std.specs.Prelude.{◌≡◌, IfOk};
+ghost use Rattle.std.specs.List.{fold};
+ghost use Rattle.ic_rounds.specs.Taking.{is_first, is_key, take_out, leave, sort_out, none_taken};
+
+use ic_base::NoMemory;
+use ic_calls::callee;
+use ic_principal::Principal;
+use ic_state::{Canister, Message, Messages};
+use std::alloc::Global;
+use std::collections::BTreeMap;
+use std::marker::Model;
+
+/// The first message to each canister that has one, and the other messages.
+#[derive(Drop)]
+pub struct Taken {
+    firsts: BTreeMap<Principal, Message>,
+    left: Vec<Message>,
+}
+
+impl Model for Taken {
+    ghost use Rattle.ic_rounds.specs.Taking.{Taking};
+
+    ghost Value = { Taking };
+
+    ghost view = { λ w. record { firsts = w.firsts.entries; left = w.left.items } };
+}
+
+impl Taken {
+    fn new(alloc: Global) -> Taken
+        ensures { result ≡ none_taken }
+    {
+        Taken {
+            firsts: BTreeMap::new(alloc),
+            left: Vec::new(alloc),
+        }
+    }
+
+    /// The first messages, in rising order of their canisters, and the other messages.
+    pub fn open(self) -> (BTreeMap<Principal, Message>, Messages)
+        ensures firsts { result.0.entries ≡ self.firsts }
+        ensures left { result.1 ≡ self.left }
+    {
+        let Taken { firsts, left } = self;
+        (firsts, Messages { items: left })
+    }
+
+    fn is_first(&self, canisters: &BTreeMap<Principal, Canister>, callee: &Principal) -> bool
+        ensures { result ≡ is_first (is_key canisters.now.entries) self.now callee.now }
+    {
+        canisters.contains_key(callee) && !self.firsts.contains_key(callee)
+    }
+
+    fn take_out(self, callee: Principal, message: Message) -> Result<Taken, NoMemory>
+        ensures { IfOk result (λ w. w ≡ take_out self callee message) }
+    {
+        let Taken { mut firsts, left } = self;
+        firsts.insert(callee, message)?;
+        Ok(Taken { firsts, left })
+    }
+
+    fn leave(self, message: Message) -> Result<Taken, NoMemory>
+        ensures { IfOk result (λ w. w ≡ leave self message) }
+    {
+        let Taken { firsts, mut left } = self;
+        left.push(message)?;
+        Ok(Taken { firsts, left })
+    }
+
+    // Goes past a message.
+    fn sort_out(
+        self,
+        canisters: &BTreeMap<Principal, Canister>,
+        message: Message,
+    ) -> Result<Taken, NoMemory>
+        ensures { IfOk result (λ w. w ≡ sort_out (is_key canisters.now.entries) self message) }
+    {
+        let callee = callee(&message);
+        if self.is_first(canisters, &callee) {
+            self.take_out(callee, message)
+        } else {
+            self.leave(message)
+        }
+    }
+}
+
+/// Takes out the first message to each canister that has one, in one pass.
+pub fn taken_out(
+    alloc: Global,
+    canisters: &BTreeMap<Principal, Canister>,
+    messages: Messages,
+) -> Result<Taken, NoMemory>
+    ensures { IfOk result (λ w. w ≡ fold (sort_out (is_key canisters.now.entries)) none_taken messages) }
+{
+    let mut taken = Taken::new(alloc);
+    for message in messages.items {
+        taken = taken.sort_out(canisters, message)?;
+    }
+    Ok(taken)
+}
