@@ -1,0 +1,3 @@
+pub mod WayLaws
+pub mod Sweeps
+pub mod Keeps
