@@ -1,0 +1,67 @@
+ghost use Rattle.std.specs.Prelude.{◌≡◌, ◌≤◌, length, IfOk};
+ghost use Rattle.std.specs.List.{concat};
+ghost use Rattle.ic_behaviour.specs.Deliver.{as_absent};
+ghost use Rattle.ic_runs.specs.Steps.{along};
+ghost use Rattle.ic_runs.specs.Round.{round, rounds};
+ghost use Rattle.ic_accounting.specs.System.{system_rules};
+
+use ic_base::NoMemory;
+use ic_mgmt::outside_turns;
+use ic_outside::Gate;
+use ic_rounds::canister_turns;
+use ic_state::World;
+use std::alloc::Global;
+
+/// A round: each canister that has a message handles its first one, in rising id, and then messages
+/// to no canister are handled down the list. Gives the number of messages that were handled, at least
+/// one where a message is under way. `limit` is the most instructions that one execution may use, and
+/// `price` the cycles that an instruction costs.
+pub fn round<G: Gate + Sync>(
+    alloc: Global,
+    world: World,
+    workers: u32,
+    limit: u64,
+    price: u64,
+    gate: &G,
+) -> Result<(World, u64), NoMemory>
+    requires workers { workers ≡ 1 }
+    requires limit { limit ≤ 1000000000000 }
+    ensures state { IfOk result (λ r. r.0
+        ≡ along (system_rules as_absent limit price) world
+        (round (system_rules as_absent limit price) world)) }
+    ensures handled { IfOk result (λ r. r.1
+        ≡ length (round (system_rules as_absent limit price) world)) }
+{
+    let (world, first) = canister_turns(alloc, world, workers, limit, price, gate)?;
+    let (world, second) = outside_turns(alloc, world, limit)?;
+    Ok((world, first + second))
+}
+
+/// Up to `count` rounds, until no message is under way. Gives how many were made.
+pub fn run_rounds<G: Gate + Sync>(
+    alloc: Global,
+    world: World,
+    count: u32,
+    workers: u32,
+    limit: u64,
+    price: u64,
+    gate: &G,
+) -> Result<(World, u32), NoMemory>
+    requires workers { workers ≡ 1 }
+    requires limit { limit ≤ 1000000000000 }
+    ensures state { IfOk result (λ r. r.0
+        ≡ along (system_rules as_absent limit price) world
+        (concat (rounds (system_rules as_absent limit price) count world))) }
+    ensures made { IfOk result (λ r. r.1
+        ≡ length (rounds (system_rules as_absent limit price) count world)) }
+{
+    let mut world = world;
+    for made in 0..count {
+        if world.parts().messages.is_empty() {
+            return Ok((world, made));
+        }
+        let (next, _) = round(alloc, world, workers, limit, price, gate)?;
+        world = next;
+    }
+    Ok((world, count))
+}
