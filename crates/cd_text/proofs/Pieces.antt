@@ -1,9 +1,9 @@
 -- What is printed piece by piece.
-use Rattle.std.proofs.Common.{◌≡◌, ℕ, zero, suc, ◌+◌, ◌≤◌, ◌<◌, Bool, true, false, List, [], ◌∷◌, ◌++◌, length, take, map, codes, Some, None, refl, sym, ap, ◌∙◌, append_assoc, arith, get_or}
+use Rattle.std.proofs.Common.{◌≡◌, ℕ, suc, ◌+◌, ◌≤◌, ◌<◌, Bool, false, List, [], ◌∷◌, ◌++◌, length, take, map, codes, Some, refl, sym, ap, ◌∙◌, append_assoc, arith, get_or}
 use Rattle.std.specs.Prelude.{◌==◌, Box}
 use Rattle.std.specs.List.{flat_map}
 use Rattle.std.specs.Global.{Vec, Global}
-use Rattle.std.proofs.lemmas.List.{append-nil, length-append, length-map, map_push, take_more, length-take}
+use Rattle.std.proofs.lemmas.List.{append-nil, length-map, map_push, take_more, length-take}
 use Rattle.std.proofs.lemmas.List.{take_all}
 use Rattle.cd_types.specs.declared.entry.TyRef.{TyRef}
 use Rattle.cd_types.specs.declared.entry.Entry.{Entry}
@@ -12,7 +12,7 @@ use Rattle.cd_codec.specs.declared.value.Value.{Value}
 use Rattle.cd_codec.specs.declared.value.Value.TheVariants as values
 use Rattle.cd_codec.specs.declared.value.Values.{roll-Values}
 use Rattle.cd_codec.specs.declared.value.FieldValues.{roll-FieldValues}
-use Rattle.cd_codec.specs.Content.{Content, Contents, Parts, contents_of, parts_of}
+use Rattle.cd_codec.specs.Content.{Content, contents_of, parts_of}
 use Rattle.cd_codec.specs.View.{view, views, views_of_fields}
 use Rattle.cd_codec.proofs.Views.{view-Some, view-Var, view-Seq, view-Rec}
 use Rattle.cd_text.specs.Types.{inner_of, item_of, fields_of, field_at, type_at}
@@ -114,9 +114,9 @@ argument_seen table types items place x at b old front middle new below is kind 
     let count = seen_count view items place below in
     let n : 0 + length (views (take place items)) ≡ place = omega (arith, count) in
     let more : argument_texts table types 0 (views (take (place + 1) items)) ≡ argument_texts table types 0 (views (take place items)) ++ value_text table at (view x) ∷ [] =
-      ap (argument_texts table types 0) (seen_more view items place x below ∙ ap (λ y. views (take place items) ++ view y ∷ []) (sym is))
-      ∙ arguments_push table types 0 (views (take place items)) (view x) ∙ ap (λ k. argument_texts table types 0 (views (take place items)) ++ value_text table (type_at types k) (view x) ∷ []) n
-      ∙ ap (λ t. argument_texts table types 0 (views (take place items)) ++ value_text table t (view x) ∷ []) (sym kind) in
+    ap (argument_texts table types 0) (seen_more view items place x below ∙ ap (λ y. views (take place items) ++ view y ∷ []) (sym is))
+    ∙ arguments_push table types 0 (views (take place items)) (view x) ∙ ap (λ k. argument_texts table types 0 (views (take place items)) ++ value_text table (type_at types k) (view x) ∷ []) n
+    ∙ ap (λ t. argument_texts table types 0 (views (take place items)) ++ value_text table t (view x) ∷ []) (sym kind) in
     one_more [] (codes ", ") (argument_texts table types 0 (views (take place items))) (argument_texts table types 0 (views (take (place + 1) items))) (value_text table at (view x)) place old front middle new
     (arguments_count table types 0 (views (take place items)) ∙ count) more f (g ∙ ap (λ (xs : List ℕ). front ++ xs) sep) h
 
@@ -130,7 +130,7 @@ pub item_seen : (text : Content → List ℕ) (items : List Value) (place : ℕ)
 item_seen text items place x b old front middle new below is sep f g h =
     let count = seen_count view items place below in
     let more : map text (views (take (place + 1) items)) ≡ map text (views (take place items)) ++ text (view x) ∷ [] =
-      ap (map text) (seen_more view items place x below ∙ ap (λ y. views (take place items) ++ view y ∷ []) (sym is)) ∙ map_push text (views (take place items)) (view x) in
+    ap (map text) (seen_more view items place x below ∙ ap (λ y. views (take place items) ++ view y ∷ []) (sym is)) ∙ map_push text (views (take place items)) (view x) in
     one_more (codes "{ ") (codes "; ") (map text (views (take place items))) (map text (views (take (place + 1) items))) (text (view x)) place old front middle new
     (length-map (views (take place items)) text ∙ count) more f (g ∙ ap (λ (xs : List ℕ). front ++ xs) sep) h
 
@@ -151,11 +151,11 @@ field_seen table types items place x at b old front middle new below is kind sep
     let count : length (views_of_fields (take place items)) ≡ place = seen_count field_view items place below in
     let n : 0 + length (views_of_fields (take place items)) ≡ place = omega (arith, count) in
     let seen : views_of_fields (take (place + 1) items) ≡ views_of_fields (take place items) ++ (x.0, view x.1) ∷ [] =
-      seen_more field_view items place x below ∙ ap (λ y. views_of_fields (take place items) ++ field_view y ∷ []) (sym is) in
+    seen_more field_view items place x below ∙ ap (λ y. views_of_fields (take place items) ++ field_view y ∷ []) (sym is) in
     let more : field_texts table types 0 (parts_of (views_of_fields (take (place + 1) items))) ≡ field_texts table types 0 (parts_of (views_of_fields (take place items))) ++ labelled x.0 (value_text table at.1 (view x.1)) ∷ [] =
-      ap (λ ps. field_texts table types 0 (parts_of ps)) seen
-      ∙ fields_push table types 0 (views_of_fields (take place items)) (x.0, view x.1) ∙ ap (λ k. field_texts table types 0 (parts_of (views_of_fields (take place items))) ++ labelled x.0 (value_text table (field_at types k).1 (view x.1)) ∷ []) n
-      ∙ ap (λ (t : ℕ × TyRef). field_texts table types 0 (parts_of (views_of_fields (take place items))) ++ labelled x.0 (value_text table t.1 (view x.1)) ∷ []) (sym kind) in
+    ap (λ ps. field_texts table types 0 (parts_of ps)) seen
+    ∙ fields_push table types 0 (views_of_fields (take place items)) (x.0, view x.1) ∙ ap (λ k. field_texts table types 0 (parts_of (views_of_fields (take place items))) ++ labelled x.0 (value_text table (field_at types k).1 (view x.1)) ∷ []) n
+    ∙ ap (λ (t : ℕ × TyRef). field_texts table types 0 (parts_of (views_of_fields (take place items))) ++ labelled x.0 (value_text table t.1 (view x.1)) ∷ []) (sym kind) in
     one_more (codes "{ ") (codes "; ") (field_texts table types 0 (parts_of (views_of_fields (take place items)))) (field_texts table types 0 (parts_of (views_of_fields (take (place + 1) items)))) (labelled x.0 (value_text table at.1 (view x.1))) place old front middle new
     (fields_count table types 0 (views_of_fields (take place items)) ∙ count) more f (g ∙ ap (λ (xs : List ℕ). front ++ xs) sep) h
 
@@ -192,7 +192,7 @@ unfolding value_text
 after_case table type old middle nearly new v part i inner cases case is same kind at e f g =
     let field = labelled case.0 (value_text table case.1 (view part)) in
     let whole : new ≡ old ++ (codes "variant { " ++ (field ++ codes " }")) =
-      two_pieces old middle new (codes "variant { ") (field ++ codes " }") (codes "variant { " ++ (field ++ codes " }")) e (two_pieces middle nearly new field (codes " }") (field ++ codes " }") f g refl) refl in
+    two_pieces old middle new (codes "variant { ") (field ++ codes " }") (codes "variant { " ++ (field ++ codes " }")) e (two_pieces middle nearly new field (codes " }") (field ++ codes " }") f g refl) refl in
     whole ∙ ap (λ (bytes : List ℕ). old ++ bytes) (rw (is, same, at, kind, view-Var i inner) (ap (λ (xs : List ℕ). codes "variant { " ++ (xs ++ codes " }")) (sym (append-nil _))))
 
 pub no_field : (table : List Entry) (types : List (ℕ × TyRef)) (old : List ℕ) → old ≡ old ++ pieces (codes "{ ") (codes "; ") 0 (field_texts table types 0 (parts_of []))

@@ -1,5 +1,5 @@
 -- The types of the parts of a value, by the shape of its type.
-use Rattle.std.specs.Prelude.{◌≡◌, ℕ, List, [], ◌∷◌, Option, Some, None, slice_get}
+use Rattle.std.specs.Prelude.{ℕ, List, [], Option, Some, None, slice_get}
 use Rattle.cd_types.specs.declared.primitive.Primitive.TheVariants.{Null}
 use Rattle.cd_types.specs.declared.entry.TyRef.{TyRef}
 use Rattle.cd_types.specs.declared.entry.TyRef.TheVariants.{Prim}

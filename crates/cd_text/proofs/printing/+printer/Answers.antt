@@ -1,4 +1,4 @@
-use Rattle.std.proofs.Common.{sym, ap, ◌∙◌}
+use Rattle.std.proofs.Common.{ap, ◌∙◌}
 use Rattle.cd_codec.specs.declared.value.Value.TheVariants as values
 use Rattle.cd_text.specs.Printed.{value_text}
 use Rattle.cd_text.proofs.Pieces.{no_field, item_seen, items_seen, field_seen, fields_seen, after_some, after_items, after_fields, after_case}

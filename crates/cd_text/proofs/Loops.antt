@@ -1,0 +1,80 @@
+-- Reading parts one after the other, as a loop does.
+use Rattle.std.proofs.Common.{◌≡◌, ℕ, suc, ◌-◌, ◌+◌, ◌≤◌, ◌<◌, true, false, List, [], ◌∷◌, ◌++◌, drop, Option, Some, None, refl, sym, ap, ◌∙◌, append_assoc, arith}
+use Rattle.std.proofs.lemmas.List.{append-nil}
+use Rattle.ic_base.specs.declared.read_error.ReadError.{ReadError}
+use Rattle.ic_base.specs.declared.read_error.ReadError.TheVariants.{NoMemory, Refused}
+use Rattle.ic_base.specs.Gives.{Fails}
+use Rattle.cd_tokens.specs.Token.{Token}
+use Rattle.cd_text.specs.ReadPlain.{is_mark, starts}
+use Rattle.cd_text.specs.ReadSaid.{Budgeted, then_make, parts_at}
+
+-- what was read before, and what is still read
+abbrev pub with_front : {A : Type 0} → List A → Option (List A × ℕ × List Token) → Option (List A × ℕ × List Token)
+with_front front read = then_make (λ xs. front ++ xs) read
+
+regrouped : {A : Type 0} (front : List A) (x : A) (read : Option (List A × ℕ × List Token)) → with_front front (then_make (λ xs. x ∷ xs) read) ≡ with_front (front ++ x ∷ []) read
+regrouped {A} front x (Some xs) = ap (λ (ys : List A). Some (ys, xs.1, xs.2)) (sym (append_assoc front (x ∷ []) xs.0))
+regrouped front x None = refl
+
+-- the state of a loop over parts
+abbrev pub Still : {A : Type 0} → ℕ → ℕ → (ℕ → Budgeted A) → (A → ℕ) → List A → ℕ → ℕ → ℕ → List Token → Option (List A × ℕ × List Token) → Type 0
+Still separator end read step front fuel next left tokens total = with_front front (parts_at separator end read step fuel next left tokens) ≡ total
+
+-- the end stands there
+pub at_end : {A : Type 0} (separator end : ℕ) (read : ℕ → Budgeted A) (step : A → ℕ) (front : List A) (most i next left : ℕ) (tokens : List Token) (total : Option (List A × ℕ × List Token))
+    → i < most → starts (is_mark end) tokens ≡ true → Still separator end read step front (most - i) next left tokens total → total ≡ Some (front, left, drop 1 tokens)
+unfolding parts_at
+at_end {A} separator end read step front most i next left tokens total below ended so_far =
+    let more : most - i ≡ suc (most - (i + 1)) = omega arith in
+    let s : with_front front (parts_at separator end read step (most - i) next left tokens) ≡ Some (front, left, drop 1 tokens) = rw (more, ended) (ap (λ (xs : List A). Some (xs, left, drop 1 tokens)) (append-nil front)) in
+    sym so_far ∙ s
+
+-- no part stands there
+pub no_part_there : {A : Type 0} (e : ReadError) (separator end : ℕ) (read : ℕ → Budgeted A) (step : A → ℕ) (front : List A) (most i next left : ℕ) (tokens : List Token) (total : Option (List A × ℕ × List Token))
+    → i < most → starts (is_mark end) tokens ≡ false → Fails e (read next left tokens) → Still separator end read step front (most - i) next left tokens total → Fails e total
+unfolding parts_at
+no_part_there NoMemory separator end read step front most i next left tokens total below on none so_far = tt
+no_part_there Refused separator end read step front most i next left tokens total below on none so_far =
+    let more : most - i ≡ suc (most - (i + 1)) = omega arith in
+    let s : with_front front (parts_at separator end read step (most - i) next left tokens) ≡ None = rw (more, on, none) refl in
+    sym so_far ∙ s
+
+-- the last part
+pub last_part : {A : Type 0} (separator end : ℕ) (read : ℕ → Budgeted A) (step : A → ℕ) (front : List A) (most i next left : ℕ) (tokens : List Token) (total : Option (List A × ℕ × List Token)) (x : A) (left' : ℕ) (after : List Token)
+    → i < most → starts (is_mark end) tokens ≡ false → read next left tokens ≡ Some (x, left', after) → starts (is_mark end) after ≡ true → Still separator end read step front (most - i) next left tokens total
+    → total ≡ Some (front ++ x ∷ [], left', drop 1 after)
+unfolding parts_at
+last_part separator end read step front most i next left tokens total x left' after below on one ended so_far =
+    let more : most - i ≡ suc (most - (i + 1)) = omega arith in
+    let s : with_front front (parts_at separator end read step (most - i) next left tokens) ≡ Some (front ++ x ∷ [], left', drop 1 after) = rw (more, on, one, ended) refl in
+    sym so_far ∙ s
+
+-- neither an end nor a separator
+pub no_separator : {A : Type 0} (separator end : ℕ) (read : ℕ → Budgeted A) (step : A → ℕ) (front : List A) (most i next left : ℕ) (tokens : List Token) (total : Option (List A × ℕ × List Token)) (x : A) (left' : ℕ) (after : List Token)
+    → i < most → starts (is_mark end) tokens ≡ false → read next left tokens ≡ Some (x, left', after) → starts (is_mark end) after ≡ false → starts (is_mark separator) after ≡ false → Still separator end read step front (most - i) next left tokens total
+    → total ≡ None
+unfolding parts_at
+no_separator separator end read step front most i next left tokens total x left' after below on one other stuck so_far =
+    let more : most - i ≡ suc (most - (i + 1)) = omega arith in
+    let s : with_front front (parts_at separator end read step (most - i) next left tokens) ≡ None = rw (more, on, one, other, stuck) refl in
+    sym so_far ∙ s
+
+-- one more part
+pub part_read : {A : Type 0} (separator end : ℕ) (read : ℕ → Budgeted A) (step : A → ℕ) (front : List A) (most i next left : ℕ) (tokens : List Token) (total : Option (List A × ℕ × List Token)) (x : A) (left' : ℕ) (after : List Token)
+    → i < most → starts (is_mark end) tokens ≡ false → read next left tokens ≡ Some (x, left', after) → starts (is_mark end) after ≡ false → starts (is_mark separator) after ≡ true → Still separator end read step front (most - i) next left tokens total
+    → Still separator end read step (front ++ x ∷ []) (most - (i + 1)) (step x) left' (drop 1 after) total
+unfolding parts_at
+part_read separator end read step front most i next left tokens total x left' after below on one other again so_far =
+    let more : most - i ≡ suc (most - (i + 1)) = omega arith in
+    let s : with_front front (parts_at separator end read step (most - i) next left tokens) ≡ with_front (front ++ x ∷ []) (parts_at separator end read step (most - (i + 1)) (step x) left' (drop 1 after)) =
+    rw (more, on, one, other, again) (regrouped front x (parts_at separator end read step (most - (i + 1)) (step x) left' (drop 1 after))) in
+    sym s ∙ so_far
+
+-- nothing more is looked at
+pub no_fuel : {A : Type 0} (separator end : ℕ) (read : ℕ → Budgeted A) (step : A → ℕ) (front : List A) (most i next left : ℕ) (tokens : List Token) (total : Option (List A × ℕ × List Token))
+    → most ≤ i → Still separator end read step front (most - i) next left tokens total → total ≡ None
+unfolding parts_at
+no_fuel separator end read step front most i next left tokens total past so_far =
+    let zero_is : most - i ≡ 0 = omega arith in
+    let s : with_front front (parts_at separator end read step (most - i) next left tokens) ≡ None = rw zero_is refl in
+    sym so_far ∙ s

@@ -1,0 +1,314 @@
+ghost use Rattle.std.specs.Prelude.{◌≡◌, ◌≤◌, ◌<◌, ◌^◌, IfOk, true, codes, drop};
+ghost use Rattle.cd_tokens.specs.ReadLabel.{name_of as token_name};
+ghost use Rattle.ic_base.specs.Gives.{Gives};
+ghost use Rattle.cd_codec.specs.Content.{plain, func};
+ghost use Rattle.cd_codec.specs.View.{view};
+ghost use Rattle.cd_tokens.specs.ReadNumeral.{is_between};
+ghost use Rattle.cd_tokens.specs.View.{token_views};
+ghost use Rattle.cd_text.specs.ReadPlain.{first_at, word_at, principal_said, behind_word, natural_at, integer_at, text_at, principal_text_at, bool_at, func_at, method_at, primitive_at};
+ghost use Rattle.cd_text.specs.ReadSaid.{alone, string_at};
+
+use crate::tokens::{rest_of, starts_mark, starts_word};
+use cd_codec::Value;
+use cd_tokens::{Token, integer_of, name_of, natural_of, text_of, unescaped_of};
+use cd_types::Prim;
+use ic_base::ReadError;
+use ic_principal::{Principal, Text};
+use std::alloc::Global;
+
+#[tactic(auto, unfolding(crate::specs::ReadPlain::natural_at))]
+fn any_natural<'t, 'a>(tokens: &'t [Token<'a>]) -> Result<(u128, &'t [Token<'a>]), ReadError>
+    ensures { Gives (λ x. (x.0, token_views x.1.now)) result (natural_at (2 ^ 128) (token_views tokens.now)) }
+{
+    match tokens {
+        [] => Err(ReadError::Refused),
+        [first, rest @ ..] => match first {
+            Token::Run(run) => match natural_of(run.bytes) {
+                Some(n) => Ok((n, rest)),
+                None => Err(ReadError::Refused),
+            },
+            Token::Quoted(_) => Err(ReadError::Refused),
+            Token::Mark(_) => Err(ReadError::Refused),
+            Token::Arrow => Err(ReadError::Refused),
+        },
+    }
+}
+
+/// A natural number below the limit.
+#[tactic(auto, using(crate::proofs::Narrow::narrower, crate::proofs::Narrow::too_large, crate::proofs::Narrow::no_number))]
+pub(crate) fn natural_below<'t, 'a>(
+    tokens: &'t [Token<'a>],
+    limit: u128,
+) -> Result<(u128, &'t [Token<'a>]), ReadError>
+    ensures value { Gives (λ x. (x.0, token_views x.1.now)) result (natural_at limit (token_views tokens.now)) }
+    ensures bound { IfOk result (λ x. x.0 < limit) }
+{
+    match any_natural(tokens) {
+        Err(error) => Err(error),
+        Ok((n, rest)) => {
+            if n < limit {
+                Ok((n, rest))
+            } else {
+                Err(ReadError::Refused)
+            }
+        }
+    }
+}
+
+/// An integer from -half to half - 1.
+#[tactic(auto, unfolding(crate::specs::ReadPlain::integer_at), using(crate::proofs::Narrow::inside))]
+fn integer_within<'t, 'a>(
+    tokens: &'t [Token<'a>],
+    half: u128,
+) -> Result<(i128, &'t [Token<'a>]), ReadError>
+    requires { half ≤ 2 ^ 127 }
+    ensures value { Gives (λ x. (x.0, token_views x.1.now)) result (integer_at half (token_views tokens.now)) }
+    ensures bound { IfOk result (λ x. is_between half x.0 ≡ true) }
+{
+    match tokens {
+        [] => Err(ReadError::Refused),
+        [first, rest @ ..] => match first {
+            Token::Run(run) => match integer_of(run.bytes, half) {
+                Some(z) => Ok((z, rest)),
+                None => Err(ReadError::Refused),
+            },
+            Token::Quoted(_) => Err(ReadError::Refused),
+            Token::Mark(_) => Err(ReadError::Refused),
+            Token::Arrow => Err(ReadError::Refused),
+        },
+    }
+}
+
+/// The bytes of a string.
+#[tactic(auto, unfolding(crate::specs::ReadSaid::string_at))]
+pub(crate) fn string_of<'t, 'a>(
+    alloc: Global,
+    tokens: &'t [Token<'a>],
+) -> Result<(Vec<u8>, &'t [Token<'a>]), ReadError>
+    ensures { Gives (λ x. (x.0.items, token_views x.1.now)) result (string_at (token_views tokens.now)) }
+{
+    match tokens {
+        [] => Err(ReadError::Refused),
+        [first, rest @ ..] => match first {
+            Token::Quoted(string) => {
+                let bytes = unescaped_of(alloc, string.bytes)?;
+                Ok((bytes, rest))
+            }
+            Token::Run(_) => Err(ReadError::Refused),
+            Token::Mark(_) => Err(ReadError::Refused),
+            Token::Arrow => Err(ReadError::Refused),
+        },
+    }
+}
+
+#[tactic(auto, unfolding(crate::specs::ReadPlain::text_at))]
+fn text_at<'t, 'a>(
+    alloc: Global,
+    tokens: &'t [Token<'a>],
+) -> Result<(Text, &'t [Token<'a>]), ReadError>
+    ensures { Gives (λ x. (x.0, token_views x.1.now)) result (text_at (token_views tokens.now)) }
+{
+    match tokens {
+        [] => Err(ReadError::Refused),
+        [first, rest @ ..] => match first {
+            Token::Quoted(string) => {
+                let text = text_of(alloc, string.bytes)?;
+                Ok((text, rest))
+            }
+            Token::Run(_) => Err(ReadError::Refused),
+            Token::Mark(_) => Err(ReadError::Refused),
+            Token::Arrow => Err(ReadError::Refused),
+        },
+    }
+}
+
+fn principal_of(alloc: Global, written: &[u8]) -> Result<Principal, ReadError>
+    ensures { Gives (λ p. p) result (principal_said written.now) }
+{
+    let text = text_of(alloc, written)?;
+    match Principal::from_text(text.items.as_str()) {
+        Ok(principal) => Ok(principal),
+        Err(_) => Err(ReadError::Refused),
+    }
+}
+
+// The text of a principal, of the first token.
+#[tactic(auto, unfolding(crate::specs::ReadPlain::principal_text_at))]
+fn principal_at(alloc: Global, tokens: &[Token<'_>]) -> Result<Principal, ReadError>
+    ensures { Gives (λ p. (p, drop 1 (token_views tokens.now))) result (principal_text_at (token_views tokens.now)) }
+{
+    match tokens {
+        [] => Err(ReadError::Refused),
+        [first, ..] => match first {
+            Token::Quoted(string) => principal_of(alloc, string.bytes),
+            Token::Run(_) => Err(ReadError::Refused),
+            Token::Mark(_) => Err(ReadError::Refused),
+            Token::Arrow => Err(ReadError::Refused),
+        },
+    }
+}
+
+/// A word, and the text of a principal.
+pub(crate) fn principal_behind(
+    alloc: Global,
+    word: &[u8],
+    tokens: &[Token<'_>],
+) -> Result<Principal, ReadError>
+    ensures { Gives (λ p. (p, drop 1 (drop 1 (token_views tokens.now)))) result (behind_word word.now principal_text_at (token_views tokens.now)) }
+{
+    if starts_word(tokens, word) {
+        principal_at(alloc, rest_of(tokens))
+    } else {
+        Err(ReadError::Refused)
+    }
+}
+
+fn name_at<'t, 'a>(
+    alloc: Global,
+    tokens: &'t [Token<'a>],
+) -> Result<(Text, &'t [Token<'a>]), ReadError>
+    ensures { Gives (λ x. (x.0, token_views x.1.now)) result (first_at token_name (token_views tokens.now)) }
+{
+    match tokens {
+        [] => Err(ReadError::Refused),
+        [first, rest @ ..] => {
+            let name = name_of(alloc, first)?;
+            Ok((name, rest))
+        }
+    }
+}
+
+fn method_at<'t, 'a>(
+    alloc: Global,
+    tokens: &'t [Token<'a>],
+) -> Result<(Text, &'t [Token<'a>]), ReadError>
+    ensures { Gives (λ x. (x.0, token_views x.1.now)) result (method_at (token_views tokens.now)) }
+{
+    if starts_mark(tokens, b'.') {
+        name_at(alloc, rest_of(tokens))
+    } else {
+        Err(ReadError::Refused)
+    }
+}
+
+/// A method of a service.
+#[tactic(auto, using(cd_codec::proofs::Views::layers), unfolding(crate::specs::ReadPlain::func_at))]
+pub(crate) fn func_of<'t, 'a>(
+    alloc: Global,
+    left: u32,
+    tokens: &'t [Token<'a>],
+) -> Result<(Value, u32, &'t [Token<'a>]), ReadError>
+    ensures { Gives (λ x. (view x.0, x.1, token_views x.2.now)) result (alone (λ f. plain (func f.0 f.1)) func_at left (token_views tokens.now)) }
+{
+    if !starts_word(tokens, b"func") {
+        return Err(ReadError::Refused);
+    }
+    match principal_at(alloc, rest_of(tokens)) {
+        Err(error) => Err(error),
+        Ok(service) => {
+            let (method, rest) = method_at(alloc, rest_of(rest_of(tokens)))?;
+            Ok((Value::Func { service, method }, left, rest))
+        }
+    }
+}
+
+#[tactic(auto, unfolding(crate::specs::ReadPlain::bool_at))]
+fn bool_of<'t, 'a>(tokens: &'t [Token<'a>]) -> Result<(bool, &'t [Token<'a>]), ReadError>
+    ensures { Gives (λ x. (x.0, token_views x.1.now)) result (bool_at (token_views tokens.now)) }
+{
+    if starts_word(tokens, b"true") {
+        Ok((true, rest_of(tokens)))
+    } else if starts_word(tokens, b"false") {
+        Ok((false, rest_of(tokens)))
+    } else {
+        Err(ReadError::Refused)
+    }
+}
+
+fn null_of<'t, 'a>(tokens: &'t [Token<'a>]) -> Result<&'t [Token<'a>], ReadError>
+    ensures { Gives (λ rest. (true, token_views rest.now)) result (word_at (codes "null") true (token_views tokens.now)) }
+{
+    if starts_word(tokens, b"null") {
+        Ok(rest_of(tokens))
+    } else {
+        Err(ReadError::Refused)
+    }
+}
+
+/// A value of a primitive type. `left` is answered as it is.
+#[tactic(auto, using(cd_codec::proofs::Views::layers), unfolding(crate::specs::ReadPlain::primitive_at))]
+pub(crate) fn primitive_of<'t, 'a>(
+    alloc: Global,
+    prim: Prim,
+    left: u32,
+    tokens: &'t [Token<'a>],
+) -> Result<(Value, u32, &'t [Token<'a>]), ReadError>
+    ensures { Gives (λ x. (view x.0, x.1, token_views x.2.now)) result (alone plain (primitive_at prim) left (token_views tokens.now)) }
+{
+    match prim {
+        Prim::Null => {
+            let rest = null_of(tokens)?;
+            Ok((Value::Null, left, rest))
+        }
+        Prim::Reserved => {
+            let rest = null_of(tokens)?;
+            Ok((Value::Reserved, left, rest))
+        }
+        Prim::Bool => {
+            let (b, rest) = bool_of(tokens)?;
+            Ok((Value::Bool(b), left, rest))
+        }
+        Prim::Nat => {
+            let (n, rest) = any_natural(tokens)?;
+            Ok((Value::Nat(n), left, rest))
+        }
+        Prim::Nat8 => {
+            let (n, rest) = natural_below(tokens, 1 << 8)?;
+            Ok((Value::Nat8(n as u8), left, rest))
+        }
+        Prim::Nat16 => {
+            let (n, rest) = natural_below(tokens, 1 << 16)?;
+            Ok((Value::Nat16(n as u16), left, rest))
+        }
+        Prim::Nat32 => {
+            let (n, rest) = natural_below(tokens, 1 << 32)?;
+            Ok((Value::Nat32(n as u32), left, rest))
+        }
+        Prim::Nat64 => {
+            let (n, rest) = natural_below(tokens, 1 << 64)?;
+            Ok((Value::Nat64(n as u64), left, rest))
+        }
+        Prim::Int => {
+            let (z, rest) = integer_within(tokens, 1 << 127)?;
+            Ok((Value::Int(z), left, rest))
+        }
+        Prim::Int8 => {
+            let (z, rest) = integer_within(tokens, 1 << 7)?;
+            Ok((Value::Int8(z as i8), left, rest))
+        }
+        Prim::Int16 => {
+            let (z, rest) = integer_within(tokens, 1 << 15)?;
+            Ok((Value::Int16(z as i16), left, rest))
+        }
+        Prim::Int32 => {
+            let (z, rest) = integer_within(tokens, 1 << 31)?;
+            Ok((Value::Int32(z as i32), left, rest))
+        }
+        Prim::Int64 => {
+            let (z, rest) = integer_within(tokens, 1 << 63)?;
+            Ok((Value::Int64(z as i64), left, rest))
+        }
+        Prim::Text => {
+            let (text, rest) = text_at(alloc, tokens)?;
+            Ok((Value::Text(text), left, rest))
+        }
+        Prim::Principal => match principal_behind(alloc, b"principal", tokens) {
+            Ok(principal) => {
+                let rest = rest_of(rest_of(tokens));
+                Ok((Value::Principal(principal), left, rest))
+            }
+            Err(error) => Err(error),
+        },
+        Prim::Empty => Err(ReadError::Refused),
+    }
+}

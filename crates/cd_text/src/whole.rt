@@ -1,0 +1,146 @@
+ghost use Rattle.std.specs.Prelude.{◌≡◌, ◌==◌, ◌&&◌, List, IfOk, length};
+ghost use Rattle.std.specs.Str.{is_utf8};
+ghost use Rattle.ic_base.specs.Gives.{Gives};
+ghost use Rattle.cd_codec.specs.Answers.{contents};
+ghost use Rattle.cd_codec.specs.Content.{Content};
+ghost use Rattle.cd_codec.specs.View.{view, views};
+ghost use Rattle.cd_tokens.specs.Lexed.{Agrees};
+ghost use Rattle.cd_tokens.specs.View.{token_views};
+ghost use Rattle.cd_text.specs.ReadSaid.{after_field, argument_at, arguments_at, parts_at};
+ghost use Rattle.cd_text.specs.Placed.{placed};
+ghost use Rattle.cd_text.specs.ReadsText.{ReadsText};
+ghost use Rattle.cd_text.specs.Whole.{Said};
+
+use crate::fault::TextFault;
+use crate::reading::annotated_of;
+use crate::tokens::{rest_of, starts_mark};
+use cd_codec::{Expected, Value, Values};
+use cd_tokens::{Token, tokens_of};
+use cd_types::{TyRef, TypeTable};
+use ic_base::ReadError;
+use std::alloc::Global;
+
+/// How deep values may nest, parentheses counted.
+const MAX_NESTING: u32 = 128;
+
+/// How many values a text may say, with those that stand for missing fields.
+const MAX_VALUES: u32 = 1_000_000;
+
+// An argument, at the type of its place.
+fn argument_of<'t, 'a>(
+    alloc: Global,
+    table: &TypeTable,
+    types: &[TyRef],
+    place: usize,
+    left: u32,
+    tokens: &'t [Token<'a>],
+) -> Result<(Value, u32, &'t [Token<'a>]), ReadError>
+    ensures { Gives (λ x. ((place, view x.0), x.1, token_views x.2.now)) result (argument_at table.now types.now place left (token_views tokens.now)) }
+{
+    match types.get(place) {
+        None => Err(ReadError::Refused),
+        Some(ty) => annotated_of(alloc, table, *ty, MAX_NESTING, left, tokens),
+    }
+}
+
+// The arguments behind the opening parenthesis.
+fn arguments_of<'t, 'a>(
+    alloc: Global,
+    table: &TypeTable,
+    types: &[TyRef],
+    most: usize,
+    tokens: &'t [Token<'a>],
+) -> Result<(Vec<Value>, u32, &'t [Token<'a>]), ReadError>
+    ensures { Gives (λ x. (placed 0 (views x.0.items), x.1, token_views x.2.now)) result (parts_at 44 41 (argument_at table.now types.now) after_field most 0 1000000 (token_views tokens.now)) }
+{
+    let mut values = Vec::new(alloc);
+    let mut unread = MAX_VALUES;
+    let mut rest = tokens;
+    for _ in 0..most {
+        if starts_mark(rest, b')') {
+            return Ok((values, unread, rest_of(rest)));
+        }
+        let (value, left, after) = argument_of(alloc, table, types, values.len(), unread, rest)?;
+        values.push(value)?;
+        if starts_mark(after, b')') {
+            return Ok((values, left, rest_of(after)));
+        }
+        if !starts_mark(after, b',') {
+            return Err(ReadError::Refused);
+        }
+        unread = left;
+        rest = rest_of(after);
+    }
+    Err(ReadError::Refused)
+}
+
+// Whether there is a value for each type, and nothing behind them.
+fn is_all(values: usize, types: usize, rest: &[Token<'_>]) -> bool
+    ensures { result ≡ (length rest.now == 0 && values == types) }
+{
+    rest.is_empty() && values == types
+}
+
+fn is_utf8(text: &[u8]) -> bool
+    ensures { result ≡ is_utf8 text.now }
+{
+    match str::from_utf8(text) {
+        Ok(_) => true,
+        Err(_) => false,
+    }
+}
+
+// The values that the tokens of a text say.
+fn values_of(
+    alloc: Global,
+    table: &TypeTable,
+    types: &[TyRef],
+    tokens: &[Token<'_>],
+) -> Result<Vec<Value>, ReadError>
+    ensures { Gives (λ values. views values.items) result (arguments_at table.now types.now (token_views tokens.now)) }
+{
+    if !starts_mark(tokens, b'(') {
+        return Err(ReadError::Refused);
+    }
+    let inner = rest_of(tokens);
+    let (values, _, rest) = arguments_of(alloc, table, types, tokens.len(), inner)?;
+    if is_all(values.len(), types.len(), rest) {
+        Ok(values)
+    } else {
+        Err(ReadError::Refused)
+    }
+}
+
+// The values that a text says.
+fn said_by(
+    alloc: Global,
+    table: &TypeTable,
+    types: &[TyRef],
+    text: &[u8],
+) -> Result<Vec<Value>, ReadError>
+    ensures found { IfOk result (λ values. Said table.now types.now (views values.items) text.now) }
+    ensures only { (values : List Content) → Said table.now types.now values text.now → Agrees (λ vs. views vs.items) result values }
+{
+    let _entries = table.len();
+    if !is_utf8(text) {
+        return Err(ReadError::Refused);
+    }
+    let tokens = tokens_of(alloc, false, text)?;
+    values_of(alloc, table, types, &tokens)
+}
+
+/// The values that a text says at the expected types, one for each (Candid specification, "Core
+/// Grammar"): within nesting 128, with parentheses counted, and 1,000,000 values, with those that
+/// stand for missing fields. Time grows with the text and with what is left out.
+pub fn read(alloc: Global, expected: &Expected, text: &[u8]) -> Result<Values, TextFault>
+    // What is read is said by the text.
+    ensures found { IfOk result (λ values. Said expected.now.0 expected.now.1 (contents values) text.now) }
+    // What the text says is read, unless memory runs out; so with a `NotText` it says no values.
+    ensures only { (values : List Content) → Said expected.now.0 expected.now.1 values text.now → ReadsText result values }
+{
+    match said_by(alloc, expected.table(), expected.types(), text) {
+        Ok(items) => Ok(Values { items }),
+        Err(ReadError::Refused) => Err(TextFault::NotText),
+        Err(ReadError::NoMemory) => Err(TextFault::NoMemory),
+    }
+}
