@@ -1,0 +1,178 @@
+ghost use Rattle.std.specs.Prelude.{◌≡◌, ◌≤◌, [], IfSome};
+ghost use Rattle.ic_state.specs.IsCanister.{IsCanister};
+
+use crate::canisters::{probing, relaying};
+use crate::rows::{Row, probing as probing_rows, relaying as relaying_rows};
+use ic_exec::{Env, Executed, execute, inspect, query};
+use ic_principal::{Bytes, Principal, Text};
+use ic_state::{Canister, Message, Origin, Response};
+use std::alloc::Global;
+use std::process::Abort;
+use std::test::*;
+
+fn no_bytes(alloc: Global) -> Bytes {
+    Bytes {
+        items: Vec::new(alloc),
+    }
+}
+
+/// A user's call is executed.
+fn run(alloc: Global, canister: Canister, method: Text, env: Env) -> Option<Executed>
+    requires keeps { IsCanister canister }
+    requires fresh { canister.contexts ≡ [] }
+    requires limit { env.limit ≤ 1000000000000 }
+{
+    execute(
+        alloc,
+        canister,
+        Message::Call {
+            origin: Origin::Ingress(0),
+            sender: Principal::canister_id(7),
+            callee: Principal::canister_id(0),
+            method,
+            arg: no_bytes(alloc),
+            cycles: 0,
+        },
+        env,
+    )
+    .ok()
+}
+
+fn run_row(alloc: Global, canister: Option<Canister>, row: &Row) -> Option<Executed>
+    requires keeps { IfSome canister IsCanister }
+    requires fresh { IfSome canister (λ c. c.contexts ≡ []) }
+{
+    let method = Text {
+        items: String::from_str(alloc, row.method).ok()?,
+    };
+    let env = Env {
+        time: 7,
+        limit: row.limit.min(1000),
+        price: row.price,
+    };
+    match canister {
+        Some(canister) => run(alloc, canister, method, env),
+        None => None,
+    }
+}
+
+/// The code of a response, or 0 for a reply, and its bytes.
+fn parts(response: &Response) -> (u32, &[u8]) {
+    match response {
+        Response::Reply(arg) => (0, arg.items.as_slice()),
+        Response::Reject { code, message } => (*code, message.items.as_bytes()),
+    }
+}
+
+/// The first four bytes of memory.
+fn word(canister: &Canister) -> [u8; 4] {
+    let mut bytes = [9; 4];
+    canister.store.copy_out(0, &mut bytes);
+    bytes
+}
+
+fn compare(rt: &impl Abort, row: &Row, done: &Option<Executed>) {
+    let Some(done) = done else {
+        panic!(rt; "not executed");
+    };
+    assert_eq!(rt;
+        (done.used, done.canister.balance, done.burned),
+        (row.used, row.balance, 1000 - row.balance.min(1000))
+    );
+    assert_eq!(rt; (done.calls.items.len(), done.answers.items.len()), (0, 1));
+    assert_eq!(rt;
+        parts(&done.answers.items[0].response),
+        (row.code, row.answer)
+    );
+    assert_eq!(rt; done.canister.store.stable_pages(), 0);
+}
+
+#[test]
+fn relay_is_called(rt: HostRuntime) {
+    for row in &relaying_rows() {
+        compare(&rt, row, &run_row(rt.alloc(), relaying(rt.alloc()), row));
+    }
+}
+
+#[test]
+fn traps_leave_no_trace(rt: HostRuntime) {
+    for row in &probing_rows() {
+        let done = run_row(rt.alloc(), probing(rt.alloc(), 11), row);
+        compare(&rt, row, &done);
+        if let Some(done) = &done {
+            assert_eq!(rt; word(&done.canister), [0; 4]);
+        }
+    }
+}
+
+fn env() -> Env
+    ensures { result.limit ≤ 1000 }
+{
+    Env {
+        time: 7,
+        limit: 1000,
+        price: 1,
+    }
+}
+
+/// A query of a method answers so.
+fn compare_query(
+    rt: &impl Abort,
+    alloc: Global,
+    canister: &mut Canister,
+    method: &str,
+    wanted: (u32, &[u8]),
+)
+    requires { IsCanister canister.old }
+    ensures { IsCanister canister.new }
+{
+    let sender = Principal::canister_id(7);
+    match query(alloc, canister, sender, method, no_bytes(alloc), env()) {
+        Ok(response) => assert_eq!(rt; parts(&response), wanted),
+        Err(_) => panic!(rt; "no memory"),
+    }
+    assert_eq!(rt; canister.balance, 1000);
+}
+
+fn is_accepted(alloc: Global, canister: &mut Canister) -> Option<bool>
+    requires { IsCanister canister.old }
+{
+    let sender = Principal::canister_id(7);
+    inspect(alloc, canister, sender, "divide", no_bytes(alloc), env()).ok()
+}
+
+#[test]
+fn queries(rt: HostRuntime) {
+    match probing(rt.alloc(), 11) {
+        Some(mut canister) => {
+            compare_query(
+                &rt,
+                rt.alloc(),
+                &mut canister,
+                "get",
+                (0, b"\x00\x00\x00\x00"),
+            );
+            compare_query(
+                &rt,
+                rt.alloc(),
+                &mut canister,
+                "divide",
+                (5, b"canister has no such method"),
+            );
+        }
+        None => panic!(rt; "no canister"),
+    }
+}
+
+#[test]
+fn inspections(rt: HostRuntime) {
+    for (function, accepted) in [(11, true), (13, false)] {
+        match probing(rt.alloc(), function) {
+            Some(mut canister) => assert_eq!(rt;
+                is_accepted(rt.alloc(), &mut canister),
+                Some(accepted)
+            ),
+            None => panic!(rt; "no canister"),
+        }
+    }
+}
