@@ -1,4 +1,5 @@
 ghost use Rattle.std.specs.Prelude.{◌≡◌, ◌<◌, ◌≤◌, ◌+◌, ◌-◌, ◌^◌, ◌⊎◌, ◌≢◌, ℕ, List, [], Option, None, Some, Err, IsTrue, false, Contains, length, take, vec_len, IfSome, IfOk, IfErr, OnOk, OnErr, MatchOption, MatchResult};
+ghost use Rattle.std.specs.Bool.{OnTrue, OnFalse};
 ghost use Rattle.std.specs.Io.KnownBytes.{prepend_known, IsAtEnd};
 ghost use Rattle.ic_outside.specs.Faults.{Rose};
 ghost use Rattle.ic_outside.specs.Limits.{excess};
@@ -115,6 +116,17 @@ impl Lines {
                     Err(fault)
                 }
             },
+        }
+    }
+
+    /// Whether a whole line is kept, so that `next` reads nothing.
+    pub fn has_line(&self) -> bool
+        ensures yes { OnTrue result (¬ HasNoLf self.now.kept) }
+        ensures no { OnFalse result (HasNoLf self.now.kept) }
+    {
+        match self.whole_line() {
+            Some(_) => true,
+            None => false,
         }
     }
 
