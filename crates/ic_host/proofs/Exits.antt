@@ -17,7 +17,7 @@ use Rattle.ic_host.specs.Options.{options_of}
 use Rattle.ic_host.specs.Out.{Output, out, out_of, output_of, ended_output}
 use Rattle.ic_host.specs.Script.{script, script_of, walk_of, lines_until}
 use Rattle.ic_host.specs.Sending.{Taken, Sent, Interrupts}
-use Rattle.ic_host.specs.State.{State}
+use Rattle.ic_behaviour.specs.State.{State}
 use Rattle.ic_host.specs.Walk.{Bad, Walk, start, behind, walk}
 use Rattle.ic_host.proofs.WalkLaws.{stopped, walk-line}
 

@@ -10,7 +10,7 @@ use Rattle.ic_script.specs.declared.LineCause.{LineCause}
 use Rattle.ic_host.specs.declared.options.Options.{Options}
 use Rattle.ic_host.specs.AfterLine.{after_line}
 use Rattle.ic_host.specs.Body.{whole_lines}
-use Rattle.ic_host.specs.State.{State}
+use Rattle.ic_behaviour.specs.State.{State}
 use Rattle.ic_host.specs.Walk.{Place, start, behind_line, behind, walk}
 use Rattle.ic_host.proofs.BodyLaws.{whole_lines-line}
 use Rattle.ic_host.proofs.WalkLaws.{stopped, walk-good, walk-bad, behind-behind}

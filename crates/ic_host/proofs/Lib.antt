@@ -10,3 +10,8 @@ mod Streams
 mod ExpectedTypes
 mod Refused
 mod DecodePrints
+mod Keeps
+mod Traces
+mod Promises
+mod Asking
+mod Gathering

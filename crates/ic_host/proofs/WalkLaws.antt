@@ -5,7 +5,7 @@ use Rattle.ic_outside.specs.Pieces.{line_of}
 use Rattle.ic_script.specs.declared.LineCause.{LineCause}
 use Rattle.ic_script.specs.declared.LineCause.TheVariants.{LineTooLong, ScriptTooLong}
 use Rattle.ic_host.specs.AfterLine.{after_line}
-use Rattle.ic_host.specs.State.{State}
+use Rattle.ic_behaviour.specs.State.{State}
 use Rattle.ic_host.specs.Walk.{Place, Bad, Walk, judge, judge_line, behind_line, behind, onward, walk}
 
 -- a way that ends where it begins

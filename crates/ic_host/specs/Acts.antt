@@ -1,5 +1,5 @@
 -- What the steps of the top call answer.
-use Rattle.std.specs.Prelude.{◌≡◌, ◌⊎◌, ℕ, List, Result, Ok, Err}
+use Rattle.std.specs.Prelude.{◌≡◌, ◌⊎◌, ℕ, List, ◌++◌, Result, Ok, Err}
 use Rattle.ic_outside.specs.declared.LineFault.{LineFault}
 use Rattle.ic_outside.specs.declared.LineFault.TheVariants as fault
 use Rattle.ic_script.specs.declared.LineCause.{LineCause}
@@ -7,14 +7,14 @@ use Rattle.ic_script.specs.declared.LineCause.TheVariants as cause
 use Rattle.ic_script.specs.declared.LineError.{LineError}
 use Rattle.ic_script.specs.declared.LineError.TheVariants as error
 use Rattle.ic_host.specs.declared.status.Status.{Status}
-use Rattle.ic_host.specs.declared.status.Status.TheVariants.{Done, BadWords, BadLine, ReadFault, NoMemory}
-use Rattle.ic_host.specs.declared.requests.NotDone.{NotDone}
-use Rattle.ic_host.specs.declared.requests.NotDone.TheVariants as undone
+use Rattle.ic_host.specs.declared.status.Status.TheVariants.{Done, BadWords, BadLine, ReadFault}
+use Rattle.ic_host.specs.declared.doing.NotDone.{NotDone}
+use Rattle.ic_host.specs.declared.doing.NotDone.TheVariants as undone
 use Rattle.ic_host.specs.declared.options.Options.{Options}
 use Rattle.ic_host.specs.EndPart.{end_part}
 use Rattle.ic_host.specs.Out.{Output}
 use Rattle.ic_host.specs.Sending.{Taken, Sent, Interrupts}
-use Rattle.ic_host.specs.State.{State}
+use Rattle.ic_behaviour.specs.State.{State}
 use Rattle.ic_host.specs.Texts.{usage_text, bad_text}
 
 -- a step gives what was said, unless memory was wanting
@@ -40,24 +40,31 @@ abbrev pub Concludes : Taken → Taken → Output → Status → Type 0
 Concludes old new output status =
     ((status ≡ output.status) × Sent old new output.bytes) ⊎ Interrupts old new output.bytes status
 
--- a line was done and what it prints was sent, or the status says why the run ends here
-abbrev pub Turns : Taken → Taken → ℕ → Result (State × List ℕ) LineCause → Result State Status → Type 0
-Turns old new number said (Ok state) = (text : List ℕ) × (said ≡ Ok (state, text)) × Sent old new text
-Turns old new number said (Err status) =
-    ((done : State × List ℕ) × (said ≡ Ok done) × Interrupts old new done.1 status)
-    ⊎ ((cause : LineCause) × (said ≡ Err cause) × Concludes old new (bad_output number cause) status)
-    ⊎ ((status ≡ NoMemory) × (new ≡ old))
+-- an output behind what was gathered
+abbrev pub behind_gathered : List ℕ → Output → Output
+behind_gathered gathered output = record output { bytes = gathered ++ output.bytes }
+
+-- a line was done and what it prints was gathered, or the status says why the run ends here
+abbrev pub Turns : Taken → Taken → (gathered left : List ℕ) → ℕ → Result (State × List ℕ) LineCause → Result State Status → Type 0
+Turns old new gathered left number said (Ok state) =
+    (text : List ℕ) × (sent : List ℕ) × (said ≡ Ok (state, text)) × Sent old new sent × (gathered ++ text ≡ sent ++ left)
+Turns old new gathered left number said (Err status) =
+    ((done : State × List ℕ) × (said ≡ Ok done) × Interrupts old new (gathered ++ done.1) status)
+    ⊎ ((cause : LineCause) × (said ≡ Err cause) × Concludes old new (behind_gathered gathered (bad_output number cause)) status)
+    ⊎ Interrupts old new gathered status
 
 -- what came of a fault of the reader of lines
-abbrev pub Stops : Taken → Taken → LineFault → Status → Type 0
-Stops old new (fault.LineTooLong line) status = Concludes old new (bad_output line cause.LineTooLong) status
-Stops old new (fault.ScriptTooLong line) status = Concludes old new (bad_output line cause.ScriptTooLong) status
-Stops old new fault.ReadFault status = (status ≡ ReadFault) × (new ≡ old)
-Stops old new fault.NoMemory status = (status ≡ NoMemory) × (new ≡ old)
+abbrev pub Stops : Taken → Taken → (gathered : List ℕ) → LineFault → Status → Type 0
+Stops old new gathered (fault.LineTooLong line) status = Concludes old new (behind_gathered gathered (bad_output line cause.LineTooLong)) status
+Stops old new gathered (fault.ScriptTooLong line) status = Concludes old new (behind_gathered gathered (bad_output line cause.ScriptTooLong)) status
+Stops old new gathered fault.ReadFault status = (status ≡ ReadFault) × (new ≡ old)
+Stops old new gathered fault.NoMemory status = Interrupts old new gathered status
 
 -- what the reader's error means here
 abbrev pub not_done : LineError → NotDone
 not_done error.Form = undone.Bad cause.Form
 not_done error.Principal = undone.Bad cause.Principal
 not_done error.Hex = undone.Bad cause.Hex
+not_done error.Number = undone.Bad cause.Number
+not_done error.Size = undone.Bad cause.Size
 not_done error.NoMemory = undone.NoMemory

@@ -5,7 +5,7 @@ use Rattle.ic_script.specs.declared.Command.{Command}
 use Rattle.ic_script.specs.declared.LineCause.{LineCause}
 use Rattle.ic_host.specs.declared.options.Options.{Options}
 use Rattle.ic_host.specs.AfterCommand.{after_command}
-use Rattle.ic_host.specs.State.{State}
+use Rattle.ic_behaviour.specs.State.{State}
 
 -- what the command that a line spells does, or the cause for which it spells none
 abbrev pub after_spelled : Options → State → Result Command LineCause → Result (State × List ℕ) LineCause

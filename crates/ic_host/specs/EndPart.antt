@@ -1,16 +1,20 @@
 -- What is printed at the end of a script.
 use Rattle.std.specs.Prelude.{ℕ, ◌+◌, ◌++◌, List, [], ◌∷◌}
-use Rattle.ic_principal.specs.Text.{text_of}
-use Rattle.ic_script.specs.declared.Ask.{Ask}
+use Rattle.ic_behaviour.specs.declared.request.Request.{Request}
+use Rattle.ic_behaviour.specs.State.{State}
 use Rattle.ic_host.specs.declared.options.Options.{Options}
-use Rattle.ic_host.specs.State.{State}
-use Rattle.ic_host.specs.Texts.{no_canister_text}
+use Rattle.ic_host.specs.AfterCommand.{after_rounds}
+use Rattle.ic_host.specs.Texts.{answer_text}
 
--- the answers to requests, the first of which has this number: no principal is a canister
-unfoldable pub answers_from : ℕ → List Ask → List ℕ
+-- the answers to requests, the first of which has this number
+unfoldable pub answers_from : ℕ → List Request → List ℕ
 answers_from number [] = []
-answers_from number (ask ∷ asks) = no_canister_text number (text_of ask.callee) ++ answers_from (number + 1) asks
+answers_from number (request ∷ requests) = answer_text number request.answer ++ answers_from (number + 1) requests
 
--- the answer to each call, in order
+-- the state after the rounds that are made at the end
+abbrev pub end_state : Options → State → State
+end_state options state = after_rounds options options.rounds state
+
+-- rounds are made, and then each call's answer is printed, in order
 abbrev pub end_part : Options → State → List ℕ
-end_part options state = answers_from 0 state
+end_part options state = answers_from 0 (end_state options state).requests

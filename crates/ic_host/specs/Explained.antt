@@ -11,7 +11,7 @@ use Rattle.ic_host.specs.Options.{options_of}
 use Rattle.ic_host.specs.Out.{Output, out}
 use Rattle.ic_host.specs.Script.{script, walk_of}
 use Rattle.ic_host.specs.Sending.{Taken}
-use Rattle.ic_host.specs.State.{State}
+use Rattle.ic_behaviour.specs.State.{State}
 use Rattle.ic_host.specs.Walk.{Bad}
 
 -- how many bytes show the bad line at which a way stops

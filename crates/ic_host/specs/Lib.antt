@@ -1,4 +1,3 @@
-pub mod State
 pub mod Status
 pub mod Options
 pub mod Texts
@@ -10,6 +9,8 @@ pub mod Script
 pub mod Body
 pub mod EndPart
 pub mod Out
+pub mod Trace
+pub mod Headline
 pub mod Sending
 pub mod Explained
 pub mod Acts

@@ -6,7 +6,7 @@ use Rattle.ic_host.specs.declared.status.Status.TheVariants.{Done, BadWords, Bad
 use Rattle.ic_host.specs.EndPart.{end_part}
 use Rattle.ic_host.specs.Options.{options_of}
 use Rattle.ic_host.specs.Script.{walk_of}
-use Rattle.ic_host.specs.State.{State}
+use Rattle.ic_behaviour.specs.State.{State}
 use Rattle.ic_host.specs.Texts.{usage_text, bad_text}
 use Rattle.ic_host.specs.Walk.{Bad, Walk}
 

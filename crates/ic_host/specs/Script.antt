@@ -5,7 +5,7 @@ use Rattle.ic_outside.specs.Limits.{script_limits}
 use Rattle.ic_outside.specs.Pieces.{pieces, line_of}
 use Rattle.ic_host.specs.declared.options.Options.{Options}
 use Rattle.ic_host.specs.Options.{options_of}
-use Rattle.ic_host.specs.State.{State}
+use Rattle.ic_behaviour.specs.State.{State}
 use Rattle.ic_host.specs.Walk.{Bad, Walk, start, walk}
 
 -- how many of so many lines there are up to the first bad one

@@ -1,5 +1,5 @@
 -- What a call did to a sink.
-use Rattle.std.specs.Prelude.{◌≡◌, ℕ, ◌≤◌, ◌⊎◌, List, length, Option, Result, Ok, Err, IfSome}
+use Rattle.std.specs.Prelude.{◌≡◌, ℕ, ◌≤◌, ◌⊎◌, List, ◌++◌, length, Option, Result, Ok, Err, IfSome}
 use Rattle.std.specs.Io.KnownBytes.{append_known}
 use Rattle.ic_outside.specs.Faults.{Rose}
 use Rattle.ic_outside.specs.Given.{IsFront, TookFront}
@@ -45,3 +45,9 @@ pub record Interrupts (old new : Taken) (text : List ℕ) (status : Status) : Ty
 abbrev pub Prints : {T : Type 0} → Taken → Taken → List ℕ → Result T Status → Type 0
 Prints old new text (Ok done) = Sent old new text
 Prints old new text (Err status) = Interrupts old new text status
+
+-- Of what was gathered and a text behind it a front was sent, and the rest is gathered now; or a status says why not all
+-- of it was sent.
+abbrev pub Gathers : {T : Type 0} → Taken → Taken → (gathered text left : List ℕ) → Result T Status → Type 0
+Gathers old new gathered text left (Ok done) = (sent : List ℕ) × Sent old new sent × (gathered ++ text ≡ sent ++ left)
+Gathers old new gathered text left (Err status) = Interrupts old new (gathered ++ text) status

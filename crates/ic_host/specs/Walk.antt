@@ -6,7 +6,8 @@ use Rattle.ic_script.specs.declared.LineCause.{LineCause}
 use Rattle.ic_script.specs.declared.LineCause.TheVariants.{LineTooLong, ScriptTooLong}
 use Rattle.ic_host.specs.declared.options.Options.{Options}
 use Rattle.ic_host.specs.AfterLine.{after_line}
-use Rattle.ic_host.specs.State.{State}
+use Rattle.ic_behaviour.specs.State.{State}
+use Rattle.ic_behaviour.specs.Submitted.{empty}
 
 -- where a way stands: before the line of this number, with so many bytes of the script behind it
 pub record Place : Type 0 where
@@ -17,7 +18,7 @@ pub record Place : Type 0 where
 
 -- the place before the first line
 abbrev pub start : Options → Place
-start options = record { options = options; state = []; number = 1; offset = 0 }
+start options = record { options = options; state = empty; number = 1; offset = 0 }
 
 -- the place behind a line whose piece of the script has so many bytes
 abbrev pub behind_line : Place → ℕ → State → Place

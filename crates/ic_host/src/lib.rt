@@ -2,16 +2,18 @@
 //!
 //! `replica` reads a script line by line, does what each line asks for, and prints. Unless memory or
 //! a stream fails, what it prints and answers is a function of the words and the script,
-//! `specs/Out.antt`, whatever pieces its source gives and its sink takes. Calls and their answers are those of the IC Interface
-//! Specification, "Abstract behavior"; as long as no canister can be made, each call is rejected
-//! with code 3, destination invalid ("Reject codes").
+//! `specs/Out.antt`, whatever pieces its source gives and its sink takes. The lines change a state as
+//! the IC Interface Specification says ("Abstract behavior"), and what happens to it is a run
+//! (`specs/Trace.antt`), of which the contract of `replica` says what holds in all of it
+//! (`specs/Headline.antt`).
 #![tactic(auto)]
 
 mod decoding;
+mod doing;
+mod gathered;
 pub mod laws;
 mod options;
 mod printing;
-mod requests;
 mod status;
 mod texts;
 mod top;

@@ -1,10 +1,12 @@
-ghost use Rattle.std.specs.Prelude.{◌≡◌, IfOk, codes};
-ghost use Rattle.ic_principal.specs.Text.{text_of};
-ghost use Rattle.ic_host.specs.Texts.{accepted_text, no_canister_text, bad_text};
+ghost use Rattle.std.specs.Prelude.{◌≡◌, IfOk, codes, string_bytes};
+ghost use Rattle.json.specs.Print.{quoted};
+ghost use Rattle.ic_host.specs.Texts.{accepted_text, query_text, answer_text, ran_text, response_text, hex_word, bad_text};
 
 use ic_base::NoMemory;
-use ic_principal::{Bytes, Principal};
+use ic_principal::Bytes;
 use ic_script::LineCause;
+use ic_state::Response;
+use serde_json::Value;
 use std::alloc::Global;
 
 /// For refused words.
@@ -25,19 +27,81 @@ pub fn accepted_text(alloc: Global, number: usize) -> Result<Bytes, NoMemory>
     })
 }
 
-/// For a call to a principal that is no canister, by the call's number from 0.
-#[tactic(auto, unfolding(crate::specs::Texts::no_canister_text))]
-pub fn no_canister_text(alloc: Global, number: usize, callee: &Principal) -> Result<Bytes, NoMemory>
-    ensures { IfOk result (λ text. text ≡ no_canister_text number (text_of callee.now)) }
+/// For a query.
+#[tactic(auto, unfolding(crate::specs::Texts::query_text))]
+pub fn query_text(alloc: Global, response: &Response) -> Result<Bytes, NoMemory>
+    ensures { IfOk result (λ text. text ≡ query_text response.now) }
+{
+    let response = response_text(alloc, response)?;
+    Ok(Bytes {
+        items: format!(in alloc; "query {response}\n")?.into_bytes(),
+    })
+}
+
+/// For the call with that number from 0, at the end of the script.
+#[tactic(auto, unfolding(crate::specs::Texts::answer_text))]
+pub fn answer_text(
+    alloc: Global,
+    number: usize,
+    answer: &Option<Response>,
+) -> Result<Bytes, NoMemory>
+    ensures { IfOk result (λ text. text ≡ answer_text number answer.now) }
 {
     let mut text = String::with_capacity(alloc, ROOM)?;
-    write!(
-        text,
-        "answer {number} rejected 3 \"no canister {callee}\"\n"
-    )?;
+    match answer {
+        None => write!(text, "answer {number} waiting\n")?,
+        Some(response) => {
+            let response = response_text(alloc, response)?;
+            write!(text, "answer {number} {response}\n")?;
+        }
+    }
     Ok(Bytes {
         items: text.into_bytes(),
     })
+}
+
+/// For rounds that were made, with the number of messages that are left.
+#[tactic(auto, unfolding(crate::specs::Texts::ran_text))]
+pub fn ran_text(alloc: Global, made: u32, left: usize) -> Result<Bytes, NoMemory>
+    ensures { IfOk result (λ text. text ≡ ran_text made left) }
+{
+    Ok(Bytes {
+        items: format!(in alloc; "ran {made} left {left}\n")?.into_bytes(),
+    })
+}
+
+// What a response tells.
+#[tactic(auto, unfolding(crate::specs::Texts::response_text))]
+fn response_text(alloc: Global, response: &Response) -> Result<String, NoMemory>
+    ensures { IfOk result (λ text. string_bytes text ≡ response_text response.now) }
+{
+    match response {
+        Response::Reply(bytes) => {
+            let digits = hex_word(alloc, &bytes.items)?;
+            format!(in alloc; "replied {digits}")
+        }
+        Response::Reject { code, message } => {
+            let message = quoted(alloc, &message.items)?;
+            format!(in alloc; "rejected {code} {message}")
+        }
+    }
+}
+
+// Bytes in hexadecimal digits, and a dash where there is none.
+fn hex_word(alloc: Global, bytes: &[u8]) -> Result<String, NoMemory>
+    ensures { IfOk result (λ text. string_bytes text ≡ hex_word bytes.now) }
+{
+    match bytes {
+        [] => String::from_str(alloc, "-"),
+        [_, ..] => hex::encode(alloc, bytes),
+    }
+}
+
+// A text as a string of JSON.
+fn quoted(alloc: Global, text: &str) -> Result<String, NoMemory>
+    ensures { IfOk result (λ made. string_bytes made ≡ quoted text.now) }
+{
+    Value::String(String::from_str(alloc, text)?).to_string(alloc)
 }
 
 /// For a bad line, by its number from 1.

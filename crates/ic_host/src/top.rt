@@ -1,19 +1,26 @@
-ghost use Rattle.std.specs.Prelude.{◌≡◌, ◌≢◌, ◌≤◌, ℕ, List, Some, IsTrue, IfSome, map, length, string_bytes};
+ghost use Rattle.std.specs.Prelude.{◌≡◌, ◌≢◌, ◌≤◌, ◌++◌, ℕ, List, Some, IsTrue, IfSome, map, length, string_bytes};
 ghost use Rattle.ic_outside.specs.Faults.{Rose};
-ghost use Rattle.ic_host.specs.Acts.{Concludes, Turns, Stops, usage_output, bad_output, end_output};
+ghost use Rattle.ic_host.specs.Acts.{Concludes, Turns, Stops, usage_output, bad_output, end_output, behind_gathered};
 ghost use Rattle.ic_host.specs.AfterLine.{after_line};
-ghost use Rattle.ic_host.specs.Options.{options_of};
+ghost use Rattle.ic_behaviour.specs.declared.request.Request.{Request as SomeRequest};
+ghost use Rattle.ic_runs.specs.Runs.{IsRun, EachState, EachDelivery};
+ghost use Rattle.ic_host.specs.EndPart.{answers_from};
+ghost use Rattle.ic_host.specs.Headline.{PlacedOnce, Conserves, TrapsLeave};
+ghost use Rattle.ic_host.specs.Options.{options_of, IsWithin};
 ghost use Rattle.ic_host.specs.Explained.{Explained, GivesOutput};
 ghost use Rattle.ic_host.specs.Out.{out};
 ghost use Rattle.ic_host.specs.Sending.{sink_at};
+ghost use Rattle.ic_host.specs.Trace.{rules, trace};
 
+use crate::doing::{NotDone, do_line, run_rounds_by};
+use crate::gathered::Gathered;
 use crate::options::Options;
-use crate::printing::{print, print_bytes};
-use crate::requests::{NotDone, Requests};
+use crate::printing::print_bytes;
 use crate::status::Status;
-use crate::texts::{USAGE, bad_text, no_canister_text};
+use crate::texts::{USAGE, answer_text, bad_text};
 use ic_outside::{Gate, Line, LineFault, Lines, Sink, Source};
 use ic_script::LineCause;
+use ic_state::{Request, World};
 use std::alloc::Global;
 use std::thread::Threads;
 
@@ -23,20 +30,33 @@ const LARGEST_LINE: usize = 8_388_608;
 const LARGEST_SCRIPT: u64 = 268_435_456;
 
 /// Runs the script that the source gives, as the words ask, and prints to the sink. The words begin
-/// with the program's name. No worker is started and no gate passed as long as there is no canister.
+/// with the program's name. The gate is passed as soon as rounds have several workers.
 pub fn replica<R: Threads + Sync, S: Source, K: Sink, G: Gate + Sync>(
     alloc: Global,
     _rt: &R,
     words: &[String],
     source: &mut S,
     sink: &mut K,
-    _gate: &G,
+    gate: &G,
 ) -> Status
     // Where no stream failed, the answer is that of the definition.
     ensures headline { (Rose (S.faults source.old) (S.faults source.new) → ⊥)
         → (Rose (K.faults sink.old) (K.faults sink.new) → ⊥)
         → IfSome (S.left source.old) (λ script.
         GivesOutput (out (map string_bytes words.now) script) (K.taken sink.old) (K.taken sink.new) result) }
+
+    // What happens is a run: each message is delivered after those of its sender to its callee.
+    ensures run { (script : List ℕ) → IsRun (rules (map string_bytes words.now)) (trace (map string_bytes words.now) script) }
+
+    // A message that traps leaves its canister as it was, and makes no call.
+    ensures trapped { (script : List ℕ)
+        → EachDelivery (TrapsLeave (rules (map string_bytes words.now))) (rules (map string_bytes words.now)) (trace (map string_bytes words.now) script) }
+
+    // No call is answered twice: it never has two places.
+    ensures placed_once { (script : List ℕ) → EachState PlacedOnce (rules (map string_bytes words.now)) (trace (map string_bytes words.now) script) }
+
+    // The cycles that are there and those that were burned are the created ones.
+    ensures cycles { (script : List ℕ) → EachState Conserves (rules (map string_bytes words.now)) (trace (map string_bytes words.now) script) }
 
     // What each status says of the bytes that were read and of those that were sent.
     ensures explained { Explained (map string_bytes words.now) (S.left source.old) (S.left source.new)
@@ -61,10 +81,16 @@ pub fn replica<R: Threads + Sync, S: Source, K: Sink, G: Gate + Sync>(
         × (S.faults source.new ≡ S.faults source.old)
         × (K.faults sink.new ≡ K.faults sink.old))) }
 {
-    run(alloc, words, source, sink)
+    run(alloc, words, source, sink, gate)
 }
 
-fn run<S: Source, K: Sink>(alloc: Global, words: &[String], source: &mut S, sink: &mut K) -> Status
+fn run<S: Source, K: Sink, G: Gate + Sync>(
+    alloc: Global,
+    words: &[String],
+    source: &mut S,
+    sink: &mut K,
+    gate: &G,
+) -> Status
     ensures explained { Explained (map string_bytes words.now) (S.left source.old) (S.left source.new)
         (sink_at K.taken K.fits K.faults sink.old) (sink_at K.taken K.fits K.faults sink.new) result }
     ensures read { result ≡ Status.ReadFault → Rose (S.faults source.old) (S.faults source.new) }
@@ -76,7 +102,7 @@ fn run<S: Source, K: Sink>(alloc: Global, words: &[String], source: &mut S, sink
     ensures later { S.faults source.old ≤ S.faults source.new }
 {
     match Options::read(words) {
-        Some(options) => run_script(alloc, &options, source, sink),
+        Some(options) => run_script(alloc, &options, source, sink, gate),
         None => refuse(sink),
     }
 }
@@ -92,12 +118,14 @@ fn refuse<K: Sink>(sink: &mut K) -> Status
     }
 }
 
-fn run_script<S: Source, K: Sink>(
+fn run_script<S: Source, K: Sink, G: Gate + Sync>(
     alloc: Global,
     options: &Options,
     source: &mut S,
     sink: &mut K,
+    gate: &G,
 ) -> Status
+    requires { IsWithin options.now }
     ensures explained { (words : List (List ℕ)) → options_of words ≡ Some options.now
         → Explained words (S.left source.old) (S.left source.new)
         (sink_at K.taken K.fits K.faults sink.old) (sink_at K.taken K.fits K.faults sink.new) result }
@@ -109,75 +137,125 @@ fn run_script<S: Source, K: Sink>(
         → S.cannot_fail source.new × (S.faults source.new ≡ S.faults source.old) × (result ≢ Status.ReadFault) }
     ensures later { S.faults source.old ≤ S.faults source.new }
 {
+    let Ok(mut gathered) = Gathered::new(alloc) else {
+        return Status::NoMemory;
+    };
     let mut lines = Lines::new(alloc, LARGEST_LINE, LARGEST_SCRIPT);
-    let mut requests = Requests::new(alloc);
+    let mut world = World::new(alloc);
     loop {
+        if let Err(status) = gathered.before_reading(&lines, sink) {
+            return status;
+        }
         match lines.next(source) {
-            Ok(Some(line)) => match turn(alloc, options, requests, &line, sink) {
-                Ok(next) => requests = next,
-                Err(status) => return status,
-            },
-            Ok(None) => return finish(alloc, options, &requests, sink),
-            Err(fault) => return stop(alloc, fault, sink),
+            Ok(Some(line)) => {
+                match turn(alloc, options, world, &line, &mut gathered, sink, gate) {
+                    Ok(next) => world = next,
+                    Err(status) => return status,
+                }
+            }
+            Ok(None) => return finish(alloc, options, world, &mut gathered, sink, gate),
+            Err(fault) => return stop(alloc, fault, &mut gathered, sink),
         }
     }
 }
 
-// Does a line and prints what it prints, or reports that it is bad.
-fn turn<K: Sink>(
+// Does a line and gathers what it prints, or reports that it is bad.
+fn turn<K: Sink, G: Gate + Sync>(
     alloc: Global,
     options: &Options,
-    requests: Requests,
+    world: World,
     line: &Line,
+    gathered: &mut Gathered,
     sink: &mut K,
-) -> Result<Requests, Status>
+    gate: &G,
+) -> Result<World, Status>
+    requires { IsWithin options.now }
     ensures turns { Turns (sink_at K.taken K.fits K.faults sink.old) (sink_at K.taken K.fits K.faults sink.new)
-        line.now.number (after_line options.now requests line.now.bytes) result }
+        gathered.old gathered.new line.now.number (after_line options.now world line.now.bytes) result }
 {
-    match requests.do_line(alloc, options, &line.bytes.items) {
-        Ok((next, text)) => match print(sink, Ok(text)) {
+    match do_line(alloc, options, world, &line.bytes.items, gate) {
+        Ok((next, text)) => match gathered.put(sink, &text.items) {
             Ok(()) => Ok(next),
             Err(status) => Err(status),
         },
-        Err(NotDone::Bad(cause)) => Err(report(alloc, line.number, cause, sink)),
-        Err(NotDone::NoMemory) => Err(Status::NoMemory),
+        Err(NotDone::Bad(cause)) => Err(report(alloc, line.number, cause, gathered, sink)),
+        Err(NotDone::NoMemory) => Err(gathered.give_up(sink)),
     }
 }
 
 // Reports a bad line.
-fn report<K: Sink>(alloc: Global, line: u64, cause: LineCause, sink: &mut K) -> Status
-    ensures reported { Concludes (sink_at K.taken K.fits K.faults sink.old)
-        (sink_at K.taken K.fits K.faults sink.new) (bad_output line cause) result }
+fn report<K: Sink>(
+    alloc: Global,
+    line: u64,
+    cause: LineCause,
+    gathered: &mut Gathered,
+    sink: &mut K,
+) -> Status
+    ensures reported { Concludes (sink_at K.taken K.fits K.faults sink.old) (sink_at K.taken K.fits K.faults sink.new)
+        (behind_gathered gathered.old (bad_output line cause)) result }
 {
-    match print(sink, bad_text(alloc, line, cause)) {
-        Ok(()) => Status::BadLine { line, cause },
-        Err(status) => status,
+    match bad_text(alloc, line, cause) {
+        Ok(text) => gathered.conclude(sink, &text.items, Status::BadLine { line, cause }),
+        Err(_) => gathered.give_up(sink),
     }
 }
 
 // Reports why there is no next line.
-fn stop<K: Sink>(alloc: Global, fault: LineFault, sink: &mut K) -> Status
-    ensures stops { Stops (sink_at K.taken K.fits K.faults sink.old)
-        (sink_at K.taken K.fits K.faults sink.new) fault result }
+fn stop<K: Sink>(alloc: Global, fault: LineFault, gathered: &mut Gathered, sink: &mut K) -> Status
+    ensures stops { Stops (sink_at K.taken K.fits K.faults sink.old) (sink_at K.taken K.fits K.faults sink.new)
+        gathered.old fault result }
 {
     match fault {
-        LineFault::LineTooLong { line } => report(alloc, line, LineCause::LineTooLong, sink),
-        LineFault::ScriptTooLong { line } => report(alloc, line, LineCause::ScriptTooLong, sink),
+        LineFault::LineTooLong { line } => {
+            report(alloc, line, LineCause::LineTooLong, gathered, sink)
+        }
+        LineFault::ScriptTooLong { line } => {
+            report(alloc, line, LineCause::ScriptTooLong, gathered, sink)
+        }
+        // Nothing is gathered where the source was read.
         LineFault::ReadFault => Status::ReadFault,
-        LineFault::NoMemory => Status::NoMemory,
+        LineFault::NoMemory => gathered.give_up(sink),
     }
 }
 
-// Prints the answer to each call.
-fn finish<K: Sink>(alloc: Global, _options: &Options, requests: &Requests, sink: &mut K) -> Status
+// Makes the rounds at the end of the script, and prints the answer to each call.
+fn finish<K: Sink, G: Gate + Sync>(
+    alloc: Global,
+    options: &Options,
+    world: World,
+    gathered: &mut Gathered,
+    sink: &mut K,
+    gate: &G,
+) -> Status
+    requires { IsWithin options.now }
     ensures finished { Concludes (sink_at K.taken K.fits K.faults sink.old) (sink_at K.taken K.fits K.faults sink.new)
-        (end_output _options.now requests.now) result }
+        (behind_gathered gathered.old (end_output options.now world)) result }
 {
-    for (number, ask) in requests.asks().iter().enumerate() {
-        match print(sink, no_canister_text(alloc, number, &ask.callee)) {
-            Ok(()) => {}
-            Err(status) => return status,
+    match run_rounds_by(alloc, options, world, options.rounds, gate) {
+        Ok((world, _)) => print_answers(alloc, &world.parts().requests.items, gathered, sink),
+        Err(_) => gathered.give_up(sink),
+    }
+}
+
+fn print_answers<K: Sink>(
+    alloc: Global,
+    requests: &[Request],
+    gathered: &mut Gathered,
+    sink: &mut K,
+) -> Status
+    ensures finished { Concludes (sink_at K.taken K.fits K.faults sink.old) (sink_at K.taken K.fits K.faults sink.new)
+        (record { bytes = gathered.old ++ answers_from 0 requests.now; status = Status.Done }) result }
+{
+    for (number, request) in requests.iter().enumerate() {
+        let Ok(text) = answer_text(alloc, number, &request.answer) else {
+            return gathered.give_up(sink);
+        };
+        if let Err(status) = gathered.put(sink, &text.items) {
+            return status;
         }
     }
-    Status::Done
+    match gathered.flush(sink) {
+        Ok(()) => Status::Done,
+        Err(status) => status,
+    }
 }

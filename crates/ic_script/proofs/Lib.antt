@@ -1,1 +1,3 @@
 mod Text
+mod Numbers
+pub mod Times

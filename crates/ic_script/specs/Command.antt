@@ -1,13 +1,15 @@
 -- What the words of a command mean.
-use Rattle.std.specs.Prelude.{ℕ, nat_lt, bytes_eq, codes, List, [], ◌∷◌, length, if◌then◌else◌, Result, Ok, Err, ok_or}
+use Rattle.std.specs.Prelude.{ℕ, ◌&&◌, nat_le, nat_lt, bytes_eq, codes, List, [], ◌∷◌, length, if◌then◌else◌, Result, Ok, Err, ok_or}
 use Rattle.std.specs.Result.{result_ok}
+use Rattle.std.specs.Str.Parse.{digits_value}
 use Rattle.ic_principal.specs.Text.{principal_of}
 use Rattle.hex.specs.Hex.{decode_of}
 use Rattle.ic_script.specs.declared.command.Ask.{Ask}
 use Rattle.ic_script.specs.declared.command.Command.{Command}
-use Rattle.ic_script.specs.declared.command.Command.TheVariants.{Call, Decode}
+use Rattle.ic_script.specs.declared.command.Command.TheVariants.{Call, Query, Run, Drain, Time, Decode}
 use Rattle.ic_script.specs.declared.line_cause.LineCause.{LineCause}
-use Rattle.ic_script.specs.declared.line_cause.LineCause.TheVariants.{Form, Principal, Hex}
+use Rattle.ic_script.specs.declared.line_cause.LineCause.TheVariants.{Form, Principal, Hex, Number, Size}
+use Rattle.ic_script.specs.Words.{is_numeral}
 
 -- the second step, where the first has no cause
 infixl 10 ◌>>=◌
@@ -19,9 +21,19 @@ Err cause >>= step = Err cause
 abbrev pub principal_word : List ℕ → Result (List ℕ) LineCause
 principal_word word = ok_or (principal_of word) Principal
 
+-- bytes that are not too many
+abbrev pub within_size : List ℕ → Result (List ℕ) LineCause
+within_size bytes = if nat_lt 2097152 (length bytes) then Err Size else Ok bytes
+
 -- the bytes that a word spells: none for a dash, else those of its hexadecimal digits, in either case
 abbrev pub bytes_word : List ℕ → Result (List ℕ) LineCause
-bytes_word word = if bytes_eq word (codes "-") then Ok [] else ok_or (result_ok (decode_of word)) Hex
+bytes_word word =
+    if bytes_eq word (codes "-") then Ok [] else (ok_or (result_ok (decode_of word)) Hex >>= within_size)
+
+-- the number that a word spells, where it is at most so large
+abbrev pub number_word : (most : ℕ) → List ℕ → Result ℕ LineCause
+number_word most word =
+    if is_numeral word && nat_le (digits_value 10 word) most then Ok (digits_value 10 word) else Err Number
 
 -- a request in four words: sender, callee, method of at most 20,000 bytes, argument
 unfoldable pub ask_of : List (List ℕ) → Result Ask LineCause
@@ -37,10 +49,28 @@ decode_command (expected ∷ message ∷ []) =
     bytes_word expected >>= λ types. bytes_word message >>= λ bytes. Ok (Decode types bytes)
 decode_command _ = Err Form
 
+-- up to so many rounds
+unfoldable pub run_command : List (List ℕ) → Result Command LineCause
+run_command (count ∷ []) = number_word 1000000 count >>= λ n. Ok (Run n)
+run_command _ = Err Form
+
+abbrev pub drain_command : List (List ℕ) → Result Command LineCause
+drain_command [] = Ok Drain
+drain_command (word ∷ words) = Err Form
+
+-- the time
+unfoldable pub time_command : List (List ℕ) → Result Command LineCause
+time_command (time ∷ []) = number_word 9223372036854775807 time >>= λ n. Ok (Time n)
+time_command _ = Err Form
+
 -- a command by its first word
 unfoldable pub command_of_words : List (List ℕ) → Result Command LineCause
 command_of_words [] = Err Form
 command_of_words (verb ∷ words) =
     if bytes_eq verb (codes "call") then (ask_of words >>= λ ask. Ok (Call ask))
+    else if bytes_eq verb (codes "query") then (ask_of words >>= λ ask. Ok (Query ask))
+    else if bytes_eq verb (codes "run") then run_command words
+    else if bytes_eq verb (codes "drain") then drain_command words
+    else if bytes_eq verb (codes "time") then time_command words
     else if bytes_eq verb (codes "decode") then decode_command words
     else Err Form

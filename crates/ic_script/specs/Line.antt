@@ -7,7 +7,7 @@ use Rattle.ic_script.specs.declared.command.Command.TheVariants.{Nothing}
 use Rattle.ic_script.specs.declared.line_cause.LineCause.{LineCause}
 use Rattle.ic_script.specs.declared.line_cause.LineCause.TheVariants as cause
 use Rattle.ic_script.specs.declared.line_cause.LineError.{LineError}
-use Rattle.ic_script.specs.declared.line_cause.LineError.TheVariants.{Form, Principal, Hex, NoMemory}
+use Rattle.ic_script.specs.declared.line_cause.LineError.TheVariants.{Form, Principal, Hex, Number, Size, NoMemory}
 
 -- an empty line, or a comment, which begins with #
 abbrev pub says_nothing : List ℕ → Bool
@@ -27,4 +27,6 @@ Agrees (Ok value) said = said ≡ Ok value
 Agrees (Err Form) said = said ≡ Err cause.Form
 Agrees (Err Principal) said = said ≡ Err cause.Principal
 Agrees (Err Hex) said = said ≡ Err cause.Hex
+Agrees (Err Number) said = said ≡ Err cause.Number
+Agrees (Err Size) said = said ≡ Err cause.Size
 Agrees (Err NoMemory) said = Unit {0}

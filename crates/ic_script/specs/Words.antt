@@ -1,6 +1,7 @@
 -- The words of a line.
-use Rattle.std.specs.Prelude.{ℕ, Bool, ◌&&◌, ◌==◌, nat_le, List, [], length, Option, Some, None, not}
+use Rattle.std.specs.Prelude.{ℕ, Bool, ◌&&◌, ◌==◌, nat_le, false, List, [], ◌∷◌, length, Option, Some, None, not}
 use Rattle.std.specs.List.{slice_split, list_all}
+use Rattle.std.specs.Char.{is_ascii_digit}
 
 -- from space to tilde, the printable bytes of ASCII
 abbrev pub is_printable : ℕ → Bool
@@ -17,6 +18,15 @@ is_word word = not (length word == 0)
 -- every byte is printable, and single spaces stand between the words
 unfoldable pub is_well_formed : List ℕ → Bool
 is_well_formed line = list_all is_printable line && list_all is_word (words_of line)
+
+-- a zero with something behind it
+abbrev pub has_leading_zero : List ℕ → Bool
+has_leading_zero (first ∷ second ∷ _) = first == 48
+has_leading_zero _ = false
+
+-- a number in decimal digits, without a sign and without a leading zero
+unfoldable pub is_numeral : List ℕ → Bool
+is_numeral word = is_word word && list_all is_ascii_digit word && not (has_leading_zero word)
 
 -- the words of the text that is left, if any is
 abbrev pub words_left : Option (List ℕ) → List (List ℕ)

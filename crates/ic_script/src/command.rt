@@ -21,6 +21,14 @@ pub enum Command {
     Nothing,
     /// A call that is submitted, and answered later.
     Call(Ask),
+    /// A query, which is answered at once and changes nothing.
+    Query(Ask),
+    /// Up to so many rounds, at most 1,000,000.
+    Run(u32),
+    /// Rounds until no message is left, or as many as the command line allows.
+    Drain,
+    /// The time from here on, in nanoseconds since 1970-01-01, at most 9,223,372,036,854,775,807.
+    Time(u64),
     /// A Candid message that is read at once, and what is to be the header of its expected types.
     /// Neither is looked at yet.
     Decode { expected: Bytes, bytes: Bytes },

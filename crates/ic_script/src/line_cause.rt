@@ -15,6 +15,15 @@ pub enum LineCause {
     Principal,
     /// A word that is to spell bytes is neither `-` nor an even number of hexadecimal digits.
     Hex,
+    /// A word that is to spell a number is none in decimal digits without a sign and without a
+    /// leading zero, or the number is greater than it may be here.
+    Number,
+    /// A word spells more than 2,097,152 bytes.
+    Size,
+    /// The time is before the present one.
+    Back,
+    /// As many calls were submitted as may be.
+    Calls,
     /// The line is longer than a line may be.
     LineTooLong,
     /// The script is longer than a script may be.
@@ -33,6 +42,10 @@ impl fmt::Display for LineCause {
             LineCause::Form => "Form",
             LineCause::Principal => "Principal",
             LineCause::Hex => "Hex",
+            LineCause::Number => "Number",
+            LineCause::Size => "Size",
+            LineCause::Back => "Back",
+            LineCause::Calls => "Calls",
             LineCause::LineTooLong => "LineTooLong",
             LineCause::ScriptTooLong => "ScriptTooLong",
         })
@@ -48,6 +61,10 @@ pub enum LineError {
     Principal,
     /// As `LineCause::Hex`.
     Hex,
+    /// As `LineCause::Number`.
+    Number,
+    /// As `LineCause::Size`.
+    Size,
     /// Want of memory.
     NoMemory,
 }

@@ -1,22 +1,29 @@
-ghost use Rattle.std.specs.Prelude.{◌≡◌, ◌≢◌, Err, option_copied};
+ghost use Rattle.std.specs.Prelude.{◌≡◌, ◌≢◌, ◌≤◌, ◌<◌, ◌^◌, ℕ, Ok, Err, option_copied};
 ghost use Rattle.ic_script.specs.Line.{Agrees, command_of, says_nothing};
 ghost use Rattle.ic_script.specs.Words.{words_left};
-ghost use Rattle.ic_script.specs.Command.{ask_of, decode_command, principal_word, bytes_word};
+ghost use Rattle.ic_script.specs.Command.{ask_of, run_command, drain_command, time_command, decode_command, principal_word, bytes_word, number_word};
 
 use crate::command::{Ask, Command};
 use crate::line_cause::LineError;
-use crate::words::{first_word, four_words, two_words, well_formed};
+use crate::words::{first_word, four_words, is_numeral, one_word, two_words, well_formed};
 use hex::FromHexError;
 use ic_principal::{Bytes, Principal, Text};
 use std::alloc::Global;
 
 const LONGEST_METHOD: usize = 20_000;
 
+const MOST_BYTES: usize = 2_097_152;
+
+const MOST_ROUNDS: u64 = 1_000_000;
+
+const LATEST_TIME: u64 = 9_223_372_036_854_775_807;
+
 /// The command that a line spells, or why it spells none. `bytes` is the line without its line
 /// feed. Memory is taken for a method and for bytes alone.
 #[tactic(auto, unfolding(crate::specs::Line::command_of, crate::specs::Command::command_of_words))]
 pub fn parse_line(alloc: Global, bytes: &[u8]) -> Result<Command, LineError>
     ensures line { Agrees result (command_of bytes.now) }
+    ensures time { (time : ℕ) → command_of bytes.now ≡ Ok (Command.Time time) → time ≤ 9223372036854775807 }
 {
     if says_nothing(bytes) {
         return Ok(Command::Nothing);
@@ -27,6 +34,10 @@ pub fn parse_line(alloc: Global, bytes: &[u8]) -> Result<Command, LineError>
     let (verb, operands) = first_word(line);
     match verb {
         "call" => Ok(Command::Call(parse_ask(alloc, operands)?)),
+        "query" => Ok(Command::Query(parse_ask(alloc, operands)?)),
+        "run" => parse_run(operands),
+        "drain" => parse_drain(operands),
+        "time" => parse_time(operands),
         "decode" => parse_decode(alloc, operands),
         _ => Err(LineError::Form),
     }
@@ -67,6 +78,38 @@ fn parse_ask(alloc: Global, operands: Option<&str>) -> Result<Ask, LineError>
     })
 }
 
+/// A number of rounds in one word.
+#[tactic(auto, unfolding(crate::specs::Command::run_command))]
+fn parse_run(operands: Option<&str>) -> Result<Command, LineError>
+    ensures { Agrees result (run_command (words_left (option_copied operands.entry))) }
+{
+    let Some(count) = one_word(operands) else {
+        return Err(LineError::Form);
+    };
+    Ok(Command::Run(number(count, MOST_ROUNDS)? as u32))
+}
+
+/// No further word.
+fn parse_drain(operands: Option<&str>) -> Result<Command, LineError>
+    ensures { Agrees result (drain_command (words_left (option_copied operands.entry))) }
+{
+    match operands {
+        None => Ok(Command::Drain),
+        Some(_) => Err(LineError::Form),
+    }
+}
+
+/// A time in one word.
+#[tactic(auto, unfolding(crate::specs::Command::time_command))]
+fn parse_time(operands: Option<&str>) -> Result<Command, LineError>
+    ensures { Agrees result (time_command (words_left (option_copied operands.entry))) }
+{
+    let Some(time) = one_word(operands) else {
+        return Err(LineError::Form);
+    };
+    Ok(Command::Time(number(time, LATEST_TIME)?))
+}
+
 /// A message and its expected types in two words.
 #[tactic(auto, unfolding(crate::specs::Command::decode_command))]
 fn parse_decode(alloc: Global, operands: Option<&str>) -> Result<Command, LineError>
@@ -101,8 +144,23 @@ fn hex_bytes(alloc: Global, word: &str) -> Result<Bytes, LineError>
         });
     }
     match hex::decode(alloc, word) {
+        Ok(items) if items.len() > MOST_BYTES => Err(LineError::Size),
         Ok(items) => Ok(Bytes { items }),
         Err(FromHexError::OutOfMemory) => Err(LineError::NoMemory),
         Err(_) => Err(LineError::Hex),
+    }
+}
+
+/// The number that a word spells in decimal, where it is at most so large.
+fn number(word: &str, most: u64) -> Result<u64, LineError>
+    ensures word { Agrees result (number_word most word.now) }
+    ensures no_memory_taken { result ≢ Err LineError.NoMemory }
+{
+    if !is_numeral(word) {
+        return Err(LineError::Number);
+    }
+    match word.parse::<u64>() {
+        Ok(number) if number <= most => Ok(number),
+        _ => Err(LineError::Number),
     }
 }

@@ -1,6 +1,7 @@
 ghost use Rattle.std.specs.Prelude.{◌≡◌, ◌≢◌, false, [], ◌∷◌, length, map, IfSome, IfNone, IsTrue, option_copied};
 ghost use Rattle.std.specs.List.{list_all, slice_split};
-ghost use Rattle.ic_script.specs.Words.{words_of, is_well_formed, is_printable, is_word, words_left};
+ghost use Rattle.std.specs.Char.{is_ascii_digit};
+ghost use Rattle.ic_script.specs.Words.{words_of, is_well_formed, is_printable, is_word, is_numeral, has_leading_zero, words_left};
 
 /// The line as text, where it is well formed.
 #[tactic(auto, unfolding(crate::specs::Words::is_well_formed), using(crate::proofs::Text::not_text))]
@@ -54,6 +55,41 @@ pub fn four_words(text: Option<&str>) -> Option<(&str, &str, &str, &str)>
     match rest {
         None => Some((first, second, third, fourth)),
         Some(_) => None,
+    }
+}
+
+/// The word of a text, where it is one.
+pub fn one_word(text: Option<&str>) -> Option<&str>
+    ensures some { IfSome result (λ w. words_left (option_copied text.entry) ≡ w.now ∷ []) }
+    ensures none { IfNone result (length (words_left (option_copied text.entry)) ≢ 1) }
+{
+    let (first, rest) = first_word(text?);
+    match rest {
+        None => Some(first),
+        Some(_) => None,
+    }
+}
+
+/// Whether a word is a number in decimal digits, without a sign and without a leading zero.
+#[tactic(auto, unfolding(crate::specs::Words::is_numeral))]
+pub fn is_numeral(word: &str) -> bool
+    ensures { result ≡ is_numeral word.now }
+{
+    !word.is_empty() && all_digits(word) && !has_leading_zero(word.as_bytes())
+}
+
+fn all_digits(word: &str) -> bool
+    ensures { result ≡ list_all is_ascii_digit word.now }
+{
+    word.as_bytes().iter().all(|byte| byte.is_ascii_digit())
+}
+
+fn has_leading_zero(word: &[u8]) -> bool
+    ensures { result ≡ has_leading_zero word.now }
+{
+    match word {
+        [first, _, ..] => *first == b'0',
+        _ => false,
     }
 }
 

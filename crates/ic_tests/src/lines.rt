@@ -3,16 +3,20 @@ use ic_principal::Principal;
 use ic_script::{Ask, Command, LineError, parse_line};
 use std::alloc::Global;
 
-/// What a line is read as: nothing, a fault, a call of `hello` at canister 0 by the anonymous
-/// principal with this argument, or the bytes of types and of a message.
+/// What a line is read as: nothing, a fault, a call or a query of `hello` at canister 0 by the
+/// anonymous principal with this argument, rounds, a time, or the bytes of types and of a message.
 enum Reads {
     Nothing,
     Fault(LineError),
     Ask(&'static [u8]),
+    Query(&'static [u8]),
+    Run(u32),
+    Drain,
+    Time(u64),
     Decode(&'static [u8], &'static [u8]),
 }
 
-static LINES: [(&[u8], Reads); 47] = [
+static LINES: [(&[u8], Reads); 74] = [
     (b"", Reads::Nothing),
     (b"#", Reads::Nothing),
     (b"# call", Reads::Nothing),
@@ -141,6 +145,51 @@ static LINES: [(&[u8], Reads); 47] = [
         b"call 2vxsx-fae rwlgt-iiaaa-aaaaa-aaaaa-cai hello ABCDEF0123456789",
         Reads::Ask(&[0xAB, 0xCD, 0xEF, 0x01, 0x23, 0x45, 0x67, 0x89]),
     ),
+    (
+        b"query 2vxsx-fae rwlgt-iiaaa-aaaaa-aaaaa-cai hello 2a",
+        Reads::Query(&[0x2A]),
+    ),
+    (
+        b"query 2vxsx-fae aaaaa-aa hello",
+        Reads::Fault(LineError::Form),
+    ),
+    (
+        b"query 2vxsx-fae aaaaa-a hello 2",
+        Reads::Fault(LineError::Principal),
+    ),
+    (b"run 0", Reads::Run(0)),
+    (b"run 1000000", Reads::Run(1_000_000)),
+    (b"run 1000001", Reads::Fault(LineError::Number)),
+    (b"run 01", Reads::Fault(LineError::Number)),
+    (b"run 00", Reads::Fault(LineError::Number)),
+    (b"run +1", Reads::Fault(LineError::Number)),
+    (b"run -1", Reads::Fault(LineError::Number)),
+    (b"run -", Reads::Fault(LineError::Number)),
+    (b"run 1_0", Reads::Fault(LineError::Number)),
+    (b"run 0x1", Reads::Fault(LineError::Number)),
+    (
+        b"run 100000000000000000000",
+        Reads::Fault(LineError::Number),
+    ),
+    (b"run", Reads::Fault(LineError::Form)),
+    (b"run 1 1", Reads::Fault(LineError::Form)),
+    (b"run ", Reads::Fault(LineError::Form)),
+    (b"drain", Reads::Drain),
+    (b"drain 1", Reads::Fault(LineError::Form)),
+    (b"drain ", Reads::Fault(LineError::Form)),
+    (b"time 0", Reads::Time(0)),
+    (
+        b"time 9223372036854775807",
+        Reads::Time(9_223_372_036_854_775_807),
+    ),
+    (b"time 9223372036854775808", Reads::Fault(LineError::Number)),
+    (
+        b"time 18446744073709551616",
+        Reads::Fault(LineError::Number),
+    ),
+    (b"time 05", Reads::Fault(LineError::Number)),
+    (b"time", Reads::Fault(LineError::Form)),
+    (b"time 5 5", Reads::Fault(LineError::Form)),
     (b"decode - -", Reads::Decode(b"", b"")),
     (b"decode 4449444C0000 -", Reads::Decode(b"DIDL\0\0", b"")),
     (b"decode 00fF 07", Reads::Decode(&[0x00, 0xFF], &[0x07])),
@@ -162,6 +211,10 @@ fn is_read_as(read: &Result<Command, LineError>, reads: &Reads) -> bool {
         (Reads::Nothing, Ok(Command::Nothing)) => true,
         (Reads::Fault(fault), Err(error)) => error == fault,
         (Reads::Ask(arg), Ok(Command::Call(ask))) => is_ask(ask, arg),
+        (Reads::Query(arg), Ok(Command::Query(ask))) => is_ask(ask, arg),
+        (Reads::Run(rounds), Ok(Command::Run(count))) => count == rounds,
+        (Reads::Drain, Ok(Command::Drain)) => true,
+        (Reads::Time(time), Ok(Command::Time(nanoseconds))) => time == nanoseconds,
         (Reads::Decode(types, message), Ok(Command::Decode { expected, bytes })) => {
             expected.items.as_slice() == *types && bytes.items.as_slice() == *message
         }
@@ -196,4 +249,27 @@ fn is_method(alloc: Global, length: usize) -> bool {
 fn longest_method(rt: HostRuntime) {
     assert!(rt; is_method(rt.alloc(), 20_000));
     assert!(rt; !is_method(rt.alloc(), 20_001));
+}
+
+fn is_size(alloc: Global, front: &str, digits: usize) -> bool {
+    match script_of(alloc, &[(front, 1), ("0", digits)]) {
+        Ok(line) => matches!(&parse_line(alloc, &line), Err(LineError::Size)),
+        Err(_) => false,
+    }
+}
+
+fn is_command(alloc: Global, front: &str, digits: usize) -> bool {
+    match script_of(alloc, &[(front, 1), ("0", digits)]) {
+        Ok(line) => parse_line(alloc, &line).is_ok(),
+        Err(_) => false,
+    }
+}
+
+// A word spells 2,097,152 bytes at most.
+#[test]
+fn longest_word(rt: HostRuntime) {
+    for front in ["call 2vxsx-fae aaaaa-aa hello ", "decode - "] {
+        assert!(rt; is_command(rt.alloc(), front, 4_194_304));
+        assert!(rt; is_size(rt.alloc(), front, 4_194_306));
+    }
 }

@@ -1,6 +1,8 @@
-use crate::running::{NOTHING, Run, is_run};
-use ic_host::Status;
+use crate::running::{NOTHING, Run, is_run, sink_of, source_of, words_of};
+use ic_host::{Status, replica};
+use ic_outside::{MemorySource, OpenGate};
 use ic_script::LineCause;
+use std::thread::Threads;
 
 const BAD_FORM: Status = Status::BadLine {
     line: 1,
@@ -14,7 +16,7 @@ const BAD_PRINCIPAL: Status = Status::BadLine {
 
 const SIZES: [(usize, usize); 3] = [(1, 1), (7, 7), (65_536, 65_536)];
 
-static RUNS: [Run<'static>; 14] = [
+static RUNS: [Run<'static>; 20] = [
     Run {
         pieces: &SIZES,
         ..NOTHING
@@ -101,6 +103,59 @@ static RUNS: [Run<'static>; 14] = [
         ..NOTHING
     },
     Run {
+        script: &[(
+            "call 2vxsx-fae rwlgt-iiaaa-aaaaa-aaaaa-cai hello -\nrun 1\nrun 1\n",
+            1,
+        )],
+        pieces: &SIZES,
+        printed: b"accepted 0\nran 1 left 0\nran 0 left 0\nanswer 0 rejected 3 \"no canister rwlgt-iiaaa-aaaaa-aaaaa-cai\"\n",
+        ..NOTHING
+    },
+    // A message goes in a round where no earlier one of its sender to its callee is left.
+    Run {
+        script: &[
+            ("call 2vxsx-fae aaaaa-aa a -\n", 2),
+            ("run 0\nrun 1\ndrain\n", 1),
+        ],
+        pieces: &SIZES,
+        printed: b"accepted 0\naccepted 1\nran 0 left 2\nran 1 left 0\nran 0 left 0\nanswer 0 rejected 3 \"no canister aaaaa-aa\"\nanswer 1 rejected 3 \"no canister aaaaa-aa\"\n",
+        ..NOTHING
+    },
+    Run {
+        script: &[(
+            "query 2vxsx-fae rwlgt-iiaaa-aaaaa-aaaaa-cai hello -\nquery 2vxsx-fae aaaaa-aa hello -\n",
+            1,
+        )],
+        pieces: &SIZES,
+        printed: b"query rejected 3 \"no canister rwlgt-iiaaa-aaaaa-aaaaa-cai\"\nquery rejected 3 \"no canister aaaaa-aa\"\n",
+        ..NOTHING
+    },
+    Run {
+        script: &[("time 5\n", 2)],
+        pieces: &SIZES,
+        ..NOTHING
+    },
+    Run {
+        script: &[("time 5\ntime 4\n", 1)],
+        pieces: &SIZES,
+        printed: b"line 2: Back\n",
+        status: Status::BadLine {
+            line: 2,
+            cause: LineCause::Back,
+        },
+        ..NOTHING
+    },
+    Run {
+        script: &[("run 01\n", 1)],
+        pieces: &SIZES,
+        printed: b"line 1: Number\n",
+        status: Status::BadLine {
+            line: 1,
+            cause: LineCause::Number,
+        },
+        ..NOTHING
+    },
+    Run {
         words: &["replica", "x"],
         script: &[("state\n", 1)],
         pieces: &SIZES,
@@ -148,9 +203,19 @@ fn codes(rt: HostRuntime) {
     }
 }
 
-static LONG: [Run<'static>; 7] = [
-    // Lines of 8,388,608 bytes: a comment, and a call whose argument has 4,194,289 bytes; and a
-    // comment with one byte more. That the first two are answered shows that no memory was wanting.
+static LONG: [Run<'static>; 8] = [
+    // A call whose argument has 2,097,152 bytes, whose answer shows that no memory was wanting; lines
+    // of 8,388,608 bytes: a comment, and a call whose argument is too large; and a comment with one
+    // byte more.
+    Run {
+        script: &[
+            ("call 2vxsx-fae aaaaa-aa hello ", 1),
+            ("0", 4_194_304),
+            ("\n", 1),
+        ],
+        printed: b"accepted 0\nanswer 0 rejected 3 \"no canister aaaaa-aa\"\n",
+        ..NOTHING
+    },
     Run {
         script: &[("#", 8_388_608)],
         ..NOTHING
@@ -161,7 +226,11 @@ static LONG: [Run<'static>; 7] = [
             ("0", 8_388_578),
             ("\n", 1),
         ],
-        printed: b"accepted 0\nanswer 0 rejected 3 \"no canister aaaaa-aa\"\n",
+        printed: b"line 1: Size\n",
+        status: Status::BadLine {
+            line: 1,
+            cause: LineCause::Size,
+        },
         ..NOTHING
     },
     Run {
@@ -222,5 +291,41 @@ fn long() -> &'static [Run<'static>] {
 fn long_scripts(rt: HostRuntime) {
     for (place, run) in long().iter().enumerate() {
         assert!(rt; is_run(&rt, run), "{place}");
+    }
+}
+
+// After 1,048,576 calls one more is bad.
+const TOO_MANY: Status = Status::BadLine {
+    line: 1_048_577,
+    cause: LineCause::Calls,
+};
+
+fn ends_with_too_many<R: Threads + Sync + AllocGlobal>(
+    rt: &R,
+    words: &[String],
+    source: &mut MemorySource,
+) -> bool {
+    match sink_of(rt.alloc(), 20_000_000, 1_000_000, &[]) {
+        Ok(mut sink) => {
+            let status = replica(rt.alloc(), rt, words, source, &mut sink, &OpenGate);
+            status == TOO_MANY && sink.taken().ends_with(b"line 1048577: Calls\n")
+        }
+        Err(_) => false,
+    }
+}
+
+fn are_too_many<R: Threads + Sync + AllocGlobal>(rt: &R, words: &[String]) -> bool {
+    let calls = [("call aaaaa-aa aaaaa-aa a -\n", 1_048_577)];
+    match source_of(rt.alloc(), &calls, 1_000_000, &[]) {
+        Ok(mut source) => ends_with_too_many(rt, words, &mut source),
+        Err(_) => false,
+    }
+}
+
+#[test]
+fn most_calls(rt: HostRuntime) {
+    match words_of(rt.alloc(), &["replica"]) {
+        Ok(words) => assert!(rt; are_too_many(&rt, &words)),
+        Err(_) => assert!(rt; false),
     }
 }

@@ -4,11 +4,11 @@ use Rattle.ic_host.proofs.Runs.{Runs}
 use Rattle.ic_host.proofs.Streams.{Reading}
 use Rattle.ic_host.proofs.top.run_script.Given as goal
 
-abbrev pub invariant-loop-line : goal.invariant-loop-line
-invariant-loop-line g l =
+abbrev pub invariant-loop-status : goal.invariant-loop-status
+invariant-loop-status g l =
     Runs l.options (g.S.Source.left l.fn.source) (g.S.Source.left l.source)
-    (sink_at g.K.Sink.taken g.K.Sink.fits g.K.Sink.faults l.fn.sink) (sink_at g.K.Sink.taken g.K.Sink.fits g.K.Sink.faults l.sink) l.requests l.lines
+    (sink_at g.K.Sink.taken g.K.Sink.fits g.K.Sink.faults l.fn.sink) (sink_at g.K.Sink.taken g.K.Sink.fits g.K.Sink.faults l.sink) l.world l.lines l.gathered
     × Reading g.S.Source.faults g.S.Source.ended g.S.Source.cannot_fail l.fn.source l.source l.lines.ended
 
-abbrev pub decreases-loop-line : goal.decreases-loop-line
-decreases-loop-line g l = 268435456 - l.lines.offset
+abbrev pub decreases-loop-status : goal.decreases-loop-status
+decreases-loop-status g l = 268435456 - l.lines.offset

@@ -1,4 +1,4 @@
-use Rattle.std.proofs.Common.{◌≡◌, ap, sym, ◌∙◌, refl, inl}
+use Rattle.std.proofs.Common.{◌≡◌, ap, sym, ◌∙◌, inl}
 use Rattle.ic_outside.specs.declared.Line.{Line}
 use Rattle.ic_host.specs.AfterLine.{after_line}
 use Rattle.ic_host.proofs.top.turn.Goals as goal
@@ -6,10 +6,11 @@ use Rattle.ic_host.proofs.top.turn.Goals as goal
 pub returns-in-Err : goal.returns-in-Err
 returns-in-Err g c =
     let line : c.deref.result.now ≡ c.args.line.now.bytes = c.deref.ensures.value ∙ ap (λ (l : Line). l.bytes) c.line.view_is in
+    let text : c.deref-in-Ok.result.now ≡ c.in-Ok.text = (let v = c.deref-in-Ok.ensures.value in let w = c.text.view_is in cc) in
     record {
       turns = inl (
         (c.in-Ok.next, c.in-Ok.text),
-        sym (ap (after_line c.args.options.now c.args.requests) line) ∙ c.in-Ok.ensures,
-        c.in-Err.ensures.printed c.in-Ok.text refl,
+        sym (ap (after_line c.args.options.now c.args.world) line) ∙ c.in-Ok.ensures,
+        rw (sym text) c.in-Err.ensures,
       );
     }

@@ -1,0 +1,19 @@
+use Rattle.std.proofs.Common.{map, string_bytes}
+use Rattle.ic_host.specs.Options.{options_of, default_options}
+use Rattle.std.specs.Prelude.{unwrap_or}
+use Rattle.ic_host.proofs.Keeps.{rules_keep}
+use Rattle.ic_host.proofs.Traces.{trace_is_run}
+use Rattle.ic_host.proofs.Promises.{each_trap, each_placed_once, each_conserves}
+use Rattle.ic_host.proofs.top.replica.Goals as goal
+
+pub returns-clause-run : goal.returns-clause-run
+returns-clause-run g c = λ script. trace_is_run _ script
+
+pub returns-clause-trapped : goal.returns-clause-trapped
+returns-clause-trapped g c = λ script. each_trap _ _
+
+pub returns-clause-placed_once : goal.returns-clause-placed_once
+returns-clause-placed_once g c = λ script. each_placed_once _ (rules_keep (unwrap_or (options_of (map string_bytes c.args.words.now)) default_options)) _ (trace_is_run _ script)
+
+pub returns-clause-cycles : goal.returns-clause-cycles
+returns-clause-cycles g c = λ script. each_conserves _ (rules_keep (unwrap_or (options_of (map string_bytes c.args.words.now)) default_options)) _ (trace_is_run _ script)

@@ -1,0 +1,256 @@
+ghost use Rattle.std.specs.Prelude.{◌≡◌, ◌≤◌, ℕ, [], length, Ok, IfOk};
+ghost use Rattle.ic_behaviour.specs.Submitted.{submitted, timed};
+ghost use Rattle.ic_runs.specs.Round.{rounds};
+ghost use Rattle.ic_state.specs.IsWorld.{IsWorld};
+ghost use Rattle.ic_state.specs.Seen.{state_of};
+ghost use Rattle.ic_host.specs.Acts.{Acts};
+ghost use Rattle.ic_host.specs.AfterLine.{after_line};
+ghost use Rattle.ic_host.specs.AfterCommand.{after_command, after_rounds, text_of_rounds, answer_now, fault_of, unless};
+ghost use Rattle.ic_host.specs.Decoding.{decode_text};
+ghost use Rattle.ic_host.specs.Options.{IsWithin, rules_of};
+ghost use Rattle.ic_host.specs.Texts.{accepted_text, query_text};
+
+use crate::decoding::decode_text;
+use crate::options::Options;
+use crate::texts::{accepted_text, query_text, ran_text};
+use ic_base::NoMemory as WantOfMemory;
+use ic_calls::no_canister;
+use ic_exec::query;
+use ic_outside::Gate;
+use ic_principal::Bytes;
+use ic_round::run_rounds;
+use ic_script::{Ask, Command, LineCause, LineError, parse_line};
+use ic_state::{Env, Parts, Response, World};
+use std::alloc::Global;
+
+const MOST_CALLS: usize = 1_048_576;
+
+/// Why a line was not done.
+#[derive(Clone, Copy, Debug, PartialEq, Eq)]
+pub enum NotDone {
+    /// The line is bad.
+    Bad(LineCause),
+    /// Memory was wanting.
+    NoMemory,
+}
+
+impl From<WantOfMemory> for NotDone {
+    ghost use Rattle.std.specs.Prelude.{◌≡◌};
+    ghost use Rattle.ic_host.specs.declared.doing.NotDone.TheVariants.{NoMemory};
+
+    ghost from_gives = { λ _ error. error ≡ NoMemory };
+
+    fn from(_: WantOfMemory) -> NotDone {
+        NotDone::NoMemory
+    }
+}
+
+impl From<LineError> for NotDone {
+    ghost use Rattle.std.specs.Prelude.{◌≡◌};
+    ghost use Rattle.ic_host.specs.Acts.{not_done};
+
+    ghost from_gives = { λ error outcome. outcome ≡ not_done error };
+
+    fn from(error: LineError) -> NotDone {
+        match error {
+            LineError::Form => NotDone::Bad(LineCause::Form),
+            LineError::Principal => NotDone::Bad(LineCause::Principal),
+            LineError::Hex => NotDone::Bad(LineCause::Hex),
+            LineError::Number => NotDone::Bad(LineCause::Number),
+            LineError::Size => NotDone::Bad(LineCause::Size),
+            LineError::NoMemory => NotDone::NoMemory,
+        }
+    }
+}
+
+/// Does a line: the world after it, and what it prints. On an error the world is dropped.
+#[tactic(auto, unfolding(crate::specs::AfterLine::after_line))]
+pub fn do_line<G: Gate + Sync>(
+    alloc: Global,
+    options: &Options,
+    world: World,
+    line: &[u8],
+    gate: &G,
+) -> Result<(World, Bytes), NotDone>
+    requires { IsWithin options.now }
+    ensures { Acts (after_line options.now world line.now) result }
+{
+    match parse_line(alloc, line) {
+        Ok(command) => do_command(alloc, options, world, command, gate),
+        Err(error) => Err(NotDone::from(error)),
+    }
+}
+
+#[tactic(auto, unfolding(crate::specs::AfterCommand::after_command))]
+fn do_command<G: Gate + Sync>(
+    alloc: Global,
+    options: &Options,
+    world: World,
+    command: Command,
+    gate: &G,
+) -> Result<(World, Bytes), NotDone>
+    requires within { IsWithin options.now }
+    requires time { (time : ℕ) → command ≡ Command.Time time → time ≤ 9223372036854775807 }
+    ensures { Acts (after_command options.now world command) result }
+{
+    match command {
+        Command::Nothing => Ok((
+            world,
+            Bytes {
+                items: Vec::new(alloc),
+            },
+        )),
+        Command::Call(ask) => submit(alloc, world, ask),
+        Command::Query(ask) => answer(alloc, options, world, ask),
+        Command::Run(count) => make_rounds(alloc, options, world, count, gate),
+        Command::Drain => make_rounds(alloc, options, world, options.rounds, gate),
+        Command::Time(time) => set_time(alloc, world, time),
+        Command::Decode { expected, bytes } => decode(alloc, world, &expected, &bytes),
+    }
+}
+
+fn submit(alloc: Global, world: World, ask: Ask) -> Result<(World, Bytes), NotDone>
+    ensures { Acts (unless (fault_of world (Command.Call ask))
+        (submitted world ask.sender ask.callee ask.method ask.arg, accepted_text (length world.requests))) result }
+{
+    let number = world.parts().requests.len();
+    if number >= MOST_CALLS {
+        return Err(NotDone::Bad(LineCause::Calls));
+    }
+    let Ok(text) = accepted_text(alloc, number) else {
+        return Err(NotDone::NoMemory);
+    };
+    match world.submit(ask.sender, ask.callee, ask.method, ask.arg) {
+        Ok(world) => Ok((world, text)),
+        Err(_) => Err(NotDone::NoMemory),
+    }
+}
+
+// The world stays as it is.
+fn answer(
+    alloc: Global,
+    options: &Options,
+    world: World,
+    ask: Ask,
+) -> Result<(World, Bytes), NotDone>
+    requires { IsWithin options.now }
+    ensures { Acts (Ok (world, query_text (answer_now options.now world ask))) result }
+{
+    let mut parts = world.open();
+    let answered = answer_now(alloc, options, &mut parts, ask);
+    let world = World::seal(parts);
+    match answered {
+        Ok(response) => match query_text(alloc, &response) {
+            Ok(text) => Ok((world, text)),
+            Err(_) => Err(NotDone::NoMemory),
+        },
+        Err(_) => Err(NotDone::NoMemory),
+    }
+}
+
+// What the canister that is asked answers. All stays as it is, without memory too.
+#[tactic(auto, unfolding(crate::specs::AfterCommand::answer_now))]
+fn answer_now(
+    alloc: Global,
+    options: &Options,
+    parts: &mut Parts,
+    ask: Ask,
+) -> Result<Response, WantOfMemory>
+    requires within { IsWithin options.now }
+    requires keeps { IsWorld parts.old }
+    ensures response { IfOk result (λ r. r ≡ answer_now options.now (state_of parts.old) ask) }
+    ensures same { state_of parts.new ≡ state_of parts.old }
+    ensures keeps { IsWorld parts.new }
+{
+    let env = Env {
+        time: parts.time,
+        limit: options.limit,
+        price: options.price,
+    };
+    let Ask {
+        sender,
+        callee,
+        method,
+        arg,
+    } = ask;
+    match parts.canisters.get_mut(&callee) {
+        Some(canister) => query(alloc, canister, sender, &method.items, arg, env),
+        None => no_canister(alloc, &callee),
+    }
+}
+
+fn make_rounds<G: Gate + Sync>(
+    alloc: Global,
+    options: &Options,
+    world: World,
+    count: u32,
+    gate: &G,
+) -> Result<(World, Bytes), NotDone>
+    requires { IsWithin options.now }
+    ensures { Acts (Ok (after_rounds options.now count world, text_of_rounds options.now count world)) result }
+{
+    let Ok((world, made)) = run_rounds_by(alloc, options, world, count, gate) else {
+        return Err(NotDone::NoMemory);
+    };
+    match ran_text(alloc, made, world.parts().messages.items.len()) {
+        Ok(text) => Ok((world, text)),
+        Err(_) => Err(NotDone::NoMemory),
+    }
+}
+
+/// Makes up to so many rounds, as the options say: the world after them, and how many handled a
+/// message.
+pub fn run_rounds_by<G: Gate + Sync>(
+    alloc: Global,
+    options: &Options,
+    world: World,
+    count: u32,
+    gate: &G,
+) -> Result<(World, u32), WantOfMemory>
+    requires { IsWithin options.now }
+    ensures state { IfOk result (λ r. r.0 ≡ after_rounds options.now count world) }
+    ensures made { IfOk result (λ r. r.1 ≡ length (rounds (rules_of options.now) count world)) }
+{
+    match run_rounds(
+        alloc,
+        world,
+        count,
+        options.workers,
+        options.limit,
+        options.price,
+        gate,
+    ) {
+        Ok((world, made)) => Ok((world, made)),
+        Err(error) => Err(error),
+    }
+}
+
+fn set_time(alloc: Global, mut world: World, time: u64) -> Result<(World, Bytes), NotDone>
+    requires { time ≤ 9223372036854775807 }
+    ensures { Acts (unless (fault_of world (Command.Time time)) (timed world time, [])) result }
+{
+    if time < world.parts().time {
+        return Err(NotDone::Bad(LineCause::Back));
+    }
+    world.set_time(time);
+    Ok((
+        world,
+        Bytes {
+            items: Vec::new(alloc),
+        },
+    ))
+}
+
+fn decode(
+    alloc: Global,
+    world: World,
+    expected: &Bytes,
+    bytes: &Bytes,
+) -> Result<(World, Bytes), NotDone>
+    ensures { Acts (Ok (world, decode_text expected.now bytes.now)) result }
+{
+    match decode_text(alloc, &expected.items, &bytes.items) {
+        Ok(text) => Ok((world, text)),
+        Err(_) => Err(NotDone::NoMemory),
+    }
+}

@@ -1,0 +1,109 @@
+-- The times of lines.
+use Rattle.std.proofs.Common.{◌≡◌, ℕ, ◌≤◌, Bool, true, false, cond, List, [], ◌∷◌, refl, subst, arith, inl, inr, Result, Ok, Err}
+use Rattle.std.specs.Prelude.{◌&&◌, nat_le}
+use Rattle.std.specs.Str.Parse.{digits_value}
+use Rattle.std.proofs.lemmas.Bool.{and_parts, leb-true, cases_Bool}
+use Rattle.ic_script.specs.Line.{command_of, says_nothing}
+use Rattle.ic_script.specs.Words.{words_of, is_well_formed, is_numeral}
+use Rattle.ic_script.specs.Command.{◌>>=◌, ask_of, bytes_word, number_word, run_command, drain_command, time_command, decode_command, command_of_words}
+use Rattle.ic_script.specs.declared.command.Ask.{Ask}
+use Rattle.ic_script.specs.declared.command.Command.{Command}
+use Rattle.ic_script.specs.declared.command.Command.TheVariants.{Nothing, Call, Query, Run, Drain, Time, Decode}
+use Rattle.ic_script.specs.declared.line_cause.LineCause.{LineCause}
+use Rattle.ic_script.specs.declared.line_cause.LineCause.TheVariants.{Form, Number}
+
+-- a command whose time, if it has one, is in its range
+abbrev IsTimely : Command → Type 0
+IsTimely Nothing = Unit {0}
+IsTimely (Call ask) = Unit {0}
+IsTimely (Query ask) = Unit {0}
+IsTimely (Run count) = Unit {0}
+IsTimely Drain = Unit {0}
+IsTimely (Time time) = time ≤ 9223372036854775807
+IsTimely (Decode expected bytes) = Unit {0}
+
+unfoldable GivesTimely : Result Command LineCause → Type 0
+GivesTimely (Ok command) = IsTimely command
+GivesTimely (Err cause) = Unit {0}
+
+refuses : (cause : LineCause) → GivesTimely (Err cause)
+unfolding GivesTimely
+refuses cause = tt
+
+either : (b : Bool) (x y : Result Command LineCause) → GivesTimely x → GivesTimely y → GivesTimely (cond b x y)
+either true x y p q = p
+either false x y p q = q
+
+of_ask : (ask : Result Ask LineCause) (make : Ask → Command) → ((a : Ask) → IsTimely (make a)) → GivesTimely (ask >>= λ a. Ok (make a))
+unfolding GivesTimely
+of_ask (Ok a) make h = h a
+of_ask (Err cause) make h = tt
+
+number-most : (most : ℕ) (word : List ℕ) (n : ℕ) → number_word most word ≡ Ok n → n ≤ most
+number-most most word n e = elim (cases_Bool (is_numeral word && nat_le (digits_value 10 word) most)) [
+  | inl good ↦
+      let given : Ok (digits_value 10 word) ≡ Ok n = rw good at e in
+      let is : digits_value 10 word ≡ n = cc in
+      let small : nat_le (digits_value 10 word) most ≡ true = (and_parts (is_numeral word) (nat_le (digits_value 10 word) most) good).1 in
+      omega (arith, leb-true (digits_value 10 word) most small, is)
+  | inr bad ↦ let given : Err Number ≡ Ok n = rw bad at e in cc
+]
+
+of_number : (r : Result ℕ LineCause) (make : ℕ → Command) → ((n : ℕ) → r ≡ Ok n → IsTimely (make n)) → GivesTimely (r >>= λ n. Ok (make n))
+unfolding GivesTimely
+of_number (Ok n) make h = h n refl
+of_number (Err cause) make h = tt
+
+of_run : (words : List (List ℕ)) → GivesTimely (run_command words)
+unfolding run_command GivesTimely
+of_run [] = tt
+of_run (count ∷ []) = of_number (number_word 1000000 count) Run (λ n e. tt)
+of_run (count ∷ other ∷ words) = tt
+
+of_drain : (words : List (List ℕ)) → GivesTimely (drain_command words)
+unfolding GivesTimely
+of_drain [] = tt
+of_drain (word ∷ words) = tt
+
+of_time : (words : List (List ℕ)) → GivesTimely (time_command words)
+unfolding time_command GivesTimely
+of_time [] = tt
+of_time (time ∷ []) = of_number (number_word 9223372036854775807 time) Time (λ n e. number-most 9223372036854775807 time n e)
+of_time (time ∷ other ∷ words) = tt
+
+of_bytes : (r s : Result (List ℕ) LineCause) → GivesTimely (r >>= λ types. s >>= λ bytes. Ok (Decode types bytes))
+unfolding GivesTimely
+of_bytes (Ok types) (Ok bytes) = tt
+of_bytes (Ok types) (Err cause) = tt
+of_bytes (Err cause) s = tt
+
+of_decode : (words : List (List ℕ)) → GivesTimely (decode_command words)
+unfolding decode_command GivesTimely
+of_decode [] = tt
+of_decode (expected ∷ []) = tt
+of_decode (expected ∷ message ∷ []) = of_bytes (bytes_word expected) (bytes_word message)
+of_decode (expected ∷ message ∷ other ∷ words) = tt
+
+of_words : (words : List (List ℕ)) → GivesTimely (command_of_words words)
+unfolding command_of_words
+of_words [] = refuses Form
+of_words (verb ∷ words) =
+    either _ _ _ (of_ask (ask_of words) Call (λ a. tt))
+    (either _ _ _ (of_ask (ask_of words) Query (λ a. tt))
+    (either _ _ _ (of_run words)
+    (either _ _ _ (of_drain words)
+    (either _ _ _ (of_time words)
+    (either _ _ _ (of_decode words) (refuses Form))))))
+
+nothing : GivesTimely (Ok Nothing)
+unfolding GivesTimely
+nothing = tt
+
+of_line : (line : List ℕ) → GivesTimely (command_of line)
+unfolding command_of
+of_line line = either (says_nothing line) _ _ nothing (either (is_well_formed line) _ _ (of_words (words_of line)) (refuses Form))
+
+-- the time that a line spells is in its range
+pub time_of_line : (line : List ℕ) (time : ℕ) → command_of line ≡ Ok (Time time) → time ≤ 9223372036854775807
+unfolding GivesTimely
+time_of_line line time e = subst GivesTimely e (of_line line)
