@@ -2,4 +2,8 @@
 #![tactic(auto)]
 
 #[cfg(test)]
+mod canisters;
+#[cfg(test)]
+mod relays;
+#[cfg(test)]
 mod tests;
