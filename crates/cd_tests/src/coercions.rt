@@ -200,7 +200,7 @@ fn rows() -> &'static [Row] {
 }
 
 /// The expected types that a header names.
-fn expected_of(alloc: Global, header: &[u8]) -> Option<Expected> {
+pub(crate) fn expected_of(alloc: Global, header: &[u8]) -> Option<Expected> {
     match read_header(alloc, header) {
         Ok(header) => Some(Expected::of(header.table, header.types.items)),
         Err(_) => None,

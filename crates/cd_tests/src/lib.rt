@@ -15,3 +15,5 @@ mod sketch;
 mod subtypes;
 #[cfg(test)]
 mod tables;
+#[cfg(test)]
+mod texts;
