@@ -17,7 +17,7 @@ fn no_bytes(alloc: Global) -> Bytes {
 }
 
 /// A user's call is executed.
-fn run(alloc: Global, canister: Canister, method: Text, env: Env) -> Option<Executed>
+fn run(alloc: Global, canister: Canister, method: Text, arg: Bytes, env: Env) -> Option<Executed>
     requires keeps { IsCanister canister }
     requires fresh { canister.contexts ≡ [] }
     requires limit { env.limit ≤ 1000000000000 }
@@ -30,7 +30,7 @@ fn run(alloc: Global, canister: Canister, method: Text, env: Env) -> Option<Exec
             sender: Principal::canister_id(7),
             callee: Principal::canister_id(0),
             method,
-            arg: no_bytes(alloc),
+            arg,
             cycles: 0,
         },
         env,
@@ -51,7 +51,30 @@ fn run_row(alloc: Global, canister: Option<Canister>, row: &Row) -> Option<Execu
         price: row.price,
     };
     match canister {
-        Some(canister) => run(alloc, canister, method, env),
+        Some(canister) => run(alloc, canister, method, no_bytes(alloc), env),
+        None => None,
+    }
+}
+
+/// The relay module calls another canister, with 500 cycles, at a price at which all instructions of
+/// the limit cost 960.
+fn relay_on(alloc: Global, canister: Option<Canister>) -> Option<Executed>
+    requires keeps { IfSome canister IsCanister }
+    requires fresh { IfSome canister (λ c. c.contexts ≡ []) }
+{
+    let method = Text {
+        items: String::from_str(alloc, "relay").ok()?,
+    };
+    let arg = Bytes {
+        items: Vec::from_slice(alloc, Principal::canister_id(1).bytes()).ok()?,
+    };
+    let env = Env {
+        time: 7,
+        limit: 80,
+        price: 12,
+    };
+    match canister {
+        Some(canister) => run(alloc, canister, method, arg, env),
         None => None,
     }
 }
@@ -91,6 +114,19 @@ fn compare(rt: &impl Abort, row: &Row, done: &Option<Executed>) {
 fn relay_is_called(rt: HostRuntime) {
     for row in &relaying_rows() {
         compare(&rt, row, &run_row(rt.alloc(), relaying(rt.alloc()), row));
+    }
+}
+
+// What the message used costs more than the 500 cycles that its call leaves, so it takes them all.
+#[test]
+fn a_message_empties_the_balance(rt: HostRuntime) {
+    match relay_on(rt.alloc(), relaying(rt.alloc())) {
+        Some(done) => {
+            assert!(rt; done.used > 41);
+            assert_eq!(rt; (done.burned, done.canister.balance), (500, 0));
+            assert_eq!(rt; (done.calls.items.len(), done.answers.items.len()), (1, 0));
+        }
+        None => panic!(rt; "not executed"),
     }
 }
 
