@@ -23,21 +23,21 @@ use Rattle.cd_codec.specs.ReadValue.{Budgeted, alone, then_make, opt_at, items_a
 use Rattle.cd_codec.proofs.PlainLaws.{counted_exact, principal_exact, func_exact, primitive_exact}
 
 -- the list that a list of values is made of
-items_in : Contents → List Content
+unfoldable pub items_in : Contents → List Content
 items_in no_content = []
 items_in (content v vs) = v ∷ items_in vs
 
-contents_in : (vs : Contents) → contents_of (items_in vs) ≡ vs
+pub contents_in : (vs : Contents) → contents_of (items_in vs) ≡ vs
 unfolding items_in
 contents_in no_content = refl
 contents_in (content v vs) = ap (content v) (contents_in vs)
 
 -- the list that the fields of a record are made of
-parts_in : Parts → List (ℕ × Content)
+unfoldable pub parts_in : Parts → List (ℕ × Content)
 parts_in no_part = []
 parts_in (part i v ps) = (i, v) ∷ parts_in ps
 
-parts_made : (ps : Parts) → parts_of (parts_in ps) ≡ ps
+pub parts_made : (ps : Parts) → parts_of (parts_in ps) ≡ ps
 unfolding parts_in
 parts_made no_part = refl
 parts_made (part i v ps) = ap (part i v) (parts_made ps)

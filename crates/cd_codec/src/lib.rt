@@ -18,7 +18,6 @@ pub mod laws;
 mod lists;
 mod plain;
 mod reading;
-mod room;
 mod value;
 mod writer;
 

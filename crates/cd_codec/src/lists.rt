@@ -1,13 +1,12 @@
 ghost use Rattle.std.specs.Prelude.{ℕ};
 ghost use Rattle.ic_base.specs.Gives.{Gives};
-ghost use Rattle.ic_base.specs.Reader.{many_at, vec_at};
+ghost use Rattle.ic_base.specs.Reader.{vec_at};
 ghost use Rattle.ic_leb.specs.declared.width.Width.TheVariants.{Candid};
 ghost use Rattle.ic_leb.specs.Reading.{unsigned_reader};
 ghost use Rattle.cd_codec.specs.ReadHeader.{few_at};
 
 use crate::plain::unsigned_of;
-use crate::room::room_claimed;
-use ic_base::{Item, ReadError};
+use ic_base::{Item, ReadError, many};
 use std::alloc::Global;
 
 /// Whether numbers of floats are admitted where a type is named.
@@ -19,24 +18,6 @@ pub struct Floats {
 /// How many entries a table, and how many arguments a message may have.
 const MAX_LISTED: u128 = 10_000;
 
-fn so_many<'a, T: Item<Floats>>(
-    alloc: Global,
-    floats: &Floats,
-    count: u128,
-    bytes: &'a [u8],
-) -> Result<(Vec<T>, &'a [u8]), ReadError>
-    ensures { Gives (λ x. (x.0.items, x.1.now)) result (many_at (T.reading floats.now) count bytes.now) }
-{
-    let mut items = Vec::with_capacity(alloc, room_claimed(count, bytes))?;
-    let mut rest = bytes;
-    for _ in 0..count {
-        let (item, after) = T::read(alloc, floats, rest)?;
-        items.push(item)?;
-        rest = after;
-    }
-    Ok((items, rest))
-}
-
 /// A list of any length. Memory is taken as the values are read, whatever the count claims.
 pub(crate) fn list_of<'a, T: Item<Floats>>(
     alloc: Global,
@@ -46,7 +27,7 @@ pub(crate) fn list_of<'a, T: Item<Floats>>(
     ensures { Gives (λ x. (x.0.items, x.1.now)) result (vec_at (unsigned_reader Candid) (T.reading floats.now) bytes.now) }
 {
     let (count, rest) = unsigned_of(bytes)?;
-    so_many(alloc, floats, count, rest)
+    many(alloc, floats, count, rest)
 }
 
 /// A list of at most 10,000 values.
@@ -62,5 +43,5 @@ pub(crate) fn short_list_of<'a, T: Item<Floats>>(
     if count > MAX_LISTED {
         return Err(ReadError::Refused);
     }
-    so_many(alloc, floats, count, rest)
+    many(alloc, floats, count, rest)
 }

@@ -11,10 +11,9 @@ ghost use Rattle.cd_codec.specs.ReadValue.{alone, opt_at, items_at, seq_at, each
 use crate::fault::ValueFault;
 use crate::header::Header;
 use crate::plain::{counted_of, func_of, primitive_of, principal_of, unsigned_of};
-use crate::room::{room_claimed, room_for};
 use crate::value::{Value, Values};
 use cd_types::{Entry, Prim, TyRef, TypeTable};
-use ic_base::ReadError;
+use ic_base::{ReadError, room_claimed, room_for};
 use std::alloc::Global;
 
 /// How deep the values of a message may nest: a value has nesting 1, and a part one more.

@@ -14,7 +14,8 @@ use Rattle.cd_types.specs.declared.entry.Entry.TheVariants.{Opt, Seq, Rec, Var, 
 use Rattle.cd_codec.specs.declared.value.Value.{Value}
 use Rattle.cd_codec.specs.View.{view, views}
 use Rattle.cd_tokens.specs.Lexed.{IsTokens, Agrees}
-use Rattle.cd_tokens.proofs.Streams.{one_list}
+use Rattle.cd_tokens.specs.ReadTokens.{tokens_of}
+use Rattle.cd_tokens.proofs.Streams.{one_list, tokens_take, tokens_again}
 use Rattle.std.proofs.lemmas.List.{append-nil, length-append, length-map, map_push}
 use Rattle.ic_base.specs.Reader.{◌>>=◌}
 use Rattle.ic_base.proofs.Steps.{bind_some, some_is}
@@ -24,6 +25,7 @@ use Rattle.cd_codec.specs.Content.{Content}
 use Rattle.cd_codec.specs.Measure.{number, number_each}
 use Rattle.cd_tokens.specs.Token.{Token, mark}
 use Rattle.cd_text.specs.Said.{SaysParts, Says}
+use Rattle.cd_text.specs.ReadText.{values_of}
 use Rattle.cd_text.specs.Whole.{SaysArgument, Said}
 use Rattle.cd_text.specs.Placed.{placed}
 use Rattle.cd_text.specs.ReadPlain.{is_mark, starts}
@@ -229,6 +231,30 @@ text_read table types values tokens text is s lexed =
 pub one_said : (table : List Entry) (types : List TyRef) (values others : List Content) (text : List ℕ) → IsTrue (is_table table) → Said table types values text → Said table types others text → values ≡ others
 one_said table types values others text is s t =
     some_is {A = List Content} values others (sym (text_read table types values (mark 40 ∷ s.tokens) text is s s.lexed) ∙ text_read table types others (mark 40 ∷ s.tokens) text is t s.lexed)
+
+-- ---- the values as a function
+
+pub values_take : (table : List Entry) (types : List TyRef) (values : List Content) (text : List ℕ) → IsTrue (is_table table) → values_of table types text ≡ Some values → Said table types values text
+unfolding values_of
+values_take table types values text is e = elim (true_or_false (is_utf8 text)) [
+  | inr bad ↦ let f : None ≡ Some values = rw bad at e in absurd cc
+  | inl utf8 ↦
+      let f : (tokens_of false text >>= arguments_at table types) ≡ Some values = rw utf8 at e in
+      let a = bind_some (tokens_of false text) (arguments_at table types) values f in
+      text_found table types values a.0 text is utf8 (tokens_take false text a.0 a.1) a.2
+]
+
+pub values_again : (table : List Entry) (types : List TyRef) (values : List Content) (text : List ℕ) → IsTrue (is_table table) → Said table types values text → values_of table types text ≡ Some values
+unfolding values_of
+values_again table types values text is s =
+    rw (s.utf8, tokens_again false text (mark 40 ∷ s.tokens) s.lexed) (text_read table types values (mark 40 ∷ s.tokens) text is s s.lexed)
+
+pub values_none : (table : List Entry) (types : List TyRef) (text : List ℕ) → IsTrue (is_table table) → ((values : List Content) → Said table types values text → ⊥) → values_of table types text ≡ None
+values_none table types text is none = go (values_of table types text) refl
+  where
+    go : (read : Option (List Content)) → values_of table types text ≡ read → read ≡ None
+    go None e = refl
+    go (Some values) e = absurd (none values (values_take table types values text is e))
 
 none_some : {A : Type 0} (x : A) (read : Option A) → read ≡ None → read ≡ Some x → ⊥
 none_some x read e f = cc

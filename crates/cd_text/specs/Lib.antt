@@ -9,3 +9,5 @@ pub mod ReadPlain
 pub mod ReadSaid
 pub mod Placed
 pub mod ReadsText
+pub mod ReadText
+pub mod HoldsBytes

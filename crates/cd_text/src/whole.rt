@@ -1,6 +1,7 @@
 ghost use Rattle.std.specs.Prelude.{◌≡◌, ◌==◌, ◌&&◌, List, IfOk, length};
 ghost use Rattle.std.specs.Str.{is_utf8};
 ghost use Rattle.ic_base.specs.Gives.{Gives};
+ghost use Rattle.cd_codec.specs.AreValues.{HasTypes};
 ghost use Rattle.cd_codec.specs.Answers.{contents};
 ghost use Rattle.cd_codec.specs.Content.{Content};
 ghost use Rattle.cd_codec.specs.View.{view, views};
@@ -120,8 +121,10 @@ fn said_by(
 ) -> Result<Vec<Value>, ReadError>
     ensures found { IfOk result (λ values. Said table.now types.now (views values.items) text.now) }
     ensures only { (values : List Content) → Said table.now types.now values text.now → Agrees (λ vs. views vs.items) result values }
+    ensures typed { IfOk result (λ values. HasTypes table.now types.now (views values.items)) }
 {
     let _entries = table.len();
+    let _bytes = text.len();
     if !is_utf8(text) {
         return Err(ReadError::Refused);
     }
@@ -137,6 +140,8 @@ pub fn read(alloc: Global, expected: &Expected, text: &[u8]) -> Result<Values, T
     ensures found { IfOk result (λ values. Said expected.now.0 expected.now.1 (contents values) text.now) }
     // What the text says is read, unless memory runs out; so with a `NotText` it says no values.
     ensures only { (values : List Content) → Said expected.now.0 expected.now.1 values text.now → ReadsText result values }
+    // What is read has the expected types.
+    ensures typed { IfOk result (λ values. HasTypes expected.now.0 expected.now.1 (contents values)) }
 {
     match said_by(alloc, expected.table(), expected.types(), text) {
         Ok(items) => Ok(Values { items }),

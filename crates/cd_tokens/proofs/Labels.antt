@@ -21,7 +21,7 @@ use Rattle.cd_tokens.proofs.Strings.{unescaped_again, unescaped_takes, number_be
 word_is_ascii : (b : ℕ) → is_word_byte b ≡ true → b < 128
 word_is_ascii b h = grind (arith, h)
 
-words_are_ascii : (bytes : List ℕ) → list_all is_word_byte bytes ≡ true → IsAscii bytes
+pub words_are_ascii : (bytes : List ℕ) → list_all is_word_byte bytes ≡ true → IsAscii bytes
 words_are_ascii [] all i = omega arith
 words_are_ascii (b ∷ bytes) all zero = word_is_ascii b (both (is_word_byte b) (list_all is_word_byte bytes) all).0
 words_are_ascii (b ∷ bytes) all (suc i) = words_are_ascii bytes (both (is_word_byte b) (list_all is_word_byte bytes) all).1 i

@@ -1,17 +1,19 @@
 -- The tokens of a text, one after the other.
-use Rattle.std.proofs.Common.{◌≡◌, ℕ, ◌+◌, ◌<◌, Bool, true, List, [], ◌∷◌, ◌++◌, length, Option, Some, None, refl, sym, ap, ◌∙◌, append_assoc, inl, inr, subst, arith}
+use Rattle.std.proofs.Common.{◌≡◌, ℕ, zero, suc, ◌+◌, ◌<◌, Bool, true, List, [], ◌∷◌, ◌++◌, length, Option, Some, None, refl, sym, ap, ◌∙◌, append_assoc, inl, inr, subst, arith}
 use Rattle.std.specs.Prelude.{Err}
 use Rattle.std.proofs.lemmas.List.{append-nil, length-append, nil_from_length}
 use Rattle.ic_base.specs.declared.read_error.ReadError.{ReadError}
 use Rattle.ic_base.specs.declared.read_error.ReadError.TheVariants.{NoMemory, Refused}
 use Rattle.ic_base.specs.Gives.{Fails}
 use Rattle.ic_base.specs.Spelling.{SpellsMany}
-use Rattle.ic_base.proofs.Steps.{some_is}
+use Rattle.ic_base.proofs.Steps.{bind_some, some_is}
+use Rattle.ic_base.specs.Reader.{◌>>=◌}
 use Rattle.cd_tokens.specs.Token.{Token, IsToken, IsEnded}
 use Rattle.cd_tokens.specs.Gap.{Piece, IsPiece, IsGap}
 use Rattle.cd_tokens.specs.Lexed.{IsTokens, Agrees}
 use Rattle.cd_tokens.specs.ReadGap.{past_gap}
 use Rattle.cd_tokens.specs.ReadToken.{token_at}
+use Rattle.cd_tokens.specs.ReadTokens.{tokens_from, tokens_of}
 use Rattle.cd_tokens.proofs.Gaps.{is_clear, clear_stays, gap_again, last_again, gap, all, gap_takes}
 use Rattle.cd_tokens.proofs.Firsts.{token_again, token_takes, token_clear, some_byte}
 
@@ -46,7 +48,7 @@ pieces_both comments (p ∷ ps) qs front back are others =
 gap_both : (comments : Bool) (front back : List ℕ) → IsGap comments front → IsGap comments back → IsGap comments (front ++ back)
 gap_both comments front back a b = (a.0 ++ b.0, pieces_both comments a.0 b.0 front back a.1 b.1)
 
-gap_before : (comments : Bool) (tokens : List Token) (text front rest : List ℕ) → text ≡ front ++ rest → IsGap comments front → IsTokens comments tokens rest → IsTokens comments tokens text
+pub gap_before : (comments : Bool) (tokens : List Token) (text front rest : List ℕ) → text ≡ front ++ rest → IsGap comments front → IsTokens comments tokens rest → IsTokens comments tokens text
 gap_before comments [] text front rest e is last = elim last [
   | inl is_gap ↦ inl (subst (IsGap comments) (sym e) (gap_both comments front rest is is_gap))
   | inr h ↦ inr (front ++ h.0, h.1, h.2, e ∙ ap (λ xs. front ++ xs) h.3 ∙ sym (append_assoc front h.0 (47 ∷ 47 ∷ h.1)), gap_both comments front h.0 is h.4, h.5)
@@ -208,3 +210,38 @@ one_list comments (t ∷ tokens) others text is are =
     let firsts : t ≡ f.first = ap (λ (z : Token × List ℕ). z.0) same in
     let rests : is.rest ≡ f.rest = ap (λ (z : Token × List ℕ). z.1) same in
     ap (λ (x : Token). x ∷ tokens) firsts ∙ ap (λ (xs : List Token). f.first ∷ xs) (one_list comments tokens f.more is.rest is.follows (subst (IsTokens comments f.more) (sym rests) f.follows)) ∙ sym f.are
+
+-- ---- the tokens as a function
+
+from_takes : (comments : Bool) (fuel : ℕ) (text : List ℕ) (tokens : List Token) → tokens_from comments fuel text ≡ Some tokens → IsTokens comments tokens text
+unfolding tokens_from
+from_takes comments zero text tokens e = absurd cc
+from_takes comments (suc fuel) [] tokens e = subst (λ ts. IsTokens comments ts []) (some_is {A = List Token} [] tokens e) (inl ([], refl))
+from_takes comments (suc fuel) (b ∷ bytes) tokens e =
+    let a = bind_some (token_at (b ∷ bytes)) (λ x. past_gap comments x.1 >>= λ rest. tokens_from comments fuel rest >>= λ ts. Some (x.0 ∷ ts)) tokens e in
+    let p = bind_some (past_gap comments a.0.1) (λ rest. tokens_from comments fuel rest >>= λ ts. Some (a.0.0 ∷ ts)) tokens a.2 in
+    let m = bind_some (tokens_from comments fuel p.0) (λ ts. Some (a.0.0 ∷ ts)) tokens p.2 in
+    subst (λ ts. IsTokens comments ts (b ∷ bytes)) (some_is {A = List Token} (a.0.0 ∷ m.0) tokens m.2)
+    (one_before comments a.0.0 m.0 (b ∷ bytes) a.0.1 a.1 (before comments m.0 a.0.1 p.0 p.1 (from_takes comments fuel p.0 m.0 m.1)))
+
+from_again : (comments : Bool) (fuel : ℕ) (text : List ℕ) (tokens : List Token) → is_clear comments text ≡ true → length text < fuel → IsTokens comments tokens text → tokens_from comments fuel text ≡ Some tokens
+unfolding tokens_from
+from_again comments zero text tokens clear enough is = absurd (omega (arith, enough))
+from_again comments (suc fuel) [] tokens clear enough is = ap (λ ts. Some ts) (sym (only_empty comments tokens is))
+from_again comments (suc fuel) (b ∷ bytes) tokens clear enough is =
+    let f = first_of comments tokens (b ∷ bytes) clear (omega arith) is in
+    let p = past comments f.more f.rest f.follows in
+    let less = shorter comments (b ∷ bytes) f.first f.rest p.rest f.read p.passed in
+    rw (f.read, p.passed, from_again comments fuel p.rest f.more p.clear (omega (arith, less, enough)) p.tokens_are) (ap (λ ts. Some ts) (sym f.are))
+
+pub tokens_take : (comments : Bool) (text : List ℕ) (tokens : List Token) → tokens_of comments text ≡ Some tokens → IsTokens comments tokens text
+unfolding tokens_of
+tokens_take comments text tokens e =
+    let a = bind_some (past_gap comments text) (λ rest. tokens_from comments (suc (length rest)) rest) tokens e in
+    before comments tokens text a.0 a.1 (from_takes comments (suc (length a.0)) a.0 tokens a.2)
+
+pub tokens_again : (comments : Bool) (text : List ℕ) (tokens : List Token) → IsTokens comments tokens text → tokens_of comments text ≡ Some tokens
+unfolding tokens_of
+tokens_again comments text tokens is =
+    let p = past comments tokens text is in
+    rw p.passed (from_again comments (suc (length p.rest)) p.rest tokens p.clear (omega arith) p.tokens_are)

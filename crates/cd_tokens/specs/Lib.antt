@@ -4,6 +4,7 @@ pub mod Gap
 pub mod Lexed
 pub mod ReadGap
 pub mod ReadToken
+pub mod ReadTokens
 pub mod View
 pub mod Numeral
 pub mod ReadNumeral

@@ -8,12 +8,18 @@ ghost use Rattle.cd_tokens.specs.Numeral.{IsNatural, IsInteger};
 ghost use Rattle.cd_tokens.specs.ReadLabel.{text_of, name_of, label_of};
 ghost use Rattle.cd_tokens.specs.ReadNumeral.{natural_of, integer_of};
 ghost use Rattle.cd_tokens.specs.ReadString.{unescaped_of};
+ghost use Rattle.cd_tokens.specs.ReadTokens.{tokens_of};
 ghost use Rattle.cd_tokens.specs.Token.{Token};
 ghost use Rattle.cd_tokens.specs.Unescaped.{Unescaped};
 
 /// A text has one list of tokens at most.
 pub fn one_list()
     ensures { (comments : Bool) (tokens others : List Token) (text : List ℕ) → IsTokens comments tokens text → IsTokens comments others text → tokens ≡ others }
+{}
+
+/// The function that reads tokens (`specs/ReadTokens`) reads the tokens of a text, and nothing else.
+pub fn tokens_read()
+    ensures { (comments : Bool) (tokens : List Token) (text : List ℕ) → (tokens_of comments text ≡ Some tokens) ↔ IsTokens comments tokens text }
 {}
 
 /// The functions that read numbers (`specs/ReadNumeral`) read what a token says, and nothing else.

@@ -3,6 +3,7 @@ ghost use Rattle.ic_base.specs.Gives.{Gives};
 ghost use Rattle.ic_base.specs.Reader.{many_at};
 
 use crate::read_error::ReadError;
+use crate::room::room_claimed;
 use std::alloc::Global;
 
 /// A value that stands in the lists of a binary format. `context` is what its reading depends on,
@@ -23,12 +24,12 @@ pub trait Item<C>: Drop {
 pub fn many<'a, C, T: Item<C>>(
     alloc: Global,
     context: &C,
-    count: u64,
+    count: u128,
     bytes: &'a [u8],
 ) -> Result<(Vec<T>, &'a [u8]), ReadError>
     ensures { Gives (λ x. (x.0.items, x.1.now)) result (many_at (T.reading context.now) count bytes.now) }
 {
-    let mut items = Vec::new(alloc);
+    let mut items = Vec::with_capacity(alloc, room_claimed(count, bytes))?;
     let mut rest = bytes;
     for _ in 0..count {
         let (item, after) = T::read(alloc, context, rest)?;

@@ -10,11 +10,13 @@
 mod item;
 mod no_memory;
 mod read_error;
+mod room;
 mod stack;
 
 pub use item::{Item, many};
 pub use no_memory::NoMemory;
 pub use read_error::ReadError;
+pub use room::{room_claimed, room_for};
 pub use stack::Stack;
 
 #[cfg(test)]

@@ -57,7 +57,7 @@ fn many_of_a_type(rt: HostRuntime) -> Result<(), Fail> {
         .ok_or("two bytes below 9 stand in front")?;
     assert_eq!(rt; items.as_slice(), &bytes[..2]);
     assert_eq!(rt; rest, &bytes[2..]);
-    for (limit, count) in [(9, 3), (10, 5), (10, u64::MAX)] {
+    for (limit, count) in [(9, 3), (10, 5), (10, u128::MAX)] {
         let refused = matches!(
             many::<u8, u8>(rt.alloc(), &limit, count, &bytes),
             Err(ReadError::Refused)

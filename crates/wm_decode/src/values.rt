@@ -72,5 +72,5 @@ pub(crate) fn list<'a, C, T: Item<C>>(
     ensures { Gives (λ x. (x.0.items, x.1.now)) result (list_at (T.reading context.now) bytes.now) }
 {
     let (count, rest) = number(bytes)?;
-    many(alloc, context, count as u64, rest)
+    many(alloc, context, count as u128, rest)
 }

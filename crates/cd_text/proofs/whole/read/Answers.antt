@@ -1,4 +1,4 @@
-use Rattle.std.proofs.Common.{◌∙◌}
+use Rattle.std.proofs.Common.{◌∙◌, sym}
 use Rattle.cd_codec.proofs.Views.{contents_made}
 use Rattle.cd_text.proofs.whole.read.Goals as goal
 
@@ -7,3 +7,6 @@ returns-in-Ok-clause-only c = λ values s. contents_made c.in-Ok.items ∙ c.in-
 
 pub returns-in-Err-Refused-clause-only : goal.returns-in-Err-Refused-clause-only
 returns-in-Err-Refused-clause-only c = λ values s. rw c.in-Err-Refused.field-0-is at (c.in-Err-Refused.ensures.only values (rw (c.table.ensures, c.types.ensures.value) s))
+
+pub returns-in-Ok-clause-typed : goal.returns-in-Ok-clause-typed
+returns-in-Ok-clause-typed c = rw (sym c.table.ensures, sym c.types.ensures.value, contents_made c.in-Ok.items) c.in-Ok.ensures.typed

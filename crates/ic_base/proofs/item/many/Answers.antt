@@ -4,7 +4,7 @@ use Rattle.ic_base.proofs.item.many.Goals as goal
 
 pub returns-in_err-item : goal.returns-in_err-item
 returns-in_err-item g c =
-    let p = err_from_is_err_and c.from_residual.result c.from_residual.ensures.1 in
+    let p = err_from_is_err_and c.from_residual-in_err-item.result c.from_residual-in_err-item.ensures.1 in
     rw (p.1, p.2) (ends c.in_err-item.field-0.0 (g.T.Item.reading c.args.context.now) c.loop.items.items c.args.count c.loop.counter c.loop.rest.now _ c.loop-test.true c.in_err-item.ensures c.loop.invariant)
 
 pub loop-preserved : goal.loop-preserved

@@ -4,8 +4,8 @@ ghost use Rattle.std.specs.Prelude.{◌≤◌};
 /// are read: so a count that is claimed takes little memory by itself, however deep lists nest.
 const MOST_ROOM: usize = 64;
 
-/// For how many of so many items room is made.
-pub(crate) fn room_for(count: usize) -> usize
+/// For how many of `count` items room is made before the first is read: at most 64.
+pub fn room_for(count: usize) -> usize
     ensures few { result ≤ 64 }
     ensures needed { result ≤ count }
 {
@@ -13,7 +13,7 @@ pub(crate) fn room_for(count: usize) -> usize
 }
 
 /// The same for a list that claims a count, of which each item but a few kinds takes a byte or more.
-pub(crate) fn room_claimed(count: u128, bytes: &[u8]) -> usize
+pub fn room_claimed(count: u128, bytes: &[u8]) -> usize
     ensures { result ≤ 64 }
 {
     if count < bytes.len() as u128 {

@@ -1,0 +1,62 @@
+use ic_base::NoMemory;
+use ic_leb::write_u;
+use std::alloc::Global;
+
+// The magic bytes, one function type, and one function of it.
+const MAGIC: [u8; 8] = [0x00, 0x61, 0x73, 0x6D, 0x01, 0x00, 0x00, 0x00];
+
+pub const TYPE: [u8; 6] = [0x01, 0x04, 0x01, 0x60, 0x00, 0x00];
+
+pub const FUNCTION: [u8; 4] = [0x03, 0x02, 0x01, 0x00];
+
+/// The parts, one behind the other.
+pub fn joined(alloc: Global, parts: &[&[u8]]) -> Result<Vec<u8>, NoMemory> {
+    let mut bytes = Vec::new(alloc);
+    for part in parts {
+        bytes.extend_from_slice(part)?;
+    }
+    Ok(bytes)
+}
+
+/// The parts behind the magic bytes.
+pub fn module_of(alloc: Global, parts: &[&[u8]]) -> Result<Vec<u8>, NoMemory> {
+    let behind = joined(alloc, parts)?;
+    joined(alloc, &[&MAGIC, &behind])
+}
+
+/// The bytes behind these and their number.
+fn sized(alloc: Global, front: &[u8], content: &[u8]) -> Result<Vec<u8>, NoMemory> {
+    let mut size = Vec::new(alloc);
+    write_u(content.len() as u128, &mut size)?;
+    joined(alloc, &[front, &size, content])
+}
+
+/// A module with one function that has this code, behind its size.
+pub fn with_code(alloc: Global, code: &[u8]) -> Result<Vec<u8>, NoMemory> {
+    let codes = sized(alloc, &[0x01], code)?;
+    let section = sized(alloc, &[0x0A], &codes)?;
+    module_of(alloc, &[&TYPE, &FUNCTION, &section])
+}
+
+/// A module with one function, which has no locals and these words and an end for its body.
+pub fn with_body(alloc: Global, words: &[u8]) -> Result<Vec<u8>, NoMemory> {
+    let code = joined(alloc, &[b"\x00", words, b"\x0B"])?;
+    with_code(alloc, &code)
+}
+
+/// A module with one function, in which this instruction stands alone.
+pub fn with_instruction(alloc: Global, opcode: u8, operands: &[u8]) -> Result<Vec<u8>, NoMemory> {
+    let words = joined(alloc, &[&[opcode], operands])?;
+    with_body(alloc, &words)
+}
+
+/// A function's code with so many blocks, each in the one before.
+pub fn nested_blocks(alloc: Global, depth: usize) -> Result<Vec<u8>, NoMemory> {
+    let begins = b"\x02\x40".repeat(alloc, depth)?;
+    let ends = b"\x0B".repeat(alloc, depth)?;
+    joined(alloc, &[b"\x00", &begins, &ends, b"\x0B"])
+}
+
+pub fn zeros(alloc: Global, length: usize) -> Result<Vec<u8>, NoMemory> {
+    Ok(b"\x00".repeat(alloc, length)?)
+}

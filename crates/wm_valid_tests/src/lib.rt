@@ -1,0 +1,12 @@
+//! Tests that cross the crates for WebAssembly modules: modules are given as bytes, read and
+//! validated. It declares nothing.
+#![tactic(auto)]
+
+#[cfg(test)]
+mod bytes;
+#[cfg(test)]
+mod comparing;
+#[cfg(test)]
+mod tables;
+#[cfg(test)]
+mod tests;
