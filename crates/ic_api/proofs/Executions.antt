@@ -1,5 +1,5 @@
 -- What a run keeps, its effects keep, whatever code it ran.
-use Rattle.std.proofs.Common.{◌≡◌, ℕ, Option, Some, None, refl, subst, ap, arith}
+use Rattle.std.proofs.Common.{◌≡◌, ℕ, false, [], Option, Some, None, refl, subst, ap, arith}
 use Rattle.std.proofs.lemmas.Option.{none-some}
 use Rattle.wm_store.specs.Lists.{Lists}
 use Rattle.wm_semantics.specs.declared.target.Target.{Target}
@@ -17,6 +17,8 @@ use Rattle.ic_behaviour.specs.declared.execution.Effects.{Effects}
 use Rattle.ic_behaviour.specs.State.{Code}
 use Rattle.ic_behaviour.specs.Outcomes.{Outcome, Returns, Traps}
 use Rattle.ic_behaviour.specs.Entry.{outcome_of, enters_by}
+use Rattle.ic_behaviour.specs.Installing.{enters_after}
+use Rattle.ic_api.specs.Kinds.{may_call}
 use Rattle.ic_api.specs.Calling.{begun_cycles}
 use Rattle.ic_api.specs.Running.{Running, starting, api_reply}
 use Rattle.ic_api.specs.Effects.{effects_of}
@@ -47,9 +49,9 @@ ended_fine kind view Returned h s used kept = executed kind view h kept
 ended_fine kind view (Trapped cause) h s used kept = tt
 
 entered_fine : (kind : EntryKind) (view : View) (o : Option (run.Outcome Running)) → ((p : run.Outcome Running) → o ≡ Some p → RunKept (starting kind view) p.host)
-    → Fine kind view (outcome_of system_api (entered_or 0 o))
-entered_fine kind view None kept = tt
-entered_fine kind view (Some p) kept = ended_fine kind view p.ended p.host p.store p.used (kept p refl)
+    → (spent : ℕ) → Fine kind view (outcome_of system_api (entered_or spent o))
+entered_fine kind view None kept spent = tt
+entered_fine kind view (Some p) kept spent = ended_fine kind view p.ended p.host p.store p.used (kept p refl)
 
 always_kept : (limit : ℕ) → IsAlwaysKept (answers_of api_reply) limit run_kept
 always_kept limit = record {
@@ -59,10 +61,20 @@ always_kept limit = record {
   told = λ h import args s used. answer_kept h import args s limit used;
 }
 
+entered_after : (code : Code) (s : Lists) (target : Target) (kind : EntryKind) (view : View) (limit spent : ℕ) (t : Lists) (e : Effects) (used : ℕ)
+    → enters_after system_api code s target kind view limit spent ≡ Returns t e used → Executed kind view e
+unfolding enters_after entry
+entered_after code s target kind view limit spent t e used is =
+    let h = starting kind view in
+    subst (Fine kind view) is (entered_fine kind view (invoked api_reply code.«module» limit h s spent target)
+    (λ p invokes. invokes_kept (answers_of api_reply) limit run_kept (always_kept limit) code.«module» h s spent target p (fuel_invokes api_reply code.«module» limit h s spent target p invokes)) spent)
+
 pub entered : (code : Code) (s : Lists) (target : Target) (kind : EntryKind) (view : View) (limit : ℕ) (t : Lists) (e : Effects) (used : ℕ)
     → enters_by system_api code s target kind view limit ≡ Returns t e used → Executed kind view e
-unfolding enters_by entry
-entered code s target kind view limit t e used is =
-    let h = starting kind view in
-    subst (Fine kind view) is (entered_fine kind view (invoked api_reply code.«module» limit h s 0 target) (λ p invokes.
-    invokes_kept (answers_of api_reply) limit run_kept (always_kept limit) code.«module» h s 0 target p (fuel_invokes api_reply code.«module» limit h s 0 target p invokes)))
+unfolding enters_by enters_after
+entered code s target kind view limit t e used is = entered_after code s target kind view limit 0 t e used is
+
+-- what may not call leaves the balance, and calls nobody
+pub quiet : (code : Code) (s : Lists) (target : Target) (kind : EntryKind) (view : View) (limit spent : ℕ) (t : Lists) (e : Effects) (used : ℕ)
+    → may_call kind ≡ false → enters_after system_api code s target kind view limit spent ≡ Returns t e used → (e.balance ≡ view.balance) × (e.calls ≡ [])
+quiet code s target kind view limit spent t e used silent is = (entered_after code s target kind view limit spent t e used is).quiet silent

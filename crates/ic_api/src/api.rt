@@ -18,9 +18,10 @@ use wm_valid::system_api::SystemCall;
 /// record.
 #[derive(Debug, Drop)]
 pub struct Api {
-    alloc: Global,
-    kind: EntryKind,
+    // Large, and first, so that no gap stands before it where it is moved.
     es: Execution,
+    kind: EntryKind,
+    alloc: Global,
 }
 
 impl Model for Api {
@@ -69,9 +70,9 @@ impl Api {
         ensures outstanding { self.es.view.outstanding + length result.calls ≤ 500 }
         ensures numbers { self.es.view.next_call + length result.calls < 2 ^ 64 }
     {
-        let Api { es, .. } = self;
-        let mut es = es;
-        es.abandon();
+        let mut api = self;
+        api.es.abandon();
+        let Api { es, .. } = api;
         let Execution {
             view,
             answer,

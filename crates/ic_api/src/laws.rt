@@ -1,6 +1,6 @@
 //! What holds of the host and of executions: each function does nothing, and its contract is the law.
 
-ghost use Rattle.std.specs.Prelude.{◌≡◌, ℕ, List};
+ghost use Rattle.std.specs.Prelude.{◌≡◌, ℕ, false, List, []};
 ghost use Rattle.wm_store.specs.Lists.{Lists};
 ghost use Rattle.wm_semantics.specs.declared.target.Target.{Target as ATarget};
 ghost use Rattle.wm_semantics.specs.Fuel.{IsFunctional, AgreesWith, Rises};
@@ -10,6 +10,8 @@ ghost use Rattle.ic_behaviour.specs.declared.execution.Effects.{Effects as SomeE
 ghost use Rattle.ic_behaviour.specs.State.{Code as SomeCode};
 ghost use Rattle.ic_behaviour.specs.Outcomes.{Returns};
 ghost use Rattle.ic_behaviour.specs.Entry.{enters_by};
+ghost use Rattle.ic_behaviour.specs.Installing.{enters_after};
+ghost use Rattle.ic_api.specs.Kinds.{may_call};
 ghost use Rattle.ic_api.specs.Running.{Running, starting, api_reply, Meets};
 ghost use Rattle.ic_api.specs.Effects.{effects_of};
 ghost use Rattle.ic_api.specs.Kept.{RunKept};
@@ -38,4 +40,12 @@ pub fn executions_keep()
 pub fn entries_are_lawful()
     ensures { (code : SomeCode) (s : Lists) (target : ATarget) (kind : AKind) (view : AView) (limit : ℕ) (t : Lists) (e : SomeEffects) (used : ℕ)
         → enters_by system_api code s target kind view limit ≡ Returns t e used → Executed kind view e }
+{}
+
+/// What may make no call, as the entry points of an installation and the start function, leaves the
+/// balance, however much was used before: so nothing is lost where an installation keeps the store and
+/// the certified data alone.
+pub fn installations_are_quiet()
+    ensures { (code : SomeCode) (s : Lists) (target : ATarget) (kind : AKind) (view : AView) (limit spent : ℕ) (t : Lists) (e : SomeEffects) (used : ℕ)
+        → may_call kind ≡ false → enters_after system_api code s target kind view limit spent ≡ Returns t e used → (e.balance ≡ view.balance) × (e.calls ≡ []) }
 {}

@@ -25,4 +25,6 @@ pub use api::Api;
 pub use ic_behaviour::{
     Callback, Controllers, Effects, EntryKind, OutCall, OutCalls, Response, View,
 };
-pub use laws::{entries_are_lawful, executions_keep, host_is_function, replies_keep};
+pub use laws::{
+    entries_are_lawful, executions_keep, host_is_function, installations_are_quiet, replies_keep,
+};

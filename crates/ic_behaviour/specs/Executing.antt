@@ -151,15 +151,15 @@ abbrev pub cleaned : CountedCanister → CallId → Trap → ℕ → Outcome →
 cleaned c own cause used (Returns store e more) = trapped_with c own store cause (used + more)
 cleaned c own cause used (Traps other more) = trapped_with c own c.store cause (used + more)
 
--- the cleanup runs on the state before the callback, and may use all instructions again
-abbrev pub cleaned_up : Enters → Env → CountedCanister → CallId → View → Code → Trap → ℕ → Option (ℕ × ℕ) → Work
-cleaned_up enters env c own v code cause used None = trapped_with c own c.store cause used
-cleaned_up enters env c own v code cause used (Some target) =
-    cleaned c own cause used (enters code c.store (Element target.0 target.1) kind.Cleanup v env.limit)
+-- the cleanup runs on the state before the callback, sees nothing of the answer, and may use all instructions again
+abbrev pub cleaned_up : Enters → Env → CountedCanister → CallId → Context → Code → Trap → ℕ → Option (ℕ × ℕ) → Work
+cleaned_up enters env c own x code cause used None = trapped_with c own c.store cause used
+cleaned_up enters env c own x code cause used (Some target) =
+    cleaned c own cause used (enters code c.store (Element target.0 target.1) kind.Cleanup (view env c x) env.limit)
 
-abbrev pub called_back : Enters → Env → CountedCanister → CallId → Context → View → Code → Option (ℕ × ℕ) → Outcome → Work
-called_back enters env c own x v code cleanup (Returns store e used) = returned c own x store e used
-called_back enters env c own x v code cleanup (Traps cause used) = cleaned_up enters env c own v code cause used cleanup
+abbrev pub called_back : Enters → Env → CountedCanister → CallId → Context → Code → Option (ℕ × ℕ) → Outcome → Work
+called_back enters env c own x code cleanup (Returns store e used) = returned c own x store e used
+called_back enters env c own x code cleanup (Traps cause used) = cleaned_up enters env c own x code cause used cleanup
 
 abbrev pub kind_of : Response → EntryKind
 kind_of (response.Reply arg) = kind.Reply
@@ -171,5 +171,5 @@ target_of callback (response.Reject code message) = Element callback.reject_fun 
 
 abbrev pub answered_with : Enters → Env → CountedCanister → CallId → Callback → Response → Context → View → Code → Work
 answered_with enters env c own callback response x v code =
-    called_back enters env c own x v code callback.cleanup
+    called_back enters env c own x code callback.cleanup
     (enters code c.store (target_of callback response) (kind_of response) v env.limit)

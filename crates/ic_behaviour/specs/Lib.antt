@@ -8,6 +8,8 @@ pub mod Texts
 pub mod Outcomes
 pub mod Entry
 pub mod Executing
+pub mod Views
+pub mod Installing
 pub mod Closing
 pub mod Local
 pub mod Deliver

@@ -39,6 +39,7 @@ fn response_for(
 }
 
 // Gives an answer.
+#[inline(always)]
 fn push(answers: &mut AnsweredList, answer: Answered) -> Result<(), NoMemory>
     ensures { OnOk result (answers.new ≡ answers.old ++ answer ∷ []) }
 {

@@ -1,6 +1,6 @@
 -- A callback that runs for an answer, and its cleanup.
-use Rattle.std.proofs.Common.{◌≡◌, ℕ, ◌+◌, ◌<◌, ◌≤◌, ◌^◌, true, [], Option, Some, None, Result, Ok, Err, IfOk, sym, ap, ap₂, ◌∙◌, subst, arith}
-use Rattle.std.specs.Option.{option_map, IfSome}
+use Rattle.std.proofs.Common.{◌≡◌, ℕ, ◌+◌, true, [], Option, Some, None, Result, Ok, Err, IfOk, refl, ap, ap₂, ◌∙◌, arith}
+use Rattle.std.specs.Option.{option_map}
 use Rattle.wm_store.specs.Lists.{Lists}
 use Rattle.wm_store.specs.Held.{Held}
 use Rattle.wm_semantics.specs.declared.trap.Trap.{Trap}
@@ -24,50 +24,42 @@ use Rattle.ic_state.specs.declared.canister.Canister.{Canister}
 use Rattle.ic_state.specs.declared.canister.Code.{Code as StoredCode}
 use Rattle.ic_state.specs.Seen.{seen, code_of}
 use Rattle.ic_api.specs.System.{system_api}
-use Rattle.ic_exec.specs.declared.answers.Cleanup.{Cleanup}
 use Rattle.ic_exec.specs.declared.entering.Entered.{Entered}
 use Rattle.ic_exec.specs.declared.work.Work.{Work as StoredWork}
 use Rattle.ic_exec.specs.Executed.{work_of}
 use Rattle.ic_exec.specs.Entered.{told, store_after}
-use Rattle.ic_exec.specs.Cleanups.{cleanup_for, cleaned_by, after_cleanup}
+use Rattle.ic_exec.specs.Cleanups.{cleaned_by, after_cleanup}
 
--- a cleanup sees what its callback saw
-pub cleanup_sees : (o : Option (ℕ × ℕ)) (v : View) (cleanup : Option Cleanup) → cleanup ≡ cleanup_for o v → v.balance + v.available < 2 ^ 127 → v.outstanding ≤ 500
-    → IfSome cleanup (λ c. (c.view.balance + c.view.available < 2 ^ 127) × (c.view.outstanding ≤ 500))
-cleanup_sees o v cleanup e few calls = subst (λ c. IfSome c (λ (d : Cleanup). (d.view.balance + d.view.available < 2 ^ 127) × (d.view.outstanding ≤ 500))) (sym e) (by o) where
-  by : (o : Option (ℕ × ℕ)) → IfSome (cleanup_for o v) (λ (d : Cleanup). (d.view.balance + d.view.available < 2 ^ 127) × (d.view.outstanding ≤ 500))
-  by None = tt
-  by (Some target) = (few, calls)
+-- what traps leaves the store as it was
+stays : (s : Lists) (o : Outcome) (t : Entered) (cause : Trap) → t ≡ told o → t.ended ≡ Err cause → store_after true s o ≡ s
+stays s (Returns store e used) t cause is err = absurd cc
+stays s (Traps other used) t cause is err = refl
 
-module _ (enters : Enters) (env : Env) (c : CountedCanister) (own : CallId) (x : Context) (v : View) (code : Code) where
+module _ (enters : Enters) (env : Env) (c : CountedCanister) (own : CallId) (x : Context) (code : Code) where
   returned_back : (cleanup : Option (ℕ × ℕ)) (o : Outcome) (t : Entered) (e : Effects) (s : Lists) → t ≡ told o → t.ended ≡ Ok e → s ≡ store_after true c.store o
-      → returned c own x s e t.used ≡ called_back enters env c own x v code cleanup o
+      → returned c own x s e t.used ≡ called_back enters env c own x code cleanup o
   returned_back cleanup (Returns store f used) t e s is ok kept =
       let same : e ≡ f = cc in
       let n : t.used ≡ used = cc in
       λ i. returned c own x (kept i) (same i) (n i)
   returned_back cleanup (Traps cause used) t e s is ok kept = absurd cc
 
-  cleaned_is : (cause : Trap) (used more : ℕ) (o : Outcome) (s left : Lists) → s ≡ c.store → (left, more) ≡ cleaned_by s o → trapped_with c own left cause (used + more) ≡ cleaned c own cause used o
-  cleaned_is cause used more (Returns store e n) s left same is = ap (λ (p : Lists × ℕ). trapped_with c own p.0 cause (used + p.1)) is
-  cleaned_is cause used more (Traps other n) s left same is =
-      ap (λ (p : Lists × ℕ). trapped_with c own p.0 cause (used + p.1)) is ∙ ap (λ l. trapped_with c own l cause (used + n)) same
+  cleaned_is : (cause : Trap) (used more : ℕ) (o : Outcome) (left : Lists) → (left, more) ≡ cleaned_by c.store o → trapped_with c own left cause (used + more) ≡ cleaned c own cause used o
+  cleaned_is cause used more (Returns store e n) left is = ap (λ (p : Lists × ℕ). trapped_with c own p.0 cause (used + p.1)) is
+  cleaned_is cause used more (Traps other n) left is = ap (λ (p : Lists × ℕ). trapped_with c own p.0 cause (used + p.1)) is
 
-  cleaned_up_is : (cause : Trap) (used more : ℕ) (o : Option (ℕ × ℕ)) (s left : Lists) → s ≡ c.store → (left, more) ≡ after_cleanup enters code s (cleanup_for o v) env.limit
-      → trapped_with c own left cause (used + more) ≡ cleaned_up enters env c own v code cause used o
-  cleaned_up_is cause used more None s left same is =
-      ap (λ (p : Lists × ℕ). trapped_with c own p.0 cause (used + p.1)) is ∙ ap₂ (λ l n. trapped_with c own l cause n) same (omega arith)
-  cleaned_up_is cause used more (Some target) s left same is =
-      cleaned_is cause used more (enters code c.store (Element target.0 target.1) kind.Cleanup v env.limit) s left same
-      (is ∙ ap (λ l. cleaned_by s (enters code l (Element target.0 target.1) kind.Cleanup v env.limit)) same)
+  cleaned_up_is : (cause : Trap) (used more : ℕ) (o : Option (ℕ × ℕ)) (left : Lists) → (left, more) ≡ after_cleanup enters env c x code o
+      → trapped_with c own left cause (used + more) ≡ cleaned_up enters env c own x code cause used o
+  cleaned_up_is cause used more None left is = ap (λ (p : Lists × ℕ). trapped_with c own p.0 cause (used + p.1)) is ∙ ap (trapped_with c own c.store cause) (omega arith)
+  cleaned_up_is cause used more (Some target) left is = cleaned_is cause used more (enters code c.store (Element target.0 target.1) kind.Cleanup (view env c x) env.limit) left is
 
-  trapped_back : (cleanup : Option (ℕ × ℕ)) (o : Outcome) (t : Entered) (cause : Trap) (more : ℕ) (s left : Lists) → t ≡ told o → t.ended ≡ Err cause → s ≡ store_after true c.store o
-      → (left, more) ≡ after_cleanup enters code s (cleanup_for cleanup v) env.limit → trapped_with c own left cause (t.used + more) ≡ called_back enters env c own x v code cleanup o
-  trapped_back cleanup (Returns store f used) t cause more s left is err kept after = absurd cc
-  trapped_back cleanup (Traps other used) t cause more s left is err kept after =
+  trapped_back : (cleanup : Option (ℕ × ℕ)) (o : Outcome) (t : Entered) (cause : Trap) (more : ℕ) (left : Lists) → t ≡ told o → t.ended ≡ Err cause
+      → (left, more) ≡ after_cleanup enters env c x code cleanup → trapped_with c own left cause (t.used + more) ≡ called_back enters env c own x code cleanup o
+  trapped_back cleanup (Returns store f used) t cause more left is err after = absurd cc
+  trapped_back cleanup (Traps other used) t cause more left is err after =
       let same : cause ≡ other = cc in
       let n : t.used ≡ used = cc in
-      ap₂ (λ k m. trapped_with c own left k (m + more)) same n ∙ cleaned_up_is other used more cleanup s left kept after
+      ap₂ (λ k m. trapped_with c own left k (m + more)) same n ∙ cleaned_up_is other used more cleanup left after
 
 -- as the code has it
 module _ (a : Canister) (x : Context) (env : Env) (callback : Callback) (response : Response) (refund : ℕ) (target : Target) (entry : EntryKind) (v0 v : View) (s : Held) (t : Entered) (stored : StoredCode)
@@ -92,15 +84,16 @@ module _ (a : Canister) (x : Context) (env : Env) (callback : Callback) (respons
       → IfOk r (λ w. (code : Code) → option_map code_of a.code ≡ Some code → work_of d w ≡ answered_with (enters_by system_api) env (seen a) x.id callback response x seen_view code)
   returns_done d e (Err f) ok done = tt
   returns_done d e (Ok w) ok done = λ code has_code.
-      done ∙ returned_back (enters_by system_api) env (seen a) x.id x seen_view (code_of stored) callback.cleanup outcome t e s.lists (is ∙ ap told same) ok (kept ∙ ap (store_after true a.store.lists) same)
+      done ∙ returned_back (enters_by system_api) env (seen a) x.id x (code_of stored) callback.cleanup outcome t e s.lists (is ∙ ap told same) ok (kept ∙ ap (store_after true a.store.lists) same)
       ∙ ap (λ f. answered_with (enters_by system_api) env (seen a) x.id callback response x seen_view f) (its code has_code)
 
-  pub traps_done : (d : Canister) (h : Held) (w : StoredWork) (cause : Trap) (more : ℕ) (cleanup : Option Cleanup) → t.ended ≡ Err cause → cleanup ≡ cleanup_for callback.cleanup seen_view → d ≡ record a { store = h }
-      → ((code : Code) → option_map code_of a.code ≡ Some code → (h.lists, more) ≡ after_cleanup (enters_by system_api) code s.lists cleanup env.limit)
+  pub traps_done : (d : Canister) (h : Held) (w : StoredWork) (cause : Trap) (more : ℕ) → t.ended ≡ Err cause → d ≡ record a { store = h }
+      → ((code : Code) → option_map code_of a.code ≡ Some code → (h.lists, more) ≡ after_cleanup (enters_by system_api) env (seen (record a { store = s })) x code callback.cleanup)
       → w ≡ record { calls = []; answers = []; used = t.used + more; trapped = Some (x.id, cause) }
       → (code : Code) → option_map code_of a.code ≡ Some code → work_of d w ≡ answered_with (enters_by system_api) env (seen a) x.id callback response x seen_view code
-  traps_done d h w cause more cleanup err cleanup_is rest after silent code has_code =
+  traps_done d h w cause more err rest after silent code has_code =
+      let before : s.lists ≡ a.store.lists = kept ∙ stays a.store.lists (enters_by system_api (code_of stored) a.store.lists target entry v env.limit) t cause is err in
       ap₂ work_of rest silent
-      ∙ trapped_back (enters_by system_api) env (seen a) x.id x seen_view (code_of stored) callback.cleanup outcome t cause more s.lists h.lists (is ∙ ap told same) err (kept ∙ ap (store_after true a.store.lists) same)
-      (after (code_of stored) (ap (option_map code_of) has) ∙ ap (λ o. after_cleanup (enters_by system_api) (code_of stored) s.lists o env.limit) cleanup_is)
+      ∙ trapped_back (enters_by system_api) env (seen a) x.id x (code_of stored) callback.cleanup outcome t cause more h.lists (is ∙ ap told same) err
+      (after (code_of stored) (ap (option_map code_of) has) ∙ ap (λ l. after_cleanup (enters_by system_api) env (record (seen a) { store = l }) x (code_of stored) callback.cleanup) before)
       ∙ ap (λ f. answered_with (enters_by system_api) env (seen a) x.id callback response x seen_view f) (its code has_code)

@@ -204,11 +204,11 @@ module _ (enters : Enters) (env : Env) (is_fair : IsFair enters) (c : CountedCan
   cleaned_holds cause used (Traps other more) = trapped_holds c own x found all c.store cause (used + more)
 
   back_holds : (v : View) → v.balance ≡ c.balance → v.available ≡ x.available → (code : Code) (cleanup : Option (ℕ × ℕ)) (target : Target) (k : EntryKind) (o : Outcome) → enters code c.store target k v env.limit ≡ o
-      → Holds (counted_cycles c) (called_back enters env c own x v code cleanup o)
+      → Holds (counted_cycles c) (called_back enters env c own x code cleanup o)
   back_holds v balance available code cleanup target k (Returns store e used) is =
       returned_holds c own x found all store e used (fair c own x found all v balance available k e (is_fair code c.store target k v env.limit store e used is))
   back_holds v balance available code None target k (Traps cause used) is = trapped_holds c own x found all c.store cause used
-  back_holds v balance available code (Some t) target k (Traps cause used) is = cleaned_holds cause used (enters code c.store (Element t.0 t.1) kind.Cleanup v env.limit)
+  back_holds v balance available code (Some t) target k (Traps cause used) is = cleaned_holds cause used (enters code c.store (Element t.0 t.1) kind.Cleanup (view env c x) env.limit)
 
   answered_holds : (callback : Callback) (response : Response) (refund : ℕ) (code : Code) → Holds (counted_cycles c) (answered_with enters env c own callback response x (answer_view (view env c x) response refund) code)
   answered_holds callback (Reply arg) refund code =

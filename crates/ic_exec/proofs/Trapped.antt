@@ -16,7 +16,6 @@ use Rattle.ic_behaviour.specs.declared.env.Admitted.{Admitted}
 use Rattle.ic_behaviour.specs.declared.env.Admitted.TheVariants.{Update, Query}
 use Rattle.ic_behaviour.specs.declared.env.Refusal.{Refusal}
 use Rattle.ic_behaviour.specs.declared.execution.EntryKind.TheVariants as kind
-use Rattle.ic_behaviour.specs.declared.execution.View.{View}
 use Rattle.ic_behaviour.specs.State.{Code}
 use Rattle.ic_behaviour.specs.Counted.{CountedCanister}
 use Rattle.ic_behaviour.specs.Texts.{out_of_cycles}
@@ -57,10 +56,10 @@ module _ (enters : Enters) (env : Env) (c : CountedCanister) (own : CallId) (x :
   called_still method arg code (Update f) = updated_still c own x (enters code c.store (Function f) kind.Update (call_view (view env c x) method arg) env.limit)
   called_still method arg code (Query f) = queried_still c own x (enters code c.store (Function f) kind.Query (call_view (view env c x) method arg) env.limit)
 
-  back_still : (v : View) (code : Code) (cleanup : Option (ℕ × ℕ)) (o : Outcome) → WhereTrapped c own cleanup (called_back enters env c own x v code cleanup o)
-  back_still v code cleanup (Returns store e used) = tt
-  back_still v code None (Traps cause used) = still c own None cause used
-  back_still v code (Some target) (Traps cause used) = cleaned_still c own cause used target (enters code c.store (Element target.0 target.1) kind.Cleanup v env.limit)
+  back_still : (code : Code) (cleanup : Option (ℕ × ℕ)) (o : Outcome) → WhereTrapped c own cleanup (called_back enters env c own x code cleanup o)
+  back_still code cleanup (Returns store e used) = tt
+  back_still code None (Traps cause used) = still c own None cause used
+  back_still code (Some target) (Traps cause used) = cleaned_still c own cause used target (enters code c.store (Element target.0 target.1) kind.Cleanup (view env c x) env.limit)
 
 on_answer_still : (enters : Enters) (env : Env) (c : CountedCanister) (own : CallId) (callback : Callback) (response : Response) (refund : ℕ) (o : Option Context) (code : Option Code)
     → WhereTrapped c own callback.cleanup (on_answer enters env c own callback response refund o code)
@@ -70,7 +69,7 @@ on_answer_still enters env c own callback response refund (Some x) (Some code) =
   by : (b : Bool) → WhereTrapped c own callback.cleanup (cond b (nothing c) (answered_with enters env c own callback response x (answer_view (view env c x) response refund) code))
   by true = tt
   by false =
-      back_still enters env c own x (answer_view (view env c x) response refund) code callback.cleanup
+      back_still enters env c own x code callback.cleanup
       (enters code c.store (target_of callback response) (kind_of response) (answer_view (view env c x) response refund) env.limit)
 
 paid : (price : ℕ) (w : Work) → w.canister.balance - charge price w + charge price w ≡ w.canister.balance

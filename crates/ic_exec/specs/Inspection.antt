@@ -10,7 +10,7 @@ use Rattle.ic_behaviour.specs.declared.execution.EntryKind.TheVariants as kind
 use Rattle.ic_behaviour.specs.State.{Code}
 use Rattle.ic_behaviour.specs.Counted.{CountedCanister}
 use Rattle.ic_behaviour.specs.Outcomes.{Outcome, Returns, Traps, Enters}
-use Rattle.ic_exec.specs.Views.{user_view}
+use Rattle.ic_behaviour.specs.Views.{user_view}
 
 -- the code and its function for inspection, where the canister is running and has one
 abbrev pub inspection_of : Phase → Option Code → Option (Code × ℕ)

@@ -1,5 +1,4 @@
 pub mod Entered
-pub mod Views
 pub mod Executed
 pub mod Query
 pub mod Inspection

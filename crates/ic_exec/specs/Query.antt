@@ -14,7 +14,7 @@ use Rattle.ic_behaviour.specs.State.{Code}
 use Rattle.ic_behaviour.specs.Counted.{CountedCanister}
 use Rattle.ic_behaviour.specs.Texts.{refuses, no_response, trapped_by}
 use Rattle.ic_behaviour.specs.Outcomes.{Outcome, Returns, Traps, Enters}
-use Rattle.ic_exec.specs.Views.{user_view}
+use Rattle.ic_behaviour.specs.Views.{user_view}
 
 abbrev pub or_no_query : Code → Option ℕ → Result (Code × ℕ) Refusal
 or_no_query code None = Err NoMethod

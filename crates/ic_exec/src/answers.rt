@@ -1,4 +1,4 @@
-ghost use Rattle.std.specs.Prelude.{◌≡◌, ◌+◌, ◌*◌, ◌<◌, ◌≤◌, ◌^◌, Some, slice_get, IfOk, IfSome};
+ghost use Rattle.std.specs.Prelude.{◌≡◌, ◌+◌, ◌*◌, ◌<◌, ◌≤◌, ◌^◌, Some, slice_get, IfOk};
 ghost use Rattle.std.specs.Option.{IsSome};
 ghost use Rattle.ic_behaviour.specs.State.{Code as SomeCode};
 ghost use Rattle.std.specs.List.{position};
@@ -8,14 +8,14 @@ ghost use Rattle.ic_state.specs.Seen.{seen};
 ghost use Rattle.ic_state.specs.IsCanister.{IsCanister};
 ghost use Rattle.ic_api.specs.System.{system_api};
 ghost use Rattle.ic_exec.specs.Executed.{work_of};
-ghost use Rattle.ic_exec.specs.Cleanups.{cleanup_for, after_cleanup};
+ghost use Rattle.ic_exec.specs.Cleanups.{after_cleanup};
 
 use crate::effects::returned;
 use crate::entering::{Entered, attempt};
 use crate::views::{view_in, with_answer};
 use crate::work::{Work, silent};
 use ic_base::NoMemory;
-use ic_state::{Callback, Canister, Context, EntryKind, Env, Response, View};
+use ic_state::{Callback, Canister, Context, EntryKind, Env, Response};
 use std::alloc::Global;
 use wm_semantics::Target;
 
@@ -43,67 +43,27 @@ fn kind_of(response: &Response) -> EntryKind
     }
 }
 
-fn copy_of(response: &Response) -> Result<Response, NoMemory>
-    ensures { IfOk result (λ r. r ≡ response.now) }
-{
-    match response {
-        Response::Reply(arg) => Ok(Response::Reply(arg.copy()?)),
-        Response::Reject { code, message } => Ok(Response::Reject {
-            code: *code,
-            message: message.copy()?,
-        }),
-    }
-}
-
-// A cleanup that waits for its callback: its place in the table, what it is called with, and what
-// it sees.
-#[derive(Drop)]
-struct Cleanup {
-    target: (u32, u32),
-    view: View,
-}
-
-// The cleanup of a callback. What it sees is put together before the callback runs.
-fn cleanup_of(
-    alloc: Global,
-    env: Env,
-    canister: &Canister,
-    context: &Context,
-    callback: &Callback,
-    response: &Response,
-    refund: u128,
-) -> Result<Option<Cleanup>, NoMemory>
-    ensures { IfOk result (λ cleanup. cleanup ≡ cleanup_for callback.now.cleanup (answer_view (view env (seen canister.now) context.now) response.now refund)) }
-{
-    match callback.cleanup {
-        None => Ok(None),
-        Some(target) => {
-            let view = view_in(alloc, env, canister, context)?;
-            let view = with_answer(view, copy_of(response)?, refund);
-            Ok(Some(Cleanup { target, view }))
-        }
-    }
-}
-
 // The callback trapped: its cleanup runs, if there is one. Gives what it used.
 fn clean_up(
     alloc: Global,
     canister: &mut Canister,
-    cleanup: Option<Cleanup>,
-    limit: u64,
+    context: &Context,
+    cleanup: Option<(u32, u32)>,
+    env: Env,
 ) -> Result<u64, NoMemory>
     requires keeps { IsCanister canister.old }
     requires code { IsSome canister.old.code }
-    requires views { IfSome cleanup (λ c. (c.view.balance + c.view.available < 2 ^ 127) × (c.view.outstanding ≤ 500)) }
+    requires cycles { canister.old.balance + context.now.available < 2 ^ 127 }
     ensures store { IfOk result (λ used. (code : SomeCode) → (seen canister.old).code ≡ Some code
-        → (canister.new.store.lists, used) ≡ after_cleanup (enters_by system_api) code canister.old.store.lists cleanup limit) }
+        → (canister.new.store.lists, used) ≡ after_cleanup (enters_by system_api) env (seen canister.old) context.now code cleanup) }
     ensures rest { IfOk result (λ _. canister.new ≡ record canister.old { store = canister.new.store }) }
     ensures keeps { IfOk result (λ _. IsCanister canister.new) }
-    ensures used { IfOk result (λ used. used ≤ limit) }
+    ensures used { IfOk result (λ used. used ≤ env.limit) }
 {
-    let Some(Cleanup { target, view }) = cleanup else {
+    let Some((index, argument)) = cleanup else {
         return Ok(0);
     };
+    let view = view_in(alloc, env, canister, context)?;
     let Some(code) = &canister.code else {
         unreachable!();
     };
@@ -112,12 +72,12 @@ fn clean_up(
         code,
         &mut canister.store,
         Target::Element {
-            index: target.0,
-            env: target.1,
+            index,
+            env: argument,
         },
         EntryKind::Cleanup,
         view,
-        limit,
+        env.limit,
         true,
     )?;
     Ok(entered.used)
@@ -128,28 +88,27 @@ pub fn run_callback(
     alloc: Global,
     canister: &mut Canister,
     place: usize,
-    context: Context,
+    context: &Context,
     callback: Callback,
     response: Response,
     refund: u128,
     env: Env,
 ) -> Result<Work, NoMemory>
     requires keeps { IsCanister canister.old }
-    requires place { position (is_own context.id) canister.old.contexts ≡ Some place }
-    requires there { slice_get canister.old.contexts place ≡ Some context }
+    requires place { position (is_own context.now.id) canister.old.contexts ≡ Some place }
+    requires there { slice_get canister.old.contexts place ≡ Some context.now }
     requires code { IsSome canister.old.code }
     requires limit { env.limit ≤ 1000000000000 }
     ensures work { IfOk result (λ w. (code : SomeCode) → (seen canister.old).code ≡ Some code
-        → work_of canister.new w ≡ answered_with (enters_by system_api) env (seen canister.old) context.id callback response context
-        (answer_view (view env (seen canister.old) context) response refund) code) }
+        → work_of canister.new w ≡ answered_with (enters_by system_api) env (seen canister.old) context.now.id callback response context.now
+        (answer_view (view env (seen canister.old) context.now) response refund) code) }
     ensures keeps { IfOk result (λ _. IsCanister canister.new) }
     ensures used { IfOk result (λ w. w.used ≤ 2 * env.limit) }
 {
     let _next_call = canister.next_call;
-    let cleanup = cleanup_of(alloc, env, canister, &context, &callback, &response, refund)?;
     let target = target_of(&callback, &response);
     let kind = kind_of(&response);
-    let view = with_answer(view_in(alloc, env, canister, &context)?, response, refund);
+    let view = with_answer(view_in(alloc, env, canister, context)?, response, refund);
     let Some(code) = &canister.code else {
         unreachable!();
     };
@@ -166,7 +125,7 @@ pub fn run_callback(
     match ended {
         Ok(effects) => returned(alloc, canister, place, context, effects, used),
         Err(cause) => {
-            let more = clean_up(alloc, canister, cleanup, env.limit)?;
+            let more = clean_up(alloc, canister, context, callback.cleanup, env)?;
             Ok(silent(alloc, used + more, Some((context.id, cause))))
         }
     }

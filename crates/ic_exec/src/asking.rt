@@ -7,7 +7,7 @@ ghost use Rattle.ic_state.specs.IsCanister.{IsCanister};
 ghost use Rattle.ic_api.specs.System.{system_api};
 ghost use Rattle.ic_calls.specs.Received.{CanEnter};
 ghost use Rattle.ic_exec.specs.Entered.{told};
-ghost use Rattle.ic_exec.specs.Views.{user_view};
+ghost use Rattle.ic_behaviour.specs.Views.{user_view};
 ghost use Rattle.ic_exec.specs.Query.{query_of, function_in, query_response, response_to};
 ghost use Rattle.ic_exec.specs.Inspection.{inspection_of, is_accepted};
 

@@ -45,23 +45,23 @@ pub fn run_call(
     alloc: Global,
     canister: &mut Canister,
     place: usize,
-    context: Context,
+    context: &Context,
     method: Text,
     arg: Bytes,
     entry: Admitted,
     env: Env,
 ) -> Result<Work, NoMemory>
     requires keeps { IsCanister canister.old }
-    requires place { position (is_own context.id) canister.old.contexts ≡ Some place }
-    requires there { slice_get canister.old.contexts place ≡ Some context }
+    requires place { position (is_own context.now.id) canister.old.contexts ≡ Some place }
+    requires there { slice_get canister.old.contexts place ≡ Some context.now }
     requires entry { CanEnter canister.old.code entry }
     ensures work { IfOk result (λ w. (code : SomeCode) → (seen canister.old).code ≡ Some code
-        → work_of canister.new w ≡ called (enters_by system_api) env (seen canister.old) context.id context method arg code entry) }
+        → work_of canister.new w ≡ called (enters_by system_api) env (seen canister.old) context.now.id context.now method arg code entry) }
     ensures keeps { IfOk result (λ _. IsCanister canister.new) }
     ensures used { IfOk result (λ w. w.used ≤ env.limit) }
 {
     let _next_call = canister.next_call;
-    let view = with_call(view_in(alloc, env, canister, &context)?, method, arg);
+    let view = with_call(view_in(alloc, env, canister, context)?, method, arg);
     let (function, kind, keeps) = parts_of(entry);
     let Some(code) = &canister.code else {
         unreachable!();
@@ -81,7 +81,7 @@ pub fn run_call(
             if keeps {
                 returned(alloc, canister, place, context, effects, used)
             } else {
-                let effects = answer_alone(alloc, canister, &context, effects)?;
+                let effects = answer_alone(alloc, canister, context, effects)?;
                 returned(alloc, canister, place, context, effects, used)
             }
         }

@@ -1,4 +1,4 @@
-ghost use Rattle.std.specs.Prelude.{◌≡◌, ◌+◌, ◌<◌, ◌^◌, false, if◌then◌else◌, [], length, Some, slice_get, IfOk};
+ghost use Rattle.std.specs.Prelude.{◌≡◌, ◌+◌, ◌<◌, ◌^◌, false, if◌then◌else◌, [], length, Some, slice_get, slice_set, IfOk};
 ghost use Rattle.ic_behaviour.specs.declared.call.Origin.TheVariants.{Canister as FromCanister};
 ghost use Rattle.ic_behaviour.specs.declared.call.Message.TheVariants.{Call};
 ghost use Rattle.std.specs.List.{position};
@@ -9,11 +9,10 @@ ghost use Rattle.ic_exec.specs.Executed.{HasRoomFor, work_of};
 
 use crate::work::Work;
 use ic_base::NoMemory;
-use ic_calls::put;
 use ic_principal::Principal;
 use ic_state::{
-    Answered, AnsweredList, CallId, Canister, Context, Effects, Message, Messages, Origin, OutCall,
-    OutCalls, Response,
+    Answered, AnsweredList, CallId, Canister, Context, Contexts, Effects, Message, Messages,
+    Origin, OutCall, OutCalls, Response,
 };
 use std::alloc::Global;
 
@@ -74,17 +73,17 @@ fn count_of(calls: &OutCalls) -> usize
 // The answer that was given, if there is one.
 fn given_answer(
     alloc: Global,
-    to: Origin,
+    to: &Origin,
     answer: Option<(Response, u128)>,
 ) -> Result<AnsweredList, NoMemory>
-    ensures { IfOk result (λ answers. answers ≡ given_answer to answer) }
+    ensures { IfOk result (λ answers. answers ≡ given_answer to.now answer) }
 {
     let mut answers = AnsweredList {
         items: Vec::new(alloc),
     };
     if let Some((response, refund)) = answer {
         answers.items.push(Answered {
-            origin: to,
+            origin: *to,
             response,
             refund,
         })?;
@@ -92,21 +91,38 @@ fn given_answer(
     Ok(answers)
 }
 
-// The context after it was served.
-fn served(context: Context, answered: bool, available: u128, calls: u32) -> Context
-    requires { context.outstanding + calls < 2 ^ 32 }
-    ensures { result ≡ record context {
-      must_respond = (if answered then false else context.must_respond);
+// The context was served.
+fn serve(context: &mut Context, answered: bool, available: u128, calls: u32)
+    requires { context.old.outstanding + calls < 2 ^ 32 }
+    ensures { context.new ≡ record context.old {
+      must_respond = (if answered then false else context.old.must_respond);
       available = (if answered then 0 else available);
-      outstanding = context.outstanding + calls;
+      outstanding = context.old.outstanding + calls;
     } }
 {
-    Context {
-        must_respond: context.must_respond && !answered,
-        available: if answered { 0 } else { available },
-        outstanding: context.outstanding + calls,
-        ..context
-    }
+    context.must_respond = context.must_respond && !answered;
+    context.available = if answered { 0 } else { available };
+    context.outstanding += calls;
+}
+
+// This context, which stands at that place, was served.
+fn serve_at(
+    contexts: &mut Contexts,
+    place: usize,
+    context: &Context,
+    answered: bool,
+    available: u128,
+    calls: u32,
+)
+    requires there { slice_get contexts.old place ≡ Some context.now }
+    requires few { context.now.outstanding + calls < 2 ^ 32 }
+    ensures { contexts.new ≡ slice_set contexts.old place (record context.now {
+      must_respond = (if answered then false else context.now.must_respond);
+      available = (if answered then 0 else available);
+      outstanding = context.now.outstanding + calls;
+    }) }
+{
+    serve(&mut contexts.items[place], answered, available, calls);
 }
 
 /// Of a query method that was reached by a call, its answer alone.
@@ -141,15 +157,15 @@ pub fn returned(
     alloc: Global,
     canister: &mut Canister,
     place: usize,
-    context: Context,
+    context: &Context,
     effects: Effects,
     used: u64,
 ) -> Result<Work, NoMemory>
     requires keeps { IsCanister canister.old }
-    requires place { position (is_own context.id) canister.old.contexts ≡ Some place }
-    requires there { slice_get canister.old.contexts place ≡ Some context }
-    requires room { HasRoomFor (seen canister.old) context effects }
-    ensures work { IfOk result (λ w. work_of canister.new w ≡ returned (seen canister.old) context.id context canister.old.store.lists effects used) }
+    requires place { position (is_own context.now.id) canister.old.contexts ≡ Some place }
+    requires there { slice_get canister.old.contexts place ≡ Some context.now }
+    requires room { HasRoomFor (seen canister.old) context.now effects }
+    ensures work { IfOk result (λ w. work_of canister.new w ≡ returned (seen canister.old) context.now.id context.now canister.old.store.lists effects used) }
     ensures keeps { IfOk result (λ w. IsCanister canister.new) }
     ensures used { IfOk result (λ w. w.used ≡ used) }
 {
@@ -162,10 +178,17 @@ pub fn returned(
         ..
     } = effects;
     let count = count_of(&calls);
-    let context = served(context, answer.is_some(), available, count as u32);
-    let answers = given_answer(alloc, context.origin, answer)?;
+    let answered = answer.is_some();
+    let answers = given_answer(alloc, &context.origin, answer)?;
     let calls = numbered(alloc, canister.id, &context.id, canister.next_call, calls)?;
-    put(&mut canister.contexts, place, context);
+    serve_at(
+        &mut canister.contexts,
+        place,
+        context,
+        answered,
+        available,
+        count as u32,
+    );
     canister.certified = certified;
     canister.balance = balance;
     canister.next_call += count as u64;

@@ -16,7 +16,7 @@ ghost use Rattle.ic_exec.specs.TrapLeaves.{TrapLeaves};
 use crate::answers::run_callback;
 use crate::calls::{TakenCall, run_call};
 use crate::executed::Executed;
-use crate::work::{Done, Work, silent};
+use crate::work::{Done, Work, silent, untouched};
 use ic_api::entries_are_lawful;
 use ic_base::NoMemory;
 use ic_calls::{
@@ -54,6 +54,9 @@ fn refuse(alloc: Global, origin: Origin, cycles: u128, response: Response) -> Re
 fn joined(front: AnsweredList, back: AnsweredList) -> Result<AnsweredList, NoMemory>
     ensures { IfOk result (λ l. l ≡ front ++ back) }
 {
+    if front.items.is_empty() {
+        return Ok(back);
+    }
     let mut items = front.items;
     let mut more = back.items;
     items.append(&mut more)?;
@@ -126,7 +129,7 @@ fn begin_call(
     } = call;
     let place = add_context(canister, &origin, &sender, cycles)?;
     let context = context_at(&canister.contexts, place);
-    let work = run_call(alloc, canister, place, context, method, arg, entry, env)?;
+    let work = run_call(alloc, canister, place, &context, method, arg, entry, env)?;
     finish(alloc, canister, work, env.price)
 }
 
@@ -189,7 +192,7 @@ fn handle_answer(
     let context = context_at(&canister.contexts, place);
     if runs_callback(canister, &context) {
         let work = run_callback(
-            alloc, canister, place, context, callback, response, refund, env,
+            alloc, canister, place, &context, callback, response, refund, env,
         )?;
         finish(alloc, canister, work, env.price)
     } else {
@@ -271,8 +274,9 @@ pub fn execute(
     ensures burned { IfOk result (λ e. e.burned ≡ min (e.canister.balance + e.burned) (env.price * e.used)) }
 {
     entries_are_lawful();
-    let mut canister = canister;
-    match handle(alloc, &mut canister, message, env) {
+    // It is handled where it is handed back, so that it is moved as seldom as can be.
+    let mut executed = untouched(alloc, canister);
+    match handle(alloc, &mut executed.canister, message, env) {
         Ok(done) => {
             let Done {
                 calls,
@@ -281,14 +285,12 @@ pub fn execute(
                 burned,
                 trapped,
             } = done;
-            Ok(Executed {
-                canister,
-                calls,
-                answers,
-                used,
-                trapped,
-                burned,
-            })
+            executed.calls = calls;
+            executed.answers = answers;
+            executed.used = used;
+            executed.trapped = trapped;
+            executed.burned = burned;
+            Ok(executed)
         }
         Err(e) => Err(e),
     }

@@ -1,7 +1,7 @@
 ghost use Rattle.std.specs.Prelude.{◌≡◌, [], IfOk};
 ghost use Rattle.ic_behaviour.specs.Executing.{phase_number, view, call_view, answer_view};
 ghost use Rattle.ic_state.specs.Seen.{seen};
-ghost use Rattle.ic_exec.specs.Views.{view_for};
+ghost use Rattle.ic_behaviour.specs.Views.{view_for};
 
 use ic_base::NoMemory;
 use ic_principal::{Bytes, Principal, Text};

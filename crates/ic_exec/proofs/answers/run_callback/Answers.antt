@@ -1,15 +1,15 @@
 use Rattle.std.proofs.Common.{◌<◌, ◌^◌, refl, arith}
-use Rattle.ic_behaviour.specs.Executing.{view, answer_view}
+use Rattle.ic_behaviour.specs.Executing.{view}
 use Rattle.ic_state.specs.declared.canister.Canister.{Canister}
 use Rattle.ic_state.specs.Seen.{seen}
-use Rattle.ic_exec.proofs.Rooms.{Sees, sees_view, sees_answer, cycles_seen, calls_seen, room_of}
-use Rattle.ic_exec.proofs.AnswerRuns.{cleanup_sees, returns_done, traps_done}
+use Rattle.ic_exec.proofs.Rooms.{Sees, sees_view, sees_answer, cycles_seen, room_of}
+use Rattle.ic_exec.proofs.AnswerRuns.{returns_done, traps_done}
 use Rattle.ic_exec.proofs.answers.run_callback.Goals as goal
 
 pub attempt-requires-clause-cycles : goal.attempt-requires-clause-cycles
 attempt-requires-clause-cycles c =
     let a : Canister = c.args.canister.now in
-    let x = c.args.context in
+    let x = c.args.context.now in
     let v = c.with_answer-view.result in
     let sees : Sees a x v = sees_answer a x c.in_ok-view_in.field-0 v c.args.response c.args.refund (sees_view a x c.args.env c.in_ok-view_in.field-0 c.in_ok-view_in.ensures) c.with_answer-view.ensures in
     cycles_seen a c.args.place x v c.requires.keeps c.requires.place c.requires.there sees
@@ -17,29 +17,26 @@ attempt-requires-clause-cycles c =
 pub returned-requires-clause-room : goal.returned-requires-clause-room
 returned-requires-clause-room c =
     let a : Canister = c.args.canister.now in
-    let x = c.args.context in
+    let x = c.args.context.now in
     let v = c.with_answer-view.result in
     let sees : Sees a x v = sees_answer a x c.in_ok-view_in.field-0 v c.args.response c.args.refund (sees_view a x c.args.env c.in_ok-view_in.field-0 c.in_ok-view_in.ensures) c.with_answer-view.ensures in
     let small : a.next_call < 2 ^ 64 = omega arith in
     room_of a c.args.place x v c.requires.keeps c.requires.place c.requires.there c.attempt.new.store c.kind_of-kind.result c.in_ok-ended.field-0.ended c.in-Ok.effects sees small c.in_ok-ended.ensures.lawful (cc)
 
-pub clean_up-requires-clause-views : goal.clean_up-requires-clause-views
-clean_up-requires-clause-views c =
+pub clean_up-requires-clause-cycles : goal.clean_up-requires-clause-cycles
+clean_up-requires-clause-cycles c =
     let a : Canister = c.args.canister.now in
-    let x = c.args.context in
-    let v = answer_view (view c.args.env (seen a) x) c.args.response c.args.refund in
-    let sees : Sees a x v = sees_answer a x _ v c.args.response c.args.refund (sees_view a x c.args.env _ refl) refl in
-    cleanup_sees c.args.callback.cleanup v c.in_ok-cleanup.cleanup c.in_ok-cleanup.ensures
-    (cycles_seen a c.args.place x v c.requires.keeps c.requires.place c.requires.there sees) (calls_seen a c.args.place x v c.requires.keeps c.requires.place c.requires.there sees)
+    let x = c.args.context.now in
+    cycles_seen a c.args.place x (view c.args.env (seen a) x) c.requires.keeps c.requires.place c.requires.there (sees_view a x c.args.env (view c.args.env (seen a) x) refl)
 
 pub returns-in-Ok-clause-work : goal.returns-in-Ok-clause-work
 returns-in-Ok-clause-work c =
-    returns_done c.args.canister.now c.args.context c.args.env c.args.callback c.args.response c.args.refund c.target_of-target.result c.kind_of-kind.result c.in_ok-view_in.field-0 c.with_answer-view.result
+    returns_done c.args.canister.now c.args.context.now c.args.env c.args.callback c.args.response c.args.refund c.target_of-target.result c.kind_of-kind.result c.in_ok-view_in.field-0 c.with_answer-view.result
     c.attempt.new.store c.in_ok-ended.field-0 c.in-Some.code c.target_of-target.ensures c.kind_of-kind.ensures c.in_ok-view_in.ensures c.with_answer-view.ensures c.in-Some.is c.in_ok-ended.ensures.entered c.in_ok-ended.ensures.store
     c.returned.new.canister c.in-Ok.effects c.returned.result (cc) c.returned.ensures.work
 
 pub returns-in_ok-more-in-Err-clause-work : goal.returns-in_ok-more-in-Err-clause-work
 returns-in_ok-more-in-Err-clause-work c =
-    traps_done c.args.canister.now c.args.context c.args.env c.args.callback c.args.response c.args.refund c.target_of-target.result c.kind_of-kind.result c.in_ok-view_in.field-0 c.with_answer-view.result
+    traps_done c.args.canister.now c.args.context.now c.args.env c.args.callback c.args.response c.args.refund c.target_of-target.result c.kind_of-kind.result c.in_ok-view_in.field-0 c.with_answer-view.result
     c.attempt.new.store c.in_ok-ended.field-0 c.in-Some.code c.target_of-target.ensures c.kind_of-kind.ensures c.in_ok-view_in.ensures c.with_answer-view.ensures c.in-Some.is c.in_ok-ended.ensures.entered c.in_ok-ended.ensures.store
-    c.clean_up.new.canister c.clean_up.new.canister.store c.silent.result c.in-Err.cause c.in_ok-more-in-Err.more c.in_ok-cleanup.cleanup (cc) c.in_ok-cleanup.ensures c.in_ok-more-in-Err.ensures.rest c.in_ok-more-in-Err.ensures.store c.silent.ensures
+    c.clean_up.new.canister c.clean_up.new.canister.store c.silent.result c.in-Err.cause c.in_ok-more-in-Err.more (cc) c.in_ok-more-in-Err.ensures.rest c.in_ok-more-in-Err.ensures.store c.silent.ensures

@@ -7,14 +7,14 @@ use Rattle.ic_exec.proofs.calls.run_call.Goals as goal
 pub attempt-requires-clause-cycles : goal.attempt-requires-clause-cycles
 attempt-requires-clause-cycles c =
     let a : Canister = c.args.canister.now in
-    let x = c.args.context in
+    let x = c.args.context.now in
     let sees : Sees a x c.with_call-view.result = sees_call a x c.in_ok-view_in.field-0 c.with_call-view.result c.args.method c.args.arg (sees_view a x c.args.env c.in_ok-view_in.field-0 c.in_ok-view_in.ensures) c.with_call-view.ensures in
     cycles_seen a c.args.place x c.with_call-view.result c.requires.keeps c.requires.place c.requires.there sees
 
 pub returned-requires-clause-room : goal.returned-requires-clause-room
 returned-requires-clause-room c =
     let a : Canister = c.args.canister.now in
-    let x = c.args.context in
+    let x = c.args.context.now in
     let sees : Sees a x c.with_call-view.result = sees_call a x c.in_ok-view_in.field-0 c.with_call-view.result c.args.method c.args.arg (sees_view a x c.args.env c.in_ok-view_in.field-0 c.in_ok-view_in.ensures) c.with_call-view.ensures in
     let small : a.next_call < 2 ^ 64 = omega arith in
     room_of a c.args.place x c.with_call-view.result c.requires.keeps c.requires.place c.requires.there c.attempt.new.store c.parts_of-function.result.1 c.in_ok-ended.field-0.ended c.in-Ok.effects sees small c.in_ok-ended.ensures.lawful (cc)
@@ -23,10 +23,10 @@ pub returned-requires-else-keeps-clause-room : goal.returned-requires-else-keeps
 returned-requires-else-keeps-clause-room c =
     let a : Canister = c.args.canister.now in
     let small : a.next_call < 2 ^ 64 = omega arith in
-    room_alone a c.args.place c.args.context c.with_call-view.result c.requires.keeps c.requires.place c.requires.there c.attempt.new.store c.in-Ok.effects c.in_ok-effects-in-Ok.effects small c.in_ok-effects-in-Ok.ensures
+    room_alone a c.args.place c.args.context.now c.with_call-view.result c.requires.keeps c.requires.place c.requires.there c.attempt.new.store c.in-Ok.effects c.in_ok-effects-in-Ok.effects small c.in_ok-effects-in-Ok.ensures
 
 pub returns-in_ok-effects-in-Ok-clause-work : goal.returns-in_ok-effects-in-Ok-clause-work
 returns-in_ok-effects-in-Ok-clause-work c =
-    query_done c.args.canister.now c.returned-else-keeps.new.canister c.args.context c.args.env c.args.method c.args.arg c.args.entry c.parts_of-function.result c.in_ok-view_in.field-0 c.with_call-view.result
+    query_done c.args.canister.now c.returned-else-keeps.new.canister c.args.context.now c.args.env c.args.method c.args.arg c.args.entry c.parts_of-function.result c.in_ok-view_in.field-0 c.with_call-view.result
     c.attempt.new.store c.in_ok-ended.field-0 c.in-Ok.effects c.in_ok-effects-in-Ok.effects c.in-Some.code c.returned-else-keeps.result c.parts_of-function.ensures c.if-keeps.false c.in_ok-view_in.ensures
     c.with_call-view.ensures (c.in_ok-ended.ensures.undone c.if-keeps.false) c.in-Some.is c.in_ok-ended.ensures.entered (cc) c.in_ok-effects-in-Ok.ensures c.returned-else-keeps.ensures.work
