@@ -1,0 +1,12 @@
+pub mod Changed
+pub mod Arrives
+pub mod Exchanges
+pub mod Answers
+pub mod Stays
+pub mod Chains
+pub mod Makes
+pub mod Steps
+pub mod Rows
+pub mod Manages
+pub mod Apart
+pub mod Managed

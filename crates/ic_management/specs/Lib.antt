@@ -1,0 +1,5 @@
+pub mod KeepsCalls
+pub mod Moves
+pub mod Rows
+pub mod Manage
+pub mod Managed
