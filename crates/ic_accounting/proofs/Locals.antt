@@ -116,20 +116,20 @@ module _ (enters : Enters) (lawful : EntriesKeep enters) (z : Scene) (c : Counte
   worked_cleaned cause used (Returns t e more) = worked_trapped t cause (used + more)
   worked_cleaned cause used (Traps other more) = worked_trapped c.store cause (used + more)
 
-  worked_cleaned_up : (env : Env) (v : View) (code : Code) (cause : Trap) (used : ℕ) (cleanup : Option (ℕ × ℕ)) → Worked z c rs burned (cleaned_up enters env c z.own v code cause used cleanup)
-  worked_cleaned_up env v code cause used None = worked_trapped c.store cause used
-  worked_cleaned_up env v code cause used (Some target) = worked_cleaned cause used (enters code c.store (Element target.0 target.1) kind.Cleanup v env.limit)
+  worked_cleaned_up : (env : Env) (code : Code) (cause : Trap) (used : ℕ) (cleanup : Option (ℕ × ℕ)) → Worked z c rs burned (cleaned_up enters env c z.own x code cause used cleanup)
+  worked_cleaned_up env code cause used None = worked_trapped c.store cause used
+  worked_cleaned_up env code cause used (Some target) = worked_cleaned cause used (enters code c.store (Element target.0 target.1) kind.Cleanup (view env c x) env.limit)
 
-  worked_back : (env : Env) (v : View) (code : Code) (cleanup : Option (ℕ × ℕ)) (o : Outcome)
-      → ((t : Lists) (e : Effects) (used : ℕ) → o ≡ Returns t e used → Fits c x e) → Worked z c rs burned (called_back enters env c z.own x v code cleanup o)
-  worked_back env v code cleanup (Returns t e used) law = worked_returned t e used (law t e used refl)
-  worked_back env v code cleanup (Traps cause used) law = worked_cleaned_up env v code cause used cleanup
+  worked_back : (env : Env) (code : Code) (cleanup : Option (ℕ × ℕ)) (o : Outcome)
+      → ((t : Lists) (e : Effects) (used : ℕ) → o ≡ Returns t e used → Fits c x e) → Worked z c rs burned (called_back enters env c z.own x code cleanup o)
+  worked_back env code cleanup (Returns t e used) law = worked_returned t e used (law t e used refl)
+  worked_back env code cleanup (Traps cause used) law = worked_cleaned_up env code cause used cleanup
 
   worked_answered : (env : Env) (callback : Callback) (response : Response) (refund : ℕ) (code : Code)
       → Worked z c rs burned (answered_with enters env c z.own callback response x (answer_view (view env c x) response refund) code)
   worked_answered env callback response refund code =
       let v : View = answer_view (view env c x) response refund in
-      worked_back env v code callback.cleanup (enters code c.store (target_of callback response) (kind_of response) v env.limit)
+      worked_back env code callback.cleanup (enters code c.store (target_of callback response) (kind_of response) v env.limit)
       (λ t e used is. fits_entry (kind_of response) c x v e (shows_answer env c x response refund) (lawful code c.store (target_of callback response) (kind_of response) v env.limit t e used is))
 
 module _ (enters : Enters) (lawful : EntriesKeep enters) (z : Scene) (c : CountedCanister) (rs : List Request) (burned : ℕ) (is_key : c.id ≡ z.key) (at : At z c [] rs burned) where

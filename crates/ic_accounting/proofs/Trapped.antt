@@ -61,10 +61,10 @@ module _ (enters : Enters) (env : Env) (c : CountedCanister) (own : CallId) (x :
   called_still name arg (method.Update f) is = updated_still c own x None (enters code c.store (Function f) kind.Update (call_view (view env c x) name arg) env.limit) is
   called_still name arg (method.Query f) is = queried_still c own x None (enters code c.store (Function f) kind.Query (call_view (view env c x) name arg) env.limit) is
 
-  back_still : (v : View) (cleanup : Option (ℕ × ℕ)) (o : Outcome) → WhereTrapped c own cleanup (called_back enters env c own x v code cleanup o)
-  back_still v cleanup (Returns store e used) is = not_trapped is
-  back_still v None (Traps cause used) is = still c own None cause used is
-  back_still v (Some target) (Traps cause used) is = cleaned_still c own cause used target (enters code c.store (Element target.0 target.1) kind.Cleanup v env.limit) is
+  back_still : (cleanup : Option (ℕ × ℕ)) (o : Outcome) → WhereTrapped c own cleanup (called_back enters env c own x code cleanup o)
+  back_still cleanup (Returns store e used) is = not_trapped is
+  back_still None (Traps cause used) is = still c own None cause used is
+  back_still (Some target) (Traps cause used) is = cleaned_still c own cause used target (enters code c.store (Element target.0 target.1) kind.Cleanup (view env c x) env.limit) is
 
 on_answer_still : (enters : Enters) (env : Env) (c : CountedCanister) (own : CallId) (callback : Callback) (response : Response) (refund : ℕ) (o : Option Context) (code : Option Code)
     → WhereTrapped c own callback.cleanup (on_answer enters env c own callback response refund o code)
@@ -74,7 +74,7 @@ on_answer_still enters env c own callback response refund (Some x) (Some code) i
   live : (b : Bool) → WhereTrapped c own callback.cleanup (cond b (nothing c) (answered_with enters env c own callback response x (answer_view (view env c x) response refund) code))
   live true is = not_trapped is
   live false is =
-      back_still enters env c own x code (answer_view (view env c x) response refund) callback.cleanup
+      back_still enters env c own x code callback.cleanup
       (enters code c.store (target_of callback response) (kind_of response) (answer_view (view env c x) response refund) env.limit) is
 
 -- to take a message changes none of these

@@ -1,0 +1,2 @@
+pub mod NoFloat
+pub mod Adding

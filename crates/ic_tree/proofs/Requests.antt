@@ -1,0 +1,37 @@
+-- Requests by their ids.
+use Rattle.std.proofs.Common.{◌≡◌, ◌∙◌, ap, ap₂, sym, arith, ℕ, zero, suc, ◌+◌, ◌<◌, ◌≤◌, List, [], ◌∷◌, ◌++◌, length, drop}
+use Rattle.std.specs.BTreeMap.{insert_entry}
+use Rattle.std.specs.List.{AllByRecursion, slice_index_or}
+use Rattle.std.specs.Ordering.{nat_cmp}
+use Rattle.std.specs.Cmp.Lexicographic.{slice_cmp}
+use Rattle.std.proofs.Math.Seq.{drop-cons}
+use Rattle.sha2.specs.Sha256.{sha256}
+use Rattle.ic_behaviour.specs.declared.request.Request.{Request}
+use Rattle.ic_tree.specs.RequestId.{put_in_order}
+use Rattle.ic_tree.specs.StateTree.{by_id, id_of_request, request_part}
+
+-- the requests behind one, with this one
+pub one_more : (rs : List Request) (r : Request) (number : ℕ) → number < length rs → r ≡ slice_index_or rs number r
+    → insert_entry (slice_cmp nat_cmp) (by_id (number + 1) (drop (number + 1) rs)) (id_of_request number r) (request_part r.answer) ≡ by_id number (drop number rs)
+unfolding by_id
+one_more rs r number lt is =
+    let next : suc number ≡ number + 1 = omega arith in
+    let less : drop number rs ≡ r ∷ drop (number + 1) rs =
+    drop-cons rs number r lt ∙ ap₂ (λ x n. x ∷ drop n rs) (sym is) next in
+    sym (ap (by_id number) less)
+
+-- the pair of a key and a value of bytes
+abbrev pub pair : (key value : List ℕ) → List ℕ
+pair key value = sha256 key ++ sha256 value
+
+-- pairs with one more, in other words for it and for the pairs before
+pub put : (given wanted : List ℕ) (before pairs all : List (List ℕ)) → all ≡ put_in_order given before → given ≡ wanted → before ≡ pairs
+    → all ≡ put_in_order wanted pairs
+put given wanted before pairs all is as_wanted as_pairs = is ∙ ap₂ put_in_order as_wanted as_pairs
+
+-- a request was submitted early enough
+pub each_early : (rs : List Request) (k : ℕ) (d : Request) → k < length rs → AllByRecursion (λ (r : Request). r.time ≤ 9223372036854775807) rs
+    → (slice_index_or rs k d).time ≤ 9223372036854775807
+each_early [] k d lt all = absurd (omega arith)
+each_early (r ∷ rs) zero d lt all = all.0
+each_early (r ∷ rs) (suc k) d lt all = each_early rs k d (omega arith) all.1

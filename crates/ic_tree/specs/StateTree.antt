@@ -1,0 +1,73 @@
+-- The tree of a state (IC Interface Specification, "The system state tree").
+use Rattle.std.specs.Prelude.{ℕ, ◌+◌, List, [], ◌∷◌, codes, map, option_map, Option, Some, None}
+use Rattle.std.specs.BTreeMap.{insert_entry}
+use Rattle.std.specs.Int.{to_be_bytes, w64}
+use Rattle.std.specs.Option.{option_to_list}
+use Rattle.std.specs.Ordering.{nat_cmp}
+use Rattle.std.specs.Cmp.Lexicographic.{slice_cmp}
+use Rattle.ic_leb.specs.Spelling.{unsigned_spelling}
+use Rattle.ic_behaviour.specs.declared.call.Response.{Response}
+use Rattle.ic_behaviour.specs.declared.call.Response.TheVariants.{Reply, Reject}
+use Rattle.ic_behaviour.specs.declared.request.Request.{Request}
+use Rattle.ic_behaviour.specs.State.{Canister, Code, State}
+use Rattle.ic_tree.specs.declared.fields.Field.{Field}
+use Rattle.ic_tree.specs.declared.fields.Field.TheVariants.{Bytes, Number}
+use Rattle.ic_tree.specs.HashTree.{HashTree, forked, labeled, leaf_at}
+use Rattle.ic_tree.specs.RequestId.{request_id_of}
+
+-- ---- canisters
+
+abbrev pub code_leaf : Code → HashTree
+code_leaf code = leaf_at (codes "module_hash") code.hash
+
+-- what stands under the id of a canister
+abbrev pub canister_part : (certified : List ℕ) → Option Code → HashTree
+canister_part certified code = forked (leaf_at (codes "certified_data") certified ∷ option_to_list (option_map code_leaf code))
+
+abbrev pub canister_tree : List ℕ × Canister → HashTree
+canister_tree e = labeled e.0 (canister_part e.1.certified e.1.code)
+
+-- ---- requests
+
+abbrev pub status_leaf : List ℕ → HashTree
+status_leaf status = leaf_at (codes "status") status
+
+-- what stands under the id of a request
+abbrev pub request_part : Option Response → HashTree
+request_part None = forked (status_leaf (codes "processing") ∷ [])
+request_part (Some (Reply bytes)) = forked (leaf_at (codes "reply") bytes ∷ status_leaf (codes "replied") ∷ [])
+request_part (Some (Reject code message)) = forked
+    (leaf_at (codes "reject_code") (unsigned_spelling code)
+    ∷ leaf_at (codes "reject_message") message
+    ∷ status_leaf (codes "rejected") ∷ [])
+
+-- what the request with this number is hashed as: it expires five minutes after it was submitted
+abbrev pub fields_of : ℕ → Request → List (List ℕ × Field)
+fields_of number r =
+    (codes "request_type", Bytes (codes "call"))
+    ∷ (codes "sender", Bytes r.sender)
+    ∷ (codes "canister_id", Bytes r.callee)
+    ∷ (codes "method_name", Bytes r.method)
+    ∷ (codes "arg", Bytes r.arg)
+    ∷ (codes "ingress_expiry", Number (r.time + 300000000000))
+    ∷ (codes "nonce", Bytes (to_be_bytes w64 number)) ∷ []
+
+unfoldable pub id_of_request : ℕ → Request → List ℕ
+id_of_request number r = request_id_of (fields_of number r)
+
+-- what stands under the ids of the requests, in rising order; of two requests with one id the earlier stands
+unfoldable pub by_id : ℕ → List Request → List (List ℕ × HashTree)
+by_id number [] = []
+by_id number (r ∷ rs) =
+    insert_entry (slice_cmp nat_cmp) (by_id (number + 1) rs) (id_of_request number r) (request_part r.answer)
+
+abbrev pub request_tree : List ℕ × HashTree → HashTree
+request_tree e = labeled e.0 e.1
+
+-- ---- the state
+
+unfoldable pub state_tree_of : State → HashTree
+state_tree_of s = forked
+    (labeled (codes "canister") (forked (map canister_tree s.canisters))
+    ∷ labeled (codes "request_status") (forked (map request_tree (by_id 0 s.requests)))
+    ∷ leaf_at (codes "time") (unsigned_spelling s.time) ∷ [])

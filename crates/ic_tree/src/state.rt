@@ -1,0 +1,195 @@
+ghost use Rattle.std.specs.Prelude.{◌≡◌, ◌+◌, ◌≤◌, ◌^◌, Some, IfOk, OnOk, length, map, option_map};
+ghost use Rattle.std.specs.BTreeMap.{insert_entry};
+ghost use Rattle.std.specs.List.{AllByRecursion};
+ghost use Rattle.std.specs.Cmp.Lexicographic.{slice_cmp};
+ghost use Rattle.std.specs.Ordering.{nat_cmp};
+ghost use Rattle.ic_behaviour.specs.declared.request.Request.{Request as Asked};
+ghost use Rattle.ic_state.specs.Seen.{code_of, entry_of};
+ghost use Rattle.ic_leb.specs.Spelling.{unsigned_spelling};
+ghost use Rattle.ic_tree.specs.HashTree.{forked, leaf_at};
+ghost use Rattle.ic_tree.specs.StateTree.{by_id, canister_part, canister_tree, id_of_request, request_part, request_tree, state_tree_of, status_leaf};
+ghost use Rattle.ic_tree.specs.View.{view, viewed};
+
+use crate::fields::Pairs;
+use crate::tree::{Tree, fork, forked, labeled, leaf_at};
+use ic_base::NoMemory;
+use ic_leb::write_u;
+use ic_principal::{Bytes, Principal, Text};
+use ic_state::{Canister, Code, Request, Response, World};
+use std::alloc::Global;
+use std::collections::BTreeMap;
+
+// How long a request may wait, in nanoseconds: five minutes.
+const LIFETIME: u64 = 300_000_000_000;
+
+/// The tree of a state (IC Interface Specification, "The system state tree"): the time, of each
+/// canister its certified data and the hash of its code, and of each request how far it is. Of two
+/// requests with one id the earlier stands.
+#[tactic(auto, unfolding(crate::specs::StateTree::state_tree_of, crate::specs::HashTree::forked_in))]
+pub fn state_tree(alloc: Global, world: &World) -> Result<Tree, NoMemory>
+    ensures { IfOk result (λ tree. view tree ≡ state_tree_of world.now) }
+{
+    let parts = world.parts();
+    let canisters = canister_trees(alloc, &parts.canisters)?;
+    let requests = request_trees(alloc, &parts.requests.items)?;
+    let canisters = labeled(alloc, b"canister".as_slice(), canisters)?;
+    let requests = labeled(alloc, b"request_status".as_slice(), requests)?;
+    let time = number_leaf(alloc, b"time".as_slice(), parts.time)?;
+    fork(alloc, fork(alloc, canisters, requests)?, time)
+}
+
+// ---- canisters
+
+fn canister_trees(
+    alloc: Global,
+    canisters: &BTreeMap<Principal, Canister>,
+) -> Result<Tree, NoMemory>
+    ensures { IfOk result (λ tree. view tree ≡ forked (map canister_tree (map entry_of canisters.now.entries))) }
+{
+    let mut trees = Vec::new(alloc);
+    for (id, canister) in canisters {
+        trees.push(canister_tree(alloc, id, canister)?)?;
+    }
+    forked(alloc, trees)
+}
+
+fn canister_tree(alloc: Global, id: &Principal, canister: &Canister) -> Result<Tree, NoMemory>
+    ensures { IfOk result (λ tree. view tree ≡ canister_tree (entry_of (id.now, canister.now))) }
+{
+    let part = canister_part(alloc, &canister.certified, &canister.code)?;
+    labeled(alloc, id.bytes(), part)
+}
+
+#[tactic(auto, unfolding(crate::specs::HashTree::forked_in))]
+fn canister_part(alloc: Global, certified: &Bytes, code: &Option<Code>) -> Result<Tree, NoMemory>
+    ensures { IfOk result (λ tree. view tree ≡ canister_part certified.now (option_map code_of code.now)) }
+{
+    let certified = leaf_at(alloc, b"certified_data".as_slice(), &certified.items)?;
+    match code {
+        Some(code) => {
+            let hash = leaf_at(alloc, b"module_hash".as_slice(), code.hash.as_slice())?;
+            fork(alloc, certified, hash)
+        }
+        None => Ok(certified),
+    }
+}
+
+// ---- requests
+
+fn request_trees(alloc: Global, requests: &[Request]) -> Result<Tree, NoMemory>
+    requires few { length requests.now ≤ 2 ^ 20 }
+    requires early { AllByRecursion (λ (r : Asked). r.time ≤ 9223372036854775807) requests.now }
+    ensures { IfOk result (λ tree. view tree ≡ forked (map request_tree (by_id 0 requests.now))) }
+{
+    let mut trees = Vec::new(alloc);
+    for (id, part) in in_order(alloc, requests)? {
+        trees.push(labeled(alloc, id.as_slice(), part)?)?;
+    }
+    forked(alloc, trees)
+}
+
+// What stands under the ids of the requests. The last request goes first, so that of two with one id
+// the earlier stands.
+fn in_order(alloc: Global, requests: &[Request]) -> Result<BTreeMap<[u8; 32], Tree>, NoMemory>
+    requires few { length requests.now ≤ 2 ^ 20 }
+    requires early { AllByRecursion (λ (r : Asked). r.time ≤ 9223372036854775807) requests.now }
+    ensures { IfOk result (λ order. map viewed order.entries ≡ by_id 0 requests.now) }
+{
+    let mut order = BTreeMap::new(alloc);
+    let mut left = requests.len();
+    while left > 0 {
+        left -= 1;
+        put_request(alloc, &mut order, left as u64, &requests[left])?;
+    }
+    Ok(order)
+}
+
+// Puts what stands under the id of a request in the place of what may stand there.
+fn put_request(
+    alloc: Global,
+    order: &mut BTreeMap<[u8; 32], Tree>,
+    number: u64,
+    request: &Request,
+) -> Result<(), NoMemory>
+    requires { request.now.time ≤ 9223372036854775807 }
+    ensures { OnOk result (map viewed order.new.entries ≡ insert_entry (slice_cmp nat_cmp) (map viewed order.old.entries) (id_of_request number request.now) (request_part request.now.answer)) }
+{
+    let id = id_of_request(alloc, number, request)?;
+    let part = request_part(alloc, &request.answer)?;
+    order.insert(id, part)?;
+    Ok(())
+}
+
+// When a request is too old, in nanoseconds since 1970-01-01.
+fn expiry(request: &Request) -> u64
+    requires { request.now.time ≤ 9223372036854775807 }
+    ensures { result ≡ request.now.time + 300000000000 }
+{
+    request.time + LIFETIME
+}
+
+fn id_of_request(alloc: Global, number: u64, request: &Request) -> Result<[u8; 32], NoMemory>
+    requires { request.now.time ≤ 9223372036854775807 }
+    ensures { IfOk result (λ id. id ≡ id_of_request number request.now) }
+{
+    let mut pairs = Pairs::new(alloc);
+    pairs.put_bytes(alloc, "request_type", b"call".as_slice())?;
+    pairs.put_bytes(alloc, "sender", request.sender.bytes())?;
+    pairs.put_bytes(alloc, "canister_id", request.callee.bytes())?;
+    pairs.put_bytes(alloc, "method_name", request.method.items.as_bytes())?;
+    pairs.put_bytes(alloc, "arg", &request.arg.items)?;
+    pairs.put_number(alloc, "ingress_expiry", expiry(request))?;
+    pairs.put_bytes(alloc, "nonce", number.to_be_bytes().as_slice())?;
+    Ok(pairs.hash())
+}
+
+#[tactic(auto, unfolding(crate::specs::HashTree::forked_in))]
+fn request_part(alloc: Global, answer: &Option<Response>) -> Result<Tree, NoMemory>
+    ensures { IfOk result (λ tree. view tree ≡ request_part answer.now) }
+{
+    match answer {
+        None => status_leaf(alloc, b"processing".as_slice()),
+        Some(Response::Reply(bytes)) => replied_part(alloc, bytes),
+        Some(Response::Reject { code, message }) => rejected_part(alloc, *code, message),
+    }
+}
+
+#[tactic(auto, unfolding(crate::specs::HashTree::forked_in))]
+fn replied_part(alloc: Global, bytes: &Bytes) -> Result<Tree, NoMemory>
+    ensures { IfOk result (λ tree. view tree ≡ request_part (Some (Response.Reply bytes.now))) }
+{
+    let reply = leaf_at(alloc, b"reply".as_slice(), &bytes.items)?;
+    fork(alloc, reply, status_leaf(alloc, b"replied".as_slice())?)
+}
+
+#[tactic(auto, unfolding(crate::specs::HashTree::forked_in))]
+fn rejected_part(alloc: Global, code: u32, message: &Text) -> Result<Tree, NoMemory>
+    ensures { IfOk result (λ tree. view tree ≡ request_part (Some (Response.Reject code message.now))) }
+{
+    let code = number_leaf(alloc, b"reject_code".as_slice(), code as u64)?;
+    let message = leaf_at(
+        alloc,
+        b"reject_message".as_slice(),
+        message.items.as_bytes(),
+    )?;
+    let status = status_leaf(alloc, b"rejected".as_slice())?;
+    fork(alloc, fork(alloc, code, message)?, status)
+}
+
+// ---- leaves
+
+fn status_leaf(alloc: Global, status: &[u8]) -> Result<Tree, NoMemory>
+    ensures { IfOk result (λ tree. view tree ≡ status_leaf status.now) }
+{
+    leaf_at(alloc, b"status".as_slice(), status)
+}
+
+// A number in LEB128.
+#[tactic(auto, unfolding(crate::specs::View::view))]
+fn number_leaf(alloc: Global, label: &[u8], number: u64) -> Result<Tree, NoMemory>
+    ensures { IfOk result (λ tree. view tree ≡ leaf_at label.now (unsigned_spelling number)) }
+{
+    let mut items = Vec::new(alloc);
+    write_u(number as u128, &mut items)?;
+    labeled(alloc, label, Tree::Leaf(Bytes { items }))
+}
