@@ -352,7 +352,7 @@ shape_typed table formed depth law type (compound (Seq item)) at v tokens small 
 shape_typed table formed depth law type (compound (Seq item)) at v tokens small (inr is) =
     let us = is.0 in
     let each = braces_each (IsTyped table item) (codes "vec") (λ next u. Annotated item (Says table depth item u)) no_place
-      (λ next u front fits said. annotated_parts item (Says table depth item u) front fits (λ inner less p. law item u inner less p) said) us tokens small is.3 in
+    (λ next u front fits said. annotated_parts item (Says table depth item u) front fits (λ inner less p. law item u inner less p) said) us tokens small is.3 in
     let all = all_wire table item us each.0 in
     let count = unsigned_spelled Candid (count_of (contents_of us)) (let n = count_is us in omega (arith, n, each.1)) in
     subst (IsTyped table type) (sym is.2) (unsigned_spelling (count_of (contents_of us)) ++ all.0, (item, at, is.1, unsigned_spelling (count_of (contents_of us)), all.0, refl, count, all.1))
@@ -427,7 +427,7 @@ pub said_types : (table : List Entry) (types : List TyRef) (values : List Conten
 said_types table types values bytes formed short s =
     let n = text_room false (mark 40 ∷ s.tokens) bytes s.lexed in
     let each = parts_each (IsArgument table types) (mark 44) (mark 41) (SaysArgument table types) (λ x. suc x.0)
-      (λ next x front small said. (said.1, ap (slice_get types) said.0 ∙ said.2, annotated_parts said.1 (Says table 128 said.1 x.1) front small (λ inner less p. typed table formed 128 said.1 x.1 inner less p) said.3)) s.arguments 0 s.tokens (omega (arith, n, short)) s.said in
+    (λ next x front small said. (said.1, ap (slice_get types) said.0 ∙ said.2, annotated_parts said.1 (Says table 128 said.1 x.1) front small (λ inner less p. typed table formed 128 said.1 x.1 inner less p) said.3)) s.arguments 0 s.tokens (omega (arith, n, short)) s.said in
     subst (HasTypes table types) s.are (each_wire table types s.arguments 0 types (λ k. let n : 0 + k ≡ k = omega arith in ap (slice_get types) n) s.all (are_placed table types s.arguments 0 s.tokens s.said) each.0)
 
 pub typed_with : {A E : Type 0} (view_of : A → List Content) (table : List Entry) (types : List TyRef) (bytes : List ℕ) (r : Result A E) → IsTrue (is_table table) → length bytes < 2 ^ 64 → IfOk r (λ x. Said table types (view_of x) bytes) → IfOk r (λ x. HasTypes table types (view_of x))
