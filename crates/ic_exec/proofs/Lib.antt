@@ -7,3 +7,6 @@ pub mod AnswerRuns
 pub mod Handles
 pub mod Trapped
 pub mod Conserves
+pub mod Stages
+pub mod Stores
+pub mod Installs

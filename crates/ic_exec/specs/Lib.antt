@@ -5,3 +5,4 @@ pub mod Inspection
 pub mod Placed
 pub mod TrapLeaves
 pub mod Cleanups
+pub mod Installed

@@ -21,8 +21,8 @@ use std::alloc::Global;
 use wm_semantics::Target;
 use wm_valid::EntryName;
 
-// What a user sees who asks without a call.
-fn user_view(
+/// What a user sees who asks without a call.
+pub fn user_view(
     alloc: Global,
     env: Env,
     canister: &Canister,

@@ -2,10 +2,11 @@ ghost use Rattle.std.specs.Prelude.{◌≡◌, ◌+◌, ◌<◌, ◌≤◌, ◌^
 ghost use Rattle.wm_store.specs.Fits.{Fits};
 ghost use Rattle.wm_semantics.specs.Begin.{IsTarget};
 ghost use Rattle.ic_behaviour.specs.Entry.{enters_by};
+ghost use Rattle.ic_behaviour.specs.Installing.{enters_after};
 ghost use Rattle.ic_state.specs.Seen.{code_of};
 ghost use Rattle.ic_api.specs.System.{system_api};
 ghost use Rattle.ic_api.specs.Executed.{Executed as KeepsRules};
-ghost use Rattle.ic_exec.specs.Entered.{outcome_in, told, store_after};
+ghost use Rattle.ic_exec.specs.Entered.{outcome_by, outcome_in, told, store_after};
 
 use ic_api::{Api, entries_are_lawful, host_is_function};
 use ic_base::NoMemory;
@@ -21,6 +22,35 @@ pub struct Entered {
     pub ended: Result<Effects, Trap>,
     /// How many instructions were used.
     pub used: u64,
+}
+
+/// Enters code, with a host of its own. What it uses is added to the meter.
+pub fn enter_after(
+    alloc: Global,
+    code: &Code,
+    store: &mut Store,
+    target: Target,
+    kind: EntryKind,
+    view: View,
+    meter: &mut Meter,
+) -> Result<Result<Effects, Trap>, NoMemory>
+    requires fits { Fits code.now.valid.«module» store.old.lists }
+    requires target { IsTarget code.now.valid.«module» target }
+    requires cycles { view.balance + view.available < 2 ^ 127 }
+    requires outstanding { view.outstanding ≤ 500 }
+    ensures outcome { IfOk result (λ ended. outcome_by store.new.lists meter.new.used ended
+        ≡ enters_after system_api (code_of code.now) store.old.lists target kind view meter.old.limit meter.old.used) }
+    ensures fits { IfOk result (λ _. Fits code.now.valid.«module» store.new.lists) }
+    ensures begun { store.new.begun ≡ store.old.begun }
+    ensures limit { meter.new.limit ≡ meter.old.limit }
+{
+    host_is_function();
+    let mut api = Api::new(alloc, kind, view);
+    let ended = invoke(alloc, &code.valid, store, target, &mut api, meter)?;
+    match ended {
+        Ended::Returned => Ok(Ok(api.finish())),
+        Ended::Trapped(cause) => Ok(Err(cause)),
+    }
 }
 
 // Enters code, with a host and a meter of its own.
@@ -42,21 +72,12 @@ fn enter(
     ensures begun { store.new.begun ≡ store.old.begun }
     ensures used { IfOk result (λ e. e.used ≤ limit) }
 {
-    host_is_function();
-    let mut api = Api::new(alloc, kind, view);
     let mut meter = Meter::new(limit);
-    let ended = invoke(alloc, &code.valid, store, target, &mut api, &mut meter)?;
-    let used = meter.used();
-    match ended {
-        Ended::Returned => Ok(Entered {
-            ended: Ok(api.finish()),
-            used,
-        }),
-        Ended::Trapped(cause) => Ok(Entered {
-            ended: Err(cause),
-            used,
-        }),
-    }
+    let ended = enter_after(alloc, code, store, target, kind, view, &mut meter)?;
+    Ok(Entered {
+        ended,
+        used: meter.used(),
+    })
 }
 
 /// Enters code as a message of its own: what it does to the store is kept where it returns and

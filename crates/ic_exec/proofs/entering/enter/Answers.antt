@@ -1,16 +1,8 @@
 use Rattle.ic_state.specs.Seen.{code_of}
-use Rattle.ic_api.specs.Running.{api_reply}
-use Rattle.ic_exec.proofs.Enters.{returns_is, traps_is}
+use Rattle.ic_exec.proofs.Enters.{fresh_is}
 use Rattle.ic_exec.proofs.entering.enter.Goals as goal
 
-pub returns-in-Returned-clause-outcome : goal.returns-in-Returned-clause-outcome
-returns-in-Returned-clause-outcome c =
-    returns_is (code_of c.args.code.now) c.args.store.now.lists c.invoke.new.store.lists c.args.target c.args.kind c.args.view c.args.limit c.new-api.result c.invoke.new.host c.new-meter.result c.invoke.new.meter.used c.used-used.result c.in_ok-ended.ended
-    c.new-api.ensures c.new-meter.ensures (c.in_ok-ended.ensures.function api_reply c.host_is_function.ensures.rises c.host_is_function.ensures.agrees) c.used-used.ensures.used
-    c.finish.result c.in-Returned.is c.finish.ensures.effects
-
-pub returns-in-Trapped-clause-outcome : goal.returns-in-Trapped-clause-outcome
-returns-in-Trapped-clause-outcome c =
-    traps_is (code_of c.args.code.now) c.args.store.now.lists c.invoke.new.store.lists c.args.target c.args.kind c.args.view c.args.limit c.new-api.result c.invoke.new.host c.new-meter.result c.invoke.new.meter.used c.used-used.result c.in_ok-ended.ended
-    c.new-api.ensures c.new-meter.ensures (c.in_ok-ended.ensures.function api_reply c.host_is_function.ensures.rises c.host_is_function.ensures.agrees) c.used-used.ensures.used
-    c.in-Trapped.cause c.in-Trapped.is
+pub returns-clause-outcome : goal.returns-clause-outcome
+returns-clause-outcome c =
+    fresh_is (code_of c.args.code.now) c.args.store.now.lists c.enter_after.new.store.lists c.args.target c.args.kind c.args.view c.args.limit c.used.result c.enter_after.new.meter.used c.new-meter.result c.in_ok-ended.ended
+    c.new-meter.ensures c.used.ensures.used c.in_ok-ended.ensures.outcome
