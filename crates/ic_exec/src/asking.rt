@@ -1,4 +1,5 @@
-ghost use Rattle.std.specs.Prelude.{◌≡◌, ℕ, Some, option_map, IfOk, IfSome};
+ghost use Rattle.std.specs.Prelude.{◌≡◌, ℕ, Some, None, option_map, IfOk, IfSome, IsSome};
+ghost use Rattle.std.specs.Bool.{OnTrue, OnFalse};
 ghost use Rattle.ic_behaviour.specs.State.{Code as SomeCode};
 ghost use Rattle.ic_behaviour.specs.Outcomes.{Outcome};
 ghost use Rattle.ic_behaviour.specs.Entry.{enters_by};
@@ -151,6 +152,15 @@ fn inspection_of(canister: &Canister) -> Option<u32>
         Some(code) => code.valid.entry(EntryName::Inspect, ""),
         None => None,
     }
+}
+
+/// Whether the canister looks at users' calls before they are accepted: it is running, and its code has
+/// the entry point.
+pub fn inspects(canister: &Canister) -> bool
+    ensures yes { OnTrue result (IsSome (inspection_of (seen canister.now).phase (seen canister.now).code)) }
+    ensures no { OnFalse result (inspection_of (seen canister.now).phase (seen canister.now).code ≡ None) }
+{
+    inspection_of(canister).is_some()
 }
 
 /// Whether the canister accepts a user's call (IC Interface Specification, "Ingress message

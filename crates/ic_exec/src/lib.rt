@@ -20,7 +20,7 @@ mod upgrading;
 mod views;
 mod work;
 
-pub use asking::{inspect, query};
+pub use asking::{inspect, inspects, query};
 pub use executed::Executed;
 pub use handling::execute;
 pub use ic_behaviour::{InstallFault, Mode};
