@@ -10,6 +10,7 @@ mod Streams
 mod ExpectedTypes
 mod Refused
 mod DecodePrints
+mod Encodings
 mod Keeps
 mod Traces
 mod Promises

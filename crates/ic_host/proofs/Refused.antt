@@ -15,7 +15,7 @@ fault_is BadValue read e given = e
 fault_is NoMemory read e given = absurd (given refl)
 
 -- what is printed for the fault is the answer
-pub refused_answer : {E : Type 0} (expected : Types) (fault : DidlFault) (read : Result (List Content) DidlFault) (text : Result (List ℕ) E)
-    → FailsWith fault read → IfOk text (λ t. (t ≡ refused_text fault) × (fault ≢ NoMemory)) → IfOk text (λ t. t ≡ answer_text expected read)
-refused_answer expected fault read (Ok t) e is = is.0 ∙ sym (ap (answer_text expected) (fault_is fault read e is.1))
-refused_answer expected fault read (Err error) e is = is
+pub refused_answer : {E : Type 0} (print : Types → List Content → List ℕ) (expected : Types) (fault : DidlFault) (read : Result (List Content) DidlFault) (text : Result (List ℕ) E)
+    → FailsWith fault read → IfOk text (λ t. (t ≡ refused_text fault) × (fault ≢ NoMemory)) → IfOk text (λ t. t ≡ answer_text print expected read)
+refused_answer print expected fault read (Ok t) e is = is.0 ∙ sym (ap (answer_text print expected) (fault_is fault read e is.1))
+refused_answer print expected fault read (Err error) e is = is

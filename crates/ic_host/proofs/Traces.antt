@@ -6,7 +6,7 @@ use Rattle.ic_outside.specs.Limits.{Limits, Excess, LongLine, LongScript, script
 use Rattle.ic_outside.specs.Pieces.{pieces, line_of}
 use Rattle.ic_script.specs.Line.{command_of}
 use Rattle.ic_script.specs.declared.Command.{Command}
-use Rattle.ic_script.specs.declared.Command.TheVariants.{Nothing, Call, Query, Run, Drain, Time, Decode}
+use Rattle.ic_script.specs.declared.Command.TheVariants.{Nothing, Call, Query, Run, Drain, Time, Decode, Show, Encode}
 use Rattle.ic_script.specs.declared.LineCause.{LineCause}
 use Rattle.ic_script.specs.declared.LineCause.TheVariants.{Back, Calls}
 use Rattle.ic_script.proofs.Times.{time_of_line}
@@ -44,6 +44,8 @@ command_allowed options s (Query ask) sound within now = tt
 command_allowed options s (Run count) sound within now = rounds_allowed options count s sound
 command_allowed options s Drain sound within now = rounds_allowed options options.rounds s sound
 command_allowed options s (Decode expected bytes) sound within now = tt
+command_allowed options s (Show expected bytes) sound within now = tt
+command_allowed options s (Encode expected text) sound within now = tt
 command_allowed options s (Call ask) sound within now = (
   elim (cases_Bool (nat_lt (length s.requests) 1048576)) [
     | inl few ↦ omega (arith, ltb-true _ _ few)

@@ -4,7 +4,7 @@ use Rattle.std.specs.List.{concat}
 use Rattle.std.specs.Map.{lookup}
 use Rattle.ic_script.specs.declared.Ask.{Ask}
 use Rattle.ic_script.specs.declared.Command.{Command}
-use Rattle.ic_script.specs.declared.Command.TheVariants.{Nothing, Call, Query, Run, Drain, Time, Decode}
+use Rattle.ic_script.specs.declared.Command.TheVariants.{Nothing, Call, Query, Run, Drain, Time, Decode, Show, Encode}
 use Rattle.ic_script.specs.declared.LineCause.{LineCause}
 use Rattle.ic_script.specs.declared.LineCause.TheVariants.{Back, Calls}
 use Rattle.ic_behaviour.specs.declared.call.Response.{Response}
@@ -18,7 +18,8 @@ use Rattle.ic_exec.specs.Query.{query_response}
 use Rattle.ic_host.specs.declared.options.Options.{Options}
 use Rattle.ic_host.specs.Options.{rules_of}
 use Rattle.ic_host.specs.Texts.{accepted_text, query_text, ran_text}
-use Rattle.ic_host.specs.Decoding.{decode_text}
+use Rattle.ic_host.specs.Decoding.{decode_text, show_text}
+use Rattle.ic_host.specs.Encoding.{encode_text}
 
 -- ---- rounds
 
@@ -57,6 +58,8 @@ acts_of options s (Run count) = acts_of_rounds options count s
 acts_of options s Drain = acts_of_rounds options options.rounds s
 acts_of options s (Time time) = SetsTime time ∷ []
 acts_of options s (Decode expected bytes) = []
+acts_of options s (Show expected bytes) = []
+acts_of options s (Encode expected text) = []
 
 -- what a command prints
 abbrev pub text_of : Options → State → Command → List ℕ
@@ -67,6 +70,8 @@ text_of options s (Run count) = text_of_rounds options count s
 text_of options s Drain = text_of_rounds options options.rounds s
 text_of options s (Time time) = []
 text_of options s (Decode expected bytes) = decode_text expected bytes
+text_of options s (Show expected bytes) = show_text expected bytes
+text_of options s (Encode expected text) = encode_text expected text
 
 -- why a command may not come now: 2^20 calls were submitted, or the time would go back
 abbrev pub fault_of : State → Command → Option LineCause
@@ -77,6 +82,8 @@ fault_of s (Run count) = None
 fault_of s Drain = None
 fault_of s (Time time) = if nat_lt time s.time then Some Back else None
 fault_of s (Decode expected bytes) = None
+fault_of s (Show expected bytes) = None
+fault_of s (Encode expected text) = None
 
 abbrev pub unless : {T : Type 0} → Option LineCause → T → Result T LineCause
 unless None done = Ok done

@@ -9,6 +9,7 @@ use Rattle.cd_codec.specs.ReadHeader.{header_at}
 use Rattle.cd_coerce.specs.declared.fault.DidlFault.{DidlFault}
 use Rattle.cd_coerce.specs.declared.fault.DidlFault.TheVariants.{NotHeader, Float, NotSubtype, BadValue, NoMemory}
 use Rattle.cd_coerce.specs.Decoded.{decoded}
+use Rattle.cd_text.specs.Printed.{printed}
 use Rattle.ic_host.specs.Texts.{newline}
 
 -- a table and the types of arguments
@@ -41,21 +42,32 @@ fault_text NoMemory = []
 unfoldable pub refused_text : DidlFault → List ℕ
 refused_text fault = codes "refused " ++ (fault_text fault ++ newline)
 
--- for values that were read: the message that they are at the expected types, in hexadecimal
-unfoldable pub decoded_text : Types → List Content → List ℕ
-decoded_text expected values =
-    codes "decoded " ++ (encode_lower (message_spelling expected.0 expected.1 values) ++ newline)
+-- a word, and the message that values are at the expected types, in hexadecimal
+unfoldable pub message_text : List ℕ → Types → List Content → List ℕ
+message_text word expected values = word ++ (32 ∷ (encode_lower (message_spelling expected.0 expected.1 values) ++ newline))
 
--- for what a message is read as
-abbrev pub answer_text : Types → Result (List Content) DidlFault → List ℕ
-answer_text expected (Ok values) = decoded_text expected values
-answer_text expected (Err fault) = refused_text fault
+-- for values that were read
+abbrev pub decoded_text : Types → List Content → List ℕ
+decoded_text = message_text (codes "decoded")
+
+-- for values that were read: their text at the expected types
+unfoldable pub shown_text : Types → List Content → List ℕ
+shown_text expected values = codes "shown " ++ (printed expected.0 expected.1 values ++ newline)
+
+-- for what a message is read as; `print` is for values
+abbrev pub answer_text : (Types → List Content → List ℕ) → Types → Result (List Content) DidlFault → List ℕ
+answer_text print expected (Ok values) = print expected values
+answer_text print expected (Err fault) = refused_text fault
 
 -- for a message and the types that it is to be read at, where there are such types
-abbrev pub reading_text : Option Types → List ℕ → List ℕ
-reading_text None message = bad_expected_text
-reading_text (Some expected) message = answer_text expected (decoded expected message)
+abbrev pub reading_text : (Types → List Content → List ℕ) → Option Types → List ℕ → List ℕ
+reading_text print None message = bad_expected_text
+reading_text print (Some expected) message = answer_text print expected (decoded expected message)
 
 -- what is printed for a message and the bytes that are to give the expected types
 unfoldable pub decode_text : List ℕ → List ℕ → List ℕ
-decode_text expected message = reading_text (types_of expected) message
+decode_text expected message = reading_text decoded_text (types_of expected) message
+
+-- the same, where the text of the values is wanted
+unfoldable pub show_text : List ℕ → List ℕ → List ℕ
+show_text expected message = reading_text shown_text (types_of expected) message

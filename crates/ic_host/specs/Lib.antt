@@ -2,6 +2,7 @@ pub mod Status
 pub mod Options
 pub mod Texts
 pub mod Decoding
+pub mod Encoding
 pub mod AfterCommand
 pub mod AfterLine
 pub mod Walk

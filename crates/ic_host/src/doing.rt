@@ -6,11 +6,13 @@ ghost use Rattle.ic_state.specs.Seen.{state_of};
 ghost use Rattle.ic_host.specs.Acts.{Acts};
 ghost use Rattle.ic_host.specs.AfterLine.{after_line};
 ghost use Rattle.ic_host.specs.AfterCommand.{after_command, after_rounds, text_of_rounds, answer_now, fault_of, unless};
-ghost use Rattle.ic_host.specs.Decoding.{decode_text};
+ghost use Rattle.ic_host.specs.Decoding.{decode_text, show_text};
+ghost use Rattle.ic_host.specs.Encoding.{encode_text};
 ghost use Rattle.ic_host.specs.Options.{IsWithin, rules_of};
 ghost use Rattle.ic_host.specs.Texts.{accepted_text, query_text};
 
-use crate::decoding::decode_text;
+use crate::decoding::{decode_text, show_text};
+use crate::encoding::encode_text;
 use crate::options::Options;
 use crate::texts::{accepted_text, query_text, ran_text};
 use ic_base::NoMemory as WantOfMemory;
@@ -106,6 +108,8 @@ fn do_command<G: Gate + Sync>(
         Command::Drain => make_rounds(alloc, options, world, options.rounds, gate),
         Command::Time(time) => set_time(alloc, world, time),
         Command::Decode { expected, bytes } => decode(alloc, world, &expected, &bytes),
+        Command::Show { expected, bytes } => show(alloc, world, &expected, &bytes),
+        Command::Encode { expected, text } => encode(alloc, world, &expected, &text),
     }
 }
 
@@ -251,6 +255,34 @@ fn decode(
 {
     match decode_text(alloc, &expected.items, &bytes.items) {
         Ok(text) => Ok((world, text)),
+        Err(_) => Err(NotDone::NoMemory),
+    }
+}
+
+fn show(
+    alloc: Global,
+    world: World,
+    expected: &Bytes,
+    bytes: &Bytes,
+) -> Result<(World, Bytes), NotDone>
+    ensures { Acts (Ok (world, show_text expected.now bytes.now)) result }
+{
+    match show_text(alloc, &expected.items, &bytes.items) {
+        Ok(text) => Ok((world, text)),
+        Err(_) => Err(NotDone::NoMemory),
+    }
+}
+
+fn encode(
+    alloc: Global,
+    world: World,
+    expected: &Bytes,
+    text: &Bytes,
+) -> Result<(World, Bytes), NotDone>
+    ensures { Acts (Ok (world, encode_text expected.now text.now)) result }
+{
+    match encode_text(alloc, &expected.items, &text.items) {
+        Ok(printed) => Ok((world, printed)),
         Err(_) => Err(NotDone::NoMemory),
     }
 }

@@ -10,6 +10,7 @@
 
 mod decoding;
 mod doing;
+mod encoding;
 mod gathered;
 pub mod laws;
 mod options;

@@ -5,10 +5,9 @@ use Rattle.std.specs.Str.Parse.{digits_value}
 use Rattle.std.proofs.lemmas.Bool.{and_parts, leb-true, cases_Bool}
 use Rattle.ic_script.specs.Line.{command_of, says_nothing}
 use Rattle.ic_script.specs.Words.{words_of, is_well_formed, is_numeral}
-use Rattle.ic_script.specs.Command.{◌>>=◌, ask_of, bytes_word, number_word, run_command, drain_command, time_command, decode_command, command_of_words}
-use Rattle.ic_script.specs.declared.command.Ask.{Ask}
+use Rattle.ic_script.specs.Command.{◌>>=◌, ask_of, number_word, run_command, drain_command, time_command, typed_bytes, command_of_words}
 use Rattle.ic_script.specs.declared.command.Command.{Command}
-use Rattle.ic_script.specs.declared.command.Command.TheVariants.{Nothing, Call, Query, Run, Drain, Time, Decode}
+use Rattle.ic_script.specs.declared.command.Command.TheVariants.{Nothing, Call, Query, Run, Drain, Time, Decode, Show, Encode}
 use Rattle.ic_script.specs.declared.line_cause.LineCause.{LineCause}
 use Rattle.ic_script.specs.declared.line_cause.LineCause.TheVariants.{Form, Number}
 
@@ -21,6 +20,8 @@ IsTimely (Run count) = Unit {0}
 IsTimely Drain = Unit {0}
 IsTimely (Time time) = time ≤ 9223372036854775807
 IsTimely (Decode expected bytes) = Unit {0}
+IsTimely (Show expected bytes) = Unit {0}
+IsTimely (Encode expected text) = Unit {0}
 
 unfoldable GivesTimely : Result Command LineCause → Type 0
 GivesTimely (Ok command) = IsTimely command
@@ -34,10 +35,10 @@ either : (b : Bool) (x y : Result Command LineCause) → GivesTimely x → Gives
 either true x y p q = p
 either false x y p q = q
 
-of_ask : (ask : Result Ask LineCause) (make : Ask → Command) → ((a : Ask) → IsTimely (make a)) → GivesTimely (ask >>= λ a. Ok (make a))
+of_made : {A : Type 0} (said : Result A LineCause) (make : A → Command) → ((a : A) → IsTimely (make a)) → GivesTimely (said >>= λ a. Ok (make a))
 unfolding GivesTimely
-of_ask (Ok a) make h = h a
-of_ask (Err cause) make h = tt
+of_made (Ok a) make h = h a
+of_made (Err cause) make h = tt
 
 number-most : (most : ℕ) (word : List ℕ) (n : ℕ) → number_word most word ≡ Ok n → n ≤ most
 number-most most word n e = elim (cases_Bool (is_numeral word && nat_le (digits_value 10 word) most)) [
@@ -71,29 +72,18 @@ of_time [] = tt
 of_time (time ∷ []) = of_number (number_word 9223372036854775807 time) Time (λ n e. number-most 9223372036854775807 time n e)
 of_time (time ∷ other ∷ words) = tt
 
-of_bytes : (r s : Result (List ℕ) LineCause) → GivesTimely (r >>= λ types. s >>= λ bytes. Ok (Decode types bytes))
-unfolding GivesTimely
-of_bytes (Ok types) (Ok bytes) = tt
-of_bytes (Ok types) (Err cause) = tt
-of_bytes (Err cause) s = tt
-
-of_decode : (words : List (List ℕ)) → GivesTimely (decode_command words)
-unfolding decode_command GivesTimely
-of_decode [] = tt
-of_decode (expected ∷ []) = tt
-of_decode (expected ∷ message ∷ []) = of_bytes (bytes_word expected) (bytes_word message)
-of_decode (expected ∷ message ∷ other ∷ words) = tt
-
 of_words : (words : List (List ℕ)) → GivesTimely (command_of_words words)
 unfolding command_of_words
 of_words [] = refuses Form
 of_words (verb ∷ words) =
-    either _ _ _ (of_ask (ask_of words) Call (λ a. tt))
-    (either _ _ _ (of_ask (ask_of words) Query (λ a. tt))
+    either _ _ _ (of_made (ask_of words) Call (λ a. tt))
+    (either _ _ _ (of_made (ask_of words) Query (λ a. tt))
     (either _ _ _ (of_run words)
     (either _ _ _ (of_drain words)
     (either _ _ _ (of_time words)
-    (either _ _ _ (of_decode words) (refuses Form))))))
+    (either _ _ _ (of_made (typed_bytes words) (λ x. Decode x.0 x.1) (λ x. tt))
+    (either _ _ _ (of_made (typed_bytes words) (λ x. Show x.0 x.1) (λ x. tt))
+    (either _ _ _ (of_made (typed_bytes words) (λ x. Encode x.0 x.1) (λ x. tt)) (refuses Form))))))))
 
 nothing : GivesTimely (Ok Nothing)
 unfolding GivesTimely

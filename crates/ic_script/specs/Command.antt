@@ -6,7 +6,7 @@ use Rattle.ic_principal.specs.Text.{principal_of}
 use Rattle.hex.specs.Hex.{decode_of}
 use Rattle.ic_script.specs.declared.command.Ask.{Ask}
 use Rattle.ic_script.specs.declared.command.Command.{Command}
-use Rattle.ic_script.specs.declared.command.Command.TheVariants.{Call, Query, Run, Drain, Time, Decode}
+use Rattle.ic_script.specs.declared.command.Command.TheVariants.{Call, Query, Run, Drain, Time, Decode, Show, Encode}
 use Rattle.ic_script.specs.declared.line_cause.LineCause.{LineCause}
 use Rattle.ic_script.specs.declared.line_cause.LineCause.TheVariants.{Form, Principal, Hex, Number, Size}
 use Rattle.ic_script.specs.Words.{is_numeral}
@@ -43,11 +43,11 @@ ask_of (sender ∷ callee ∷ method ∷ arg ∷ []) =
     Ok (record { sender = from; callee = to; method = method; arg = bytes }))
 ask_of _ = Err Form
 
--- a message read at expected types, in two words: what gives the types, the message
-unfoldable pub decode_command : List (List ℕ) → Result Command LineCause
-decode_command (expected ∷ message ∷ []) =
-    bytes_word expected >>= λ types. bytes_word message >>= λ bytes. Ok (Decode types bytes)
-decode_command _ = Err Form
+-- what is read at expected types, in two words: what gives the types, and what is read
+unfoldable pub typed_bytes : List (List ℕ) → Result (List ℕ × List ℕ) LineCause
+typed_bytes (expected ∷ read ∷ []) =
+    bytes_word expected >>= λ types. bytes_word read >>= λ bytes. Ok (types, bytes)
+typed_bytes _ = Err Form
 
 -- up to so many rounds
 unfoldable pub run_command : List (List ℕ) → Result Command LineCause
@@ -72,5 +72,7 @@ command_of_words (verb ∷ words) =
     else if bytes_eq verb (codes "run") then run_command words
     else if bytes_eq verb (codes "drain") then drain_command words
     else if bytes_eq verb (codes "time") then time_command words
-    else if bytes_eq verb (codes "decode") then decode_command words
+    else if bytes_eq verb (codes "decode") then (typed_bytes words >>= λ x. Ok (Decode x.0 x.1))
+    else if bytes_eq verb (codes "show") then (typed_bytes words >>= λ x. Ok (Show x.0 x.1))
+    else if bytes_eq verb (codes "encode") then (typed_bytes words >>= λ x. Ok (Encode x.0 x.1))
     else Err Form

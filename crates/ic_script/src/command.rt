@@ -32,4 +32,9 @@ pub enum Command {
     /// A Candid message that is read at once, and what is to be the header of its expected types.
     /// Neither is looked at yet.
     Decode { expected: Bytes, bytes: Bytes },
+    /// As `Decode`, where the text of what is read is wanted.
+    Show { expected: Bytes, bytes: Bytes },
+    /// The text of Candid values that is read at once, and what is to be the header of its
+    /// expected types. Neither is looked at yet.
+    Encode { expected: Bytes, text: Bytes },
 }

@@ -1,7 +1,7 @@
 ghost use Rattle.std.specs.Prelude.{◌≡◌, ◌≢◌, ◌≤◌, ◌<◌, ◌^◌, ℕ, Ok, Err, option_copied};
 ghost use Rattle.ic_script.specs.Line.{Agrees, command_of, says_nothing};
 ghost use Rattle.ic_script.specs.Words.{words_left};
-ghost use Rattle.ic_script.specs.Command.{ask_of, run_command, drain_command, time_command, decode_command, principal_word, bytes_word, number_word};
+ghost use Rattle.ic_script.specs.Command.{ask_of, run_command, drain_command, time_command, typed_bytes, principal_word, bytes_word, number_word};
 
 use crate::command::{Ask, Command};
 use crate::line_cause::LineError;
@@ -38,7 +38,18 @@ pub fn parse_line(alloc: Global, bytes: &[u8]) -> Result<Command, LineError>
         "run" => parse_run(operands),
         "drain" => parse_drain(operands),
         "time" => parse_time(operands),
-        "decode" => parse_decode(alloc, operands),
+        "decode" => {
+            let (expected, bytes) = parse_typed(alloc, operands)?;
+            Ok(Command::Decode { expected, bytes })
+        }
+        "show" => {
+            let (expected, bytes) = parse_typed(alloc, operands)?;
+            Ok(Command::Show { expected, bytes })
+        }
+        "encode" => {
+            let (expected, text) = parse_typed(alloc, operands)?;
+            Ok(Command::Encode { expected, text })
+        }
         _ => Err(LineError::Form),
     }
 }
@@ -110,17 +121,17 @@ fn parse_time(operands: Option<&str>) -> Result<Command, LineError>
     Ok(Command::Time(number(time, LATEST_TIME)?))
 }
 
-/// A message and its expected types in two words.
-#[tactic(auto, unfolding(crate::specs::Command::decode_command))]
-fn parse_decode(alloc: Global, operands: Option<&str>) -> Result<Command, LineError>
-    ensures { Agrees result (decode_command (words_left (option_copied operands.entry))) }
+/// What gives expected types, and what is read at them, in two words.
+#[tactic(auto, unfolding(crate::specs::Command::typed_bytes))]
+fn parse_typed(alloc: Global, operands: Option<&str>) -> Result<(Bytes, Bytes), LineError>
+    ensures { Agrees result (typed_bytes (words_left (option_copied operands.entry))) }
 {
     let Some((expected, bytes)) = two_words(operands) else {
         return Err(LineError::Form);
     };
     let expected = hex_bytes(alloc, expected)?;
     let bytes = hex_bytes(alloc, bytes)?;
-    Ok(Command::Decode { expected, bytes })
+    Ok((expected, bytes))
 }
 
 /// The principal that a word names.

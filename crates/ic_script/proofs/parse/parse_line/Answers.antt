@@ -6,6 +6,3 @@ returns-in-run-clause-time c = time_of_line c.args.bytes.now
 
 pub returns-in-time-clause-time : goal.returns-in-time-clause-time
 returns-in-time-clause-time c = time_of_line c.args.bytes.now
-
-pub returns-in-decode-clause-time : goal.returns-in-decode-clause-time
-returns-in-decode-clause-time c = time_of_line c.args.bytes.now
