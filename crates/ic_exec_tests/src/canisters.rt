@@ -42,7 +42,7 @@ fn relay_bytes(alloc: Global) -> Result<Bytes, NoMemory> {
     encode(alloc, &module)
 }
 
-fn valid_of(alloc: Global, bytes: &[u8]) -> Option<Valid> {
+pub fn valid_of(alloc: Global, bytes: &[u8]) -> Option<Valid> {
     match decode(alloc, bytes) {
         Ok(module) => validate(alloc, module).ok(),
         Err(_) => None,
@@ -68,7 +68,7 @@ fn placed(alloc: Global, canister: Canister, valid: Valid) -> Option<Canister>
     }
 }
 
-fn empty_canister(alloc: Global) -> Option<Canister>
+pub fn empty_canister(alloc: Global) -> Option<Canister>
     ensures keeps { IfSome result IsCanister }
     ensures empty { IfSome result (λ c. c.code ≡ None) }
     ensures fresh { IfSome result (λ c. c.contexts ≡ []) }

@@ -5,6 +5,10 @@
 #[cfg(test)]
 mod canisters;
 #[cfg(test)]
+mod installs;
+#[cfg(test)]
+mod keeper;
+#[cfg(test)]
 mod rows;
 #[cfg(test)]
 mod tests;
