@@ -1,0 +1,9 @@
+pub mod Words
+pub mod PartLemmas
+pub mod Loops
+pub mod Takes
+pub mod Again
+pub mod FileLoops
+pub mod Files
+pub mod Fits
+pub mod Counts

@@ -1,0 +1,275 @@
+-- Interface files as functions that read tokens.
+use Rattle.std.specs.Prelude.{ℕ, zero, suc, Bool, true, false, ◌==◌, ◌+◌, List, [], ◌∷◌, ◌++◌, length, drop, Option, Some, None, if◌then◌else◌}
+use Rattle.ic_base.specs.Reader.{◌>>=◌}
+use Rattle.cd_types.specs.declared.primitive.Primitive.TheVariants as primitives
+use Rattle.cd_tokens.specs.Token.{Token, run, quoted, mark, arrow}
+use Rattle.cd_tokens.specs.Label.{is_name}
+use Rattle.cd_tokens.specs.ReadLabel.{name_of, label_of}
+use Rattle.cd_grammar.specs.declared.word.Word.{Word}
+use Rattle.cd_grammar.specs.declared.word.Word.TheVariants as words
+use Rattle.cd_grammar.specs.declared.written.Part.{Part}
+use Rattle.cd_grammar.specs.declared.written.Part.TheVariants.{Prim, Float, Name, Place}
+use Rattle.cd_grammar.specs.declared.written.Written.{Written}
+use Rattle.cd_grammar.specs.declared.written.Written.TheVariants.{Opt, Seq, Rec, Var, Func, Service}
+use Rattle.cd_grammar.specs.declared.written.Main.{Main}
+use Rattle.cd_grammar.specs.File.{File}
+use Rattle.cd_grammar.specs.Words.{word_of, note_of}
+use Rattle.cd_grammar.specs.Grammar.{after_field, no_place, max_depth}
+
+-- what reads something from the front of the tokens: with a state, as the list of the types with parts that are written so far
+abbrev pub Reading : Type 0 → Type 0 → Type 0
+Reading S A = S → List Token → Option (A × S × List Token)
+
+abbrev pub Reads : Type 0 → Type 0
+Reads A = Reading (List Written) A
+
+-- the token is this mark
+abbrev pub is_mark : ℕ → Token → Bool
+is_mark k (run r) = false
+is_mark k (quoted s) = false
+is_mark k (mark m) = m == k
+is_mark k arrow = false
+
+abbrev pub is_arrow : Token → Bool
+is_arrow (run r) = false
+is_arrow (quoted s) = false
+is_arrow (mark m) = false
+is_arrow arrow = true
+
+-- the first token passes
+abbrev pub starts : (Token → Bool) → List Token → Bool
+starts test [] = false
+starts test (t ∷ rest) = test t
+
+-- what f makes of what is read
+abbrev pub then_make : {S A B : Type 0} → (A → B) → Option (A × S × List Token) → Option (B × S × List Token)
+then_make f read = read >>= λ x. Some (f x.0, x.1, x.2)
+
+-- behind a part: the end, or a separator and more parts
+abbrev pub behind_at : {S A : Type 0} → ℕ → ℕ → (A → Reading S (List A)) → A × S × List Token → Option (List A × S × List Token)
+behind_at separator end more x =
+    if starts (is_mark end) x.2 then Some (x.0 ∷ [], x.1, drop 1 x.2)
+    else if starts (is_mark separator) x.2 then then_make (λ xs. x.0 ∷ xs) (more x.0 x.1 (drop 1 x.2)) else None
+
+-- parts up to a closing mark, fewer than `fuel`
+unfoldable pub parts_at : {S A : Type 0} → ℕ → ℕ → (ℕ → Reading S A) → (A → ℕ) → ℕ → ℕ → Reading S (List A)
+parts_at separator end read step zero next state tokens = None
+parts_at separator end read step (suc fuel) next state tokens =
+    if starts (is_mark end) tokens then Some ([], state, drop 1 tokens)
+    else (read next state tokens >>= behind_at separator end (λ x. parts_at separator end read step fuel (step x)))
+
+-- parts behind an opening mark
+abbrev pub enclosed_at : {S A : Type 0} → ℕ → ℕ → ℕ → (ℕ → Reading S A) → (A → ℕ) → Reading S (List A)
+enclosed_at begin separator end read step state tokens =
+    if starts (is_mark begin) tokens then parts_at separator end read step (length tokens) 0 state (drop 1 tokens) else None
+
+-- one more type, of what was read
+abbrev pub added : {A : Type 0} → (A → Written) → A × List Written × List Token → Option (Part × List Written × List Token)
+added made x = Some (Place (length x.1), x.1 ++ made x.0 ∷ [], x.2)
+
+-- the word that a token is
+abbrev pub token_word : Token → Option Word
+token_word (run r) = word_of r
+token_word (quoted s) = None
+token_word (mark m) = None
+token_word arrow = None
+
+-- the word that stands first
+abbrev pub first_word : List Token → Option Word
+first_word [] = None
+first_word (t ∷ rest) = token_word t
+
+-- the name that a token is, where it is no word
+abbrev pub unless_word : List ℕ → Option Word → Option (List ℕ)
+unless_word name None = Some name
+unless_word name (Some w) = None
+
+abbrev pub free_name : Token → Option (List ℕ)
+free_name (run r) = if is_name r then unless_word r (word_of r) else None
+free_name (quoted s) = None
+free_name (mark m) = None
+free_name arrow = None
+
+-- a name that stands as a type
+abbrev pub named_at : Reads Part
+named_at types [] = None
+named_at types (t ∷ rest) = free_name t >>= λ name. Some (Name name, types, rest)
+
+-- a type behind its label and a colon
+abbrev pub labelled_at : Reads Part → Token → Reads (ℕ × Part)
+labelled_at read label types tokens = label_of label >>= λ id. then_make (λ part. (id, part)) (read types tokens)
+
+abbrev pub field_at : Reads Part → ℕ → Reads (ℕ × Part)
+field_at read next types [] = None
+field_at read next types (t ∷ rest) =
+    if starts (is_mark 58) rest then labelled_at read t types (drop 1 rest) else then_make (λ part. (next, part)) (read types (t ∷ rest))
+
+abbrev pub case_at : Reads Part → ℕ → Reads (ℕ × Part)
+case_at read next types [] = None
+case_at read next types (t ∷ rest) =
+    if starts (is_mark 58) rest then labelled_at read t types (drop 1 rest) else (label_of t >>= λ id. Some ((id, Prim primitives.Null), types, rest))
+
+abbrev pub argument_at : Reads Part → ℕ → Reads Part
+argument_at read next types [] = None
+argument_at read next types (t ∷ rest) =
+    if starts (is_mark 58) rest then (free_name t >>= λ name. read types (drop 1 rest)) else read types (t ∷ rest)
+
+abbrev pub tuple_at : Reads Part → Reads (List Part)
+tuple_at read types tokens = enclosed_at 40 44 41 (argument_at read) no_place types tokens
+
+-- the annotation that a token is
+abbrev pub token_note : Token → Option ℕ
+token_note t = token_word t >>= note_of
+
+abbrev pub with_note : Option ℕ → List Token → List ℕ × List Token → List ℕ × List Token
+with_note None tokens more = ([], tokens)
+with_note (Some note) tokens more = (note ∷ more.0, more.1)
+
+-- the annotation that stands first
+abbrev pub first_note : List Token → Option ℕ
+first_note [] = None
+first_note (t ∷ rest) = token_note t
+
+-- annotations, as many as there are
+unfoldable pub notes_at : List Token → List ℕ × List Token
+notes_at [] = ([], [])
+notes_at (t ∷ rest) = with_note (token_note t) (t ∷ rest) (notes_at rest)
+
+abbrev pub noted : List Part → List Part × List Written × List Token → Option (Part × List Written × List Token)
+noted args x = added (λ results. Func args results (notes_at x.2).0) (x.0, x.1, (notes_at x.2).1)
+
+abbrev pub results_at : Reads Part → List Part × List Written × List Token → Option (Part × List Written × List Token)
+results_at read x = if starts is_arrow x.2 then (tuple_at read x.1 (drop 1 x.2) >>= noted x.0) else None
+
+abbrev pub function_at : Reads Part → Reads Part
+function_at read types tokens = tuple_at read types tokens >>= results_at read
+
+abbrev pub method_at : Reads Part → ℕ → Reads (List ℕ × Part)
+method_at read next types [] = None
+method_at read next types (t ∷ rest) =
+    if starts (is_mark 58) rest then (name_of t >>= λ name. then_make (λ part. (name, part)) (read types (drop 1 rest))) else None
+
+abbrev pub service_at : Reads Part → Reads Part
+service_at read types tokens = enclosed_at 123 59 125 (method_at read) no_place types tokens >>= added (λ methods. Service methods)
+
+abbrev pub fields_at : (ℕ → Reads (ℕ × Part)) → (ℕ × Part → ℕ) → (List (ℕ × Part) → Written) → Reads Part
+fields_at read step made types tokens = enclosed_at 123 59 125 read step types tokens >>= added made
+
+abbrev pub inner_at : Reads Part → (Part → Written) → Reads Part
+inner_at read made types tokens = read types tokens >>= added made
+
+-- a type behind its word
+unfoldable pub behind_word_at : Reads Part → Reads Part → Word → Reads Part
+behind_word_at read method (words.Prim p) types tokens = Some (Prim p, types, tokens)
+behind_word_at read method words.Float32 types tokens = Some (Float, types, tokens)
+behind_word_at read method words.Float64 types tokens = Some (Float, types, tokens)
+behind_word_at read method words.Blob types tokens = added (λ item. Seq item) (Prim primitives.Nat8, types, tokens)
+behind_word_at read method words.Opt types tokens = inner_at read (λ t. Opt t) types tokens
+behind_word_at read method words.Seq types tokens = inner_at read (λ t. Seq t) types tokens
+behind_word_at read method words.Rec types tokens = fields_at (field_at read) after_field (λ fs. Rec fs) types tokens
+behind_word_at read method words.Var types tokens = fields_at (case_at read) no_place (λ fs. Var fs) types tokens
+behind_word_at read method words.Func types tokens = function_at read types tokens
+behind_word_at read method words.Service types tokens = service_at method types tokens
+behind_word_at read method _ types tokens = None
+
+-- a type behind its first token, if that is a word; else a name
+abbrev pub worded_at : Reads Part → Reads Part → Option Word → Token → Reads Part
+worded_at read method None t types rest = named_at types (t ∷ rest)
+worded_at read method (Some w) t types rest = behind_word_at read method w types rest
+
+unfoldable mutual
+  -- a type within so many levels
+  pub type_at : ℕ → Reads Part
+  type_at zero types tokens = None
+  type_at (suc depth) types [] = None
+  type_at (suc depth) types (t ∷ rest) = worded_at (type_at depth) (method_type_at depth) (token_word t) t types rest
+
+  -- the type of a method within so many levels
+  pub method_type_at : ℕ → Reads Part
+  method_type_at zero types tokens = None
+  method_type_at (suc depth) types tokens = if starts (is_mark 40) tokens then function_at (type_at depth) types tokens else named_at types tokens
+
+-- a definition behind the word `type`
+abbrev pub definition_at : Reads (List ℕ × Part)
+definition_at types [] = None
+definition_at types (t ∷ rest) =
+    free_name t >>= λ name. if starts (is_mark 61) rest then then_make (λ part. (name, part)) (type_at max_depth types (drop 1 rest)) else None
+
+abbrev pub is_type : Word → Bool
+is_type words.Definition = true
+is_type _ = false
+
+abbrev pub is_service : Word → Bool
+is_service words.Service = true
+is_service _ = false
+
+abbrev pub passes : (Word → Bool) → Option Word → Bool
+passes test None = false
+passes test (Some w) = test w
+
+-- the token is a word that passes
+abbrev pub is_word : (Word → Bool) → Token → Bool
+is_word test t = passes test (token_word t)
+
+-- there are no tokens
+abbrev pub are_none : List Token → Bool
+are_none [] = true
+are_none (t ∷ rest) = false
+
+-- behind a definition: the end of the file, or a semicolon and more
+abbrev pub behind_definition : Reads (List (List ℕ × Part)) → (List ℕ × Part) × List Written × List Token → Option (List (List ℕ × Part) × List Written × List Token)
+behind_definition more x =
+    if are_none x.2 then Some (x.0 ∷ [], x.1, x.2)
+    else if starts (is_mark 59) x.2 then then_make (λ ds. x.0 ∷ ds) (more x.1 (drop 1 x.2)) else None
+
+-- definitions, fewer than `fuel`
+unfoldable pub definitions_at : ℕ → Reads (List (List ℕ × Part))
+definitions_at zero types tokens = None
+definitions_at (suc fuel) types tokens =
+    if starts (is_word is_type) tokens then (definition_at types (drop 1 tokens) >>= behind_definition (definitions_at fuel)) else Some ([], types, tokens)
+
+-- behind the service's name and colon
+abbrev pub past_colon : List Token → Option (List Token)
+past_colon tokens = if starts (is_mark 58) tokens then Some (drop 1 tokens) else None
+
+abbrev pub past_name : List Token → Option (List Token)
+past_name [] = None
+past_name (t ∷ rest) = if is_mark 58 t then Some rest else (free_name t >>= λ name. past_colon rest)
+
+abbrev pub past_arrow : List Part × List Written × List Token → Option (List Part × List Written × List Token)
+past_arrow x = if starts is_arrow x.2 then Some (x.0, x.1, drop 1 x.2) else None
+
+-- the types that the service is installed with
+abbrev pub installed_at : Reads (List Part)
+installed_at types tokens = if starts (is_mark 40) tokens then (tuple_at (type_at max_depth) types tokens >>= past_arrow) else Some ([], types, tokens)
+
+abbrev pub served_at : Reads Part
+served_at types tokens = if starts (is_mark 123) tokens then service_at (method_type_at max_depth) types tokens else named_at types tokens
+
+abbrev pub is_end : List Token → Bool
+is_end [] = true
+is_end (t ∷ []) = is_mark 59 t
+is_end (t ∷ u ∷ rest) = false
+
+abbrev pub main_of : List Part → Part × List Written × List Token → Option (Main × List Written)
+main_of tuple x = if is_end x.2 then Some (record { tuple = tuple; service = x.0 }, x.1) else None
+
+-- the service behind its word, and the end
+abbrev pub main_at : List Written → List Token → Option (Main × List Written)
+main_at types tokens = do
+  rest ← past_name tokens
+  installed ← installed_at types rest
+  served ← served_at installed.1 installed.2
+  main_of installed.0 served
+
+-- the service, if there is one, and the end
+abbrev pub rest_at : List Written → List Token → Option (Option Main × List Written)
+rest_at types [] = Some (None, types)
+rest_at types (t ∷ rest) = if is_word is_service t then (main_at types rest >>= λ x. Some (Some x.0, x.1)) else None
+
+-- the file of definitions, types and what stands behind the definitions
+abbrev pub with_rest : List (List ℕ × Part) × List Written × List Token → Option File
+with_rest x = rest_at x.1 x.2 >>= λ y. Some (record { types = y.1; definitions = x.0; main = y.0 })
+
+unfoldable pub file_at : List Token → Option File
+file_at tokens = definitions_at (length tokens + 1) [] tokens >>= with_rest

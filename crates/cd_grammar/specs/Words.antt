@@ -1,0 +1,93 @@
+-- The words and marks of interface files (Candid specification, "Core Grammar").
+use Rattle.std.specs.Prelude.{◌≡◌, ℕ, Bool, true, false, bytes_eq, find, List, [], ◌∷◌, Option, Some, None, codes}
+use Rattle.cd_types.specs.declared.primitive.Primitive.TheVariants as primitives
+use Rattle.cd_tokens.specs.Token.{Token, run, mark}
+use Rattle.cd_tokens.specs.Label.{is_name}
+use Rattle.cd_grammar.specs.declared.word.Word.{Word}
+use Rattle.cd_grammar.specs.declared.word.Word.TheVariants.{Prim, Float32, Float64, Blob, Opt, Seq, Rec, Var, Func, Service, Definition, Query, Oneway, CompositeQuery}
+
+-- how a word is written
+unfoldable pub spelling : Word → List ℕ
+spelling (Prim primitives.Null) = codes "null"
+spelling (Prim primitives.Bool) = codes "bool"
+spelling (Prim primitives.Nat) = codes "nat"
+spelling (Prim primitives.Int) = codes "int"
+spelling (Prim primitives.Nat8) = codes "nat8"
+spelling (Prim primitives.Nat16) = codes "nat16"
+spelling (Prim primitives.Nat32) = codes "nat32"
+spelling (Prim primitives.Nat64) = codes "nat64"
+spelling (Prim primitives.Int8) = codes "int8"
+spelling (Prim primitives.Int16) = codes "int16"
+spelling (Prim primitives.Int32) = codes "int32"
+spelling (Prim primitives.Int64) = codes "int64"
+spelling (Prim primitives.Text) = codes "text"
+spelling (Prim primitives.Reserved) = codes "reserved"
+spelling (Prim primitives.Empty) = codes "empty"
+spelling (Prim primitives.Principal) = codes "principal"
+spelling Float32 = codes "float32"
+spelling Float64 = codes "float64"
+spelling Blob = codes "blob"
+spelling Opt = codes "opt"
+spelling Seq = codes "vec"
+spelling Rec = codes "record"
+spelling Var = codes "variant"
+spelling Func = codes "func"
+spelling Service = codes "service"
+spelling Definition = codes "type"
+spelling Query = codes "query"
+spelling Oneway = codes "oneway"
+spelling CompositeQuery = codes "composite_query"
+
+abbrev pub words : List Word
+words =
+    Prim primitives.Null ∷ Prim primitives.Bool ∷ Prim primitives.Nat ∷ Prim primitives.Int ∷ Prim primitives.Nat8 ∷ Prim primitives.Nat16 ∷ Prim primitives.Nat32 ∷ Prim primitives.Nat64
+    ∷ Prim primitives.Int8 ∷ Prim primitives.Int16 ∷ Prim primitives.Int32 ∷ Prim primitives.Int64 ∷ Prim primitives.Text ∷ Prim primitives.Reserved ∷ Prim primitives.Empty ∷ Prim primitives.Principal
+    ∷ Float32 ∷ Float64 ∷ Blob ∷ Opt ∷ Seq ∷ Rec ∷ Var ∷ Func ∷ Service ∷ Definition ∷ Query ∷ Oneway ∷ CompositeQuery ∷ []
+
+-- the word that is written so
+unfoldable pub word_of : List ℕ → Option Word
+word_of bytes = find (λ w. bytes_eq bytes (spelling w)) words
+
+-- a word as a token
+abbrev pub word : Word → Token
+word w = run (spelling w)
+
+-- a name that a definition may have: no word
+abbrev pub IsFreeName : List ℕ → Type 0
+IsFreeName name = (is_name name ≡ true) × (word_of name ≡ None)
+
+-- the annotation that a word is
+abbrev pub note_of : Word → Option ℕ
+note_of Query = Some 1
+note_of Oneway = Some 2
+note_of CompositeQuery = Some 3
+note_of _ = None
+
+abbrev pub is_float : Word → Bool
+is_float Float32 = true
+is_float Float64 = true
+is_float _ = false
+
+abbrev pub opening : Token
+opening = mark 40
+
+abbrev pub closing : Token
+closing = mark 41
+
+abbrev pub open_brace : Token
+open_brace = mark 123
+
+abbrev pub close_brace : Token
+close_brace = mark 125
+
+abbrev pub comma : Token
+comma = mark 44
+
+abbrev pub colon : Token
+colon = mark 58
+
+abbrev pub semicolon : Token
+semicolon = mark 59
+
+abbrev pub equals : Token
+equals = mark 61

@@ -1,0 +1,112 @@
+ghost use Rattle.std.specs.Prelude.{◌≡◌, drop};
+ghost use Rattle.ic_base.specs.Gives.{Gives};
+ghost use Rattle.cd_tokens.specs.View.{token_view, token_views};
+ghost use Rattle.cd_grammar.specs.Words.{word_of};
+ghost use Rattle.cd_grammar.specs.Read.{is_mark, is_arrow, starts, first_word, token_word, token_note, free_name, unless_word};
+
+use crate::word::Word;
+use cd_tokens::{Token, is_name};
+use ic_base::ReadError;
+use ic_principal::Bytes;
+use std::alloc::Global;
+
+/// Whether the mark stands first.
+pub(crate) fn starts_mark(tokens: &[Token<'_>], mark: u8) -> bool
+    ensures { result ≡ starts (is_mark mark) (token_views tokens.now) }
+{
+    match tokens {
+        [] => false,
+        [first, ..] => match first {
+            Token::Mark(other) => *other == mark,
+            Token::Run(_) => false,
+            Token::Quoted(_) => false,
+            Token::Arrow => false,
+        },
+    }
+}
+
+/// Whether `->` stands first.
+pub(crate) fn starts_arrow(tokens: &[Token<'_>]) -> bool
+    ensures { result ≡ starts is_arrow (token_views tokens.now) }
+{
+    match tokens {
+        [] => false,
+        [first, ..] => match first {
+            Token::Arrow => true,
+            Token::Mark(_) => false,
+            Token::Run(_) => false,
+            Token::Quoted(_) => false,
+        },
+    }
+}
+
+/// The tokens behind the first.
+pub(crate) fn rest_of<'t, 'a>(tokens: &'t [Token<'a>]) -> &'t [Token<'a>]
+    ensures { token_views result.now ≡ drop 1 (token_views tokens.now) }
+{
+    match tokens {
+        [] => tokens,
+        [_, rest @ ..] => rest,
+    }
+}
+
+/// The word that the token is.
+pub(crate) fn word_of(token: &Token<'_>) -> Option<Word>
+    ensures { result ≡ token_word (token_view token.now) }
+{
+    match token {
+        Token::Run(run) => Word::of(run.bytes),
+        Token::Quoted(_) => None,
+        Token::Mark(_) => None,
+        Token::Arrow => None,
+    }
+}
+
+/// The word that stands first.
+pub(crate) fn first_word(tokens: &[Token<'_>]) -> Option<Word>
+    ensures { result ≡ first_word (token_views tokens.now) }
+{
+    match tokens {
+        [] => None,
+        [first, ..] => word_of(first),
+    }
+}
+
+/// The annotation that the token is.
+pub(crate) fn note_of(token: &Token<'_>) -> Option<u8>
+    ensures { result ≡ token_note (token_view token.now) }
+{
+    match word_of(token) {
+        None => None,
+        Some(word) => word.note(),
+    }
+}
+
+fn unless_word(alloc: Global, name: &[u8]) -> Result<Bytes, ReadError>
+    ensures { Gives (λ name. name) result (unless_word name.now (word_of name.now)) }
+{
+    match Word::of(name) {
+        Some(_) => Err(ReadError::Refused),
+        None => Ok(Bytes {
+            items: Vec::from_slice(alloc, name)?,
+        }),
+    }
+}
+
+/// The name that the token is. `Refused`: it is none, or a word of the grammar.
+pub(crate) fn name_of(alloc: Global, token: &Token<'_>) -> Result<Bytes, ReadError>
+    ensures { Gives (λ name. name) result (free_name (token_view token.now)) }
+{
+    match token {
+        Token::Run(run) => {
+            if is_name(run.bytes) {
+                unless_word(alloc, run.bytes)
+            } else {
+                Err(ReadError::Refused)
+            }
+        }
+        Token::Quoted(_) => Err(ReadError::Refused),
+        Token::Mark(_) => Err(ReadError::Refused),
+        Token::Arrow => Err(ReadError::Refused),
+    }
+}
