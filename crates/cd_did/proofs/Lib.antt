@@ -1,0 +1,11 @@
+pub mod NamePlaces
+pub mod RingLemmas
+pub mod Ends
+pub mod ApartLemmas
+pub mod SortLemmas
+pub mod NameLemmas
+pub mod Stands
+pub mod SettledLemmas
+pub mod Tables
+pub mod MadeLemmas
+pub mod Interfaces

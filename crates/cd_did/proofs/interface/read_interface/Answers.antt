@@ -1,0 +1,12 @@
+use Rattle.std.proofs.Common.{Err, subst}
+use Rattle.ic_base.specs.declared.read_error.ReadError.{ReadError}
+use Rattle.cd_tokens.specs.Lexed.{Agrees}
+use Rattle.cd_grammar.specs.File.{File}
+use Rattle.cd_did.specs.Answers.{Answers}
+use Rattle.cd_did.proofs.interface.read_interface.Goals as goal
+
+pub returns-in-Ok-clause-answers : goal.returns-in-Ok-clause-answers
+returns-in-Ok-clause-answers c = λ file is. subst (λ (f : File). Answers f c.interface_of.result) (c.in-Ok.ensures.only file is) c.interface_of.ensures.answers
+
+pub returns-in-Err-Refused-clause-answers : goal.returns-in-Err-Refused-clause-answers
+returns-in-Err-Refused-clause-answers c = λ file is. subst (λ (e : ReadError). Agrees {A = File} (λ f. f) (Err e) file) c.in-Err-Refused.field-0-is (c.in-Err-Refused.ensures.only file is)

@@ -1,0 +1,7 @@
+use Rattle.std.proofs.Common.{drop}
+use Rattle.cd_did.specs.Places.{HasPlaces}
+use Rattle.cd_did.proofs.names.places_of.Given as goal
+
+-- the names of the last definitions
+abbrev pub invariant-loop-place : goal.invariant-loop-place
+invariant-loop-place l = HasPlaces l.places (drop l.place l.definitions) l.place

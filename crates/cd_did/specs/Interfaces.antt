@@ -1,0 +1,43 @@
+-- Interfaces that are made of a file, and what they promise.
+use Rattle.std.specs.Prelude.{◌≡◌, ℕ, Bool, true, false, List, length, Option, Some, None, option_map, Result, Ok, Err, IsTrue, IfSome}
+use Rattle.cd_types.specs.declared.entry.TyRef.{TyRef}
+use Rattle.cd_types.specs.declared.entry.Entry.{Entry}
+use Rattle.cd_types.specs.IsInside.{is_inside}
+use Rattle.cd_types.specs.IsTable.{is_table}
+use Rattle.cd_sub.specs.Sub.{Sub}
+use Rattle.cd_grammar.specs.File.{File}
+use Rattle.cd_did.specs.declared.fault.DidFault.{DidFault}
+use Rattle.cd_did.specs.declared.fault.DidFault.TheVariants.{TooMany}
+use Rattle.cd_did.specs.declared.fault.Interface.{Interface}
+use Rattle.cd_did.specs.Answers.{HasTypes}
+use Rattle.cd_did.specs.Rings.{HasEnds, is_named_at, least_from}
+use Rattle.cd_did.specs.Targets.{target}
+
+-- each name of the file leads to a type, and its definitions lead to these ends
+abbrev pub HasEnded : File → List ℕ → Type 0
+HasEnded file ends = HasTypes file × HasEnds file.definitions ends × (least_from (is_named_at file.definitions) None ends ≡ None)
+
+-- the reference to the service
+abbrev pub service_at : File → List ℕ → Option TyRef
+service_at file ends = option_map (λ main. target file.definitions ends main.service) file.main
+
+-- the interface of these entries and this service, or that they are too many for a table
+abbrev pub IsTabled : List Entry → Option TyRef → Result Interface DidFault → Type 0
+IsTabled entries service (Ok interface) = (interface.table ≡ entries) × (interface.service ≡ service) × (is_table entries ≡ true)
+IsTabled entries service (Err fault) = (fault ≡ TooMany) × (is_table entries ≡ false)
+
+-- the service, if there is one, is within the table
+abbrev pub IsWithin : Interface → Type 0
+IsWithin interface = IfSome interface.service (λ service. IsTrue (is_inside (length interface.table) service))
+
+abbrev pub is_service_in : ℕ → Option TyRef → Bool
+is_service_in count None = false
+is_service_in count (Some service) = is_inside count service
+
+-- there is a service, within the table
+abbrev pub has_service : Interface → Bool
+has_service interface = is_service_in (length interface.table) interface.service
+
+-- the service of the new interface is a subtype of that of the old one
+abbrev pub Upgrades : Interface → Interface → Type 0
+Upgrades old new = (before : TyRef) × (after : TyRef) × (old.service ≡ Some before) × (new.service ≡ Some after) × Sub new.table after old.table before

@@ -1,0 +1,12 @@
+pub mod Faults
+pub mod Denotes
+pub mod Answers
+pub mod Tests
+pub mod Rings
+pub mod Places
+pub mod Targets
+pub mod Settles
+pub mod Sorted
+pub mod Entries
+pub mod Formed
+pub mod Interfaces

@@ -1,0 +1,10 @@
+-- The tests of the types that stand in a file.
+use Rattle.std.specs.Prelude.{Bool}
+use Rattle.cd_did.specs.declared.checks.Test.{Test}
+use Rattle.cd_did.specs.declared.checks.Test.TheVariants.{NoFloat, Bound}
+use Rattle.cd_grammar.specs.declared.written.Part.{Part}
+use Rattle.cd_did.specs.Faults.{Definitions, is_no_float, is_bound}
+
+abbrev pub passes : Test → Definitions → Part → Bool
+passes NoFloat definitions part = is_no_float part
+passes Bound definitions part = is_bound definitions part
