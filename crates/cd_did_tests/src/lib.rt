@@ -1,0 +1,9 @@
+//! Tests of interface files, beside their crates: a crate with tests of its own is proved twice.
+#![tactic(auto)]
+
+#[cfg(test)]
+mod faults;
+#[cfg(test)]
+mod limits;
+#[cfg(test)]
+mod upgrades;
