@@ -114,17 +114,23 @@ fn bytes_of(alloc: Global, arg: &[u8]) -> Option<Bytes> {
     Some(Bytes { items })
 }
 
-fn order_of(alloc: Global, row: &Row) -> Option<Order>
-    ensures mode { IfSome result (λ o. o.mode ≡ row.now.mode) }
+/// The order of a row, but no upgrade of a canister that has no code.
+fn order_of(alloc: Global, row: &Row, has_code: bool) -> Option<Order>
+    ensures upgraded { IfSome result (λ o. is_upgrade o.mode ≡ true → has_code ≡ true) }
 {
-    let code = keeper(alloc, row.is_inside)?;
+    if !has_code && row.mode != Mode::Install {
+        return None;
+    }
     let arg = bytes_of(alloc, row.arg)?;
-    Some(Order {
-        mode: row.mode,
-        code,
-        arg,
-        sender: Principal::canister_id(7),
-    })
+    match keeper(alloc, row.is_inside) {
+        Some(code) => Some(Order {
+            mode: row.mode,
+            code,
+            arg,
+            sender: Principal::canister_id(7),
+        }),
+        None => None,
+    }
 }
 
 fn given(alloc: Global, canister: Canister, order: Order, limit: u64) -> Option<Installed>
@@ -140,20 +146,24 @@ fn given(alloc: Global, canister: Canister, order: Order, limit: u64) -> Option<
     install(alloc, canister, order, env).ok()
 }
 
-/// The order of a row, on a canister that has code where it is an upgrade.
+fn ordered(alloc: Global, canister: Canister, row: &Row) -> Option<Installed>
+    requires keeps { IsCanister canister }
+    ensures keeps { IfSome result (λ i. IsCanister i.canister) }
+{
+    match order_of(alloc, row, canister.code.is_some()) {
+        Some(order) => given(alloc, canister, order, row.limit),
+        None => None,
+    }
+}
+
+/// The order of a row is given on this canister.
 fn installed(alloc: Global, canister: Option<Canister>, row: &Row) -> Option<Installed>
     requires keeps { IfSome canister IsCanister }
     ensures keeps { IfSome result (λ i. IsCanister i.canister) }
 {
-    match (canister, order_of(alloc, row)) {
-        (Some(canister), Some(order)) => {
-            if canister.code.is_some() || row.mode == Mode::Install {
-                given(alloc, canister, order, row.limit)
-            } else {
-                None
-            }
-        }
-        _ => None,
+    match canister {
+        Some(canister) => ordered(alloc, canister, row),
+        None => None,
     }
 }
 
