@@ -5,6 +5,8 @@
 #[cfg(test)]
 mod canisters;
 #[cfg(test)]
+mod failing;
+#[cfg(test)]
 mod installs;
 #[cfg(test)]
 mod keeper;

@@ -1,8 +1,11 @@
 ghost use Rattle.std.specs.Prelude.{◌≡◌, ◌≤◌, [], IfSome};
 ghost use Rattle.ic_state.specs.IsCanister.{IsCanister};
 
-use crate::canisters::{probing, relaying};
-use crate::rows::{Row, probing as probing_rows, relaying as relaying_rows};
+use crate::canisters::{empty_canister, failing, probing, relaying, stopped};
+use crate::rows::{
+    Row, empty as empty_row, failing as failing_rows, probing as probing_rows,
+    relaying as relaying_rows, stopped as stopped_row,
+};
 use ic_exec::{Env, Executed, execute, inspect, query};
 use ic_principal::{Bytes, Principal, Text};
 use ic_state::{Canister, Message, Origin, Response};
@@ -110,10 +113,19 @@ fn compare(rt: &impl Abort, row: &Row, done: &Option<Executed>) {
     assert_eq!(rt; done.canister.store.stable_pages(), 0);
 }
 
+// Executes a row's call. What is executed is owned here alone.
+fn check_row(rt: &impl Abort, alloc: Global, canister: Option<Canister>, row: &Row)
+    requires keeps { IfSome canister IsCanister }
+    requires fresh { IfSome canister (λ c. c.contexts ≡ []) }
+{
+    let done = run_row(alloc, canister, row);
+    compare(rt, row, &done);
+}
+
 #[test]
 fn relay_is_called(rt: HostRuntime) {
     for row in &relaying_rows() {
-        compare(&rt, row, &run_row(rt.alloc(), relaying(rt.alloc()), row));
+        check_row(&rt, rt.alloc(), relaying(rt.alloc()), row);
     }
 }
 
@@ -139,6 +151,20 @@ fn traps_leave_no_trace(rt: HostRuntime) {
             assert_eq!(rt; word(&done.canister), [0; 4]);
         }
     }
+}
+
+// What the caller of a call that fails is told.
+#[test]
+fn failures(rt: HostRuntime) {
+    for row in &failing_rows() {
+        check_row(&rt, rt.alloc(), failing(rt.alloc()), row);
+    }
+}
+
+#[test]
+fn refusals(rt: HostRuntime) {
+    check_row(&rt, rt.alloc(), empty_canister(rt.alloc()), &empty_row());
+    check_row(&rt, rt.alloc(), stopped(rt.alloc()), &stopped_row());
 }
 
 fn env() -> Env
