@@ -4,6 +4,7 @@ use Rattle.hex.specs.Hex.{encode_lower}
 use Rattle.ic_leb.specs.Spelling.{unsigned_spelling}
 use Rattle.ic_principal.specs.CanisterId.{canister_id_of}
 use Rattle.ic_principal.specs.Text.{text_of}
+use Rattle.ic_script.specs.HexWord.{hex_word}
 use Rattle.wm_tree.specs.Relay.{relay}
 use Rattle.wm_encode.specs.Whole.{whole}
 
@@ -60,11 +61,6 @@ counter_at y place = (y / (32 * 8 ^ place)) % 8
 unfoldable pub route : (y places : ℕ) → List ℕ
 route y zero = []
 route y (suc places) = route y places ++ canister_id_of (counter_at y places)
-
--- bytes as a word of a script
-abbrev pub hex_word : List ℕ → List ℕ
-hex_word [] = codes "-"
-hex_word (byte ∷ bytes) = encode_lower (byte ∷ bytes)
 
 -- a call to a canister, with a route of at most three more
 unfoldable pub call_line : ℕ → List ℕ

@@ -1,8 +1,9 @@
 ghost use Rattle.std.specs.Prelude.{◌≡◌, ◌+◌, ◌*◌, ◌/◌, ◌<◌, ◌≤◌, ◌^◌, ◌++◌, IfOk, OnOk, string_bytes};
-ghost use Rattle.ic_generate.specs.Script.{call_line, call_lines, hex_word, next_number, route, run_line};
+ghost use Rattle.ic_generate.specs.Script.{call_line, call_lines, next_number, route, run_line};
 
 use ic_base::NoMemory;
 use ic_principal::Principal;
+use ic_script::hex_word;
 use std::alloc::Global;
 
 /// So many calls, chosen from that number on.
@@ -43,16 +44,6 @@ fn call_line(alloc: Global, y: u64) -> Result<String, NoMemory>
     let callee = Principal::canister_id(y % 8);
     let route = hex_word(alloc, route(alloc, y, y / 8 % 4)?.as_slice())?;
     format!(in alloc; "call 2vxsx-fae {callee} relay {route}\n")
-}
-
-// Bytes in hexadecimal digits, and a dash where there is none.
-fn hex_word(alloc: Global, bytes: &[u8]) -> Result<String, NoMemory>
-    ensures { IfOk result (λ word. string_bytes word ≡ hex_word bytes.now) }
-{
-    match bytes {
-        [] => String::from_str(alloc, "-"),
-        [_, ..] => hex::encode(alloc, bytes),
-    }
 }
 
 // The ids of the canisters of a route, one after another.

@@ -18,8 +18,9 @@ use Rattle.ic_state.specs.Seen.{seen, entry_of, state_of}
 use Rattle.ic_state.specs.IsCanister.{IsCanister}
 use Rattle.ic_state.specs.IsWorld.{IsWorld, HasCounts}
 use Rattle.ic_exec.specs.Query.{query_response}
-use Rattle.ic_host.specs.declared.options.Options.{Options}
-use Rattle.ic_host.specs.AfterCommand.{answer_by, answer_now}
+use Rattle.ic_exec.specs.Inspection.{is_accepted}
+use Rattle.ic_options.specs.declared.Options.{Options}
+use Rattle.ic_host.specs.AfterCommand.{answer_by, answer_now, accepts, accepts_now}
 use Rattle.ic_host.specs.Options.{rules_of}
 
 -- a canister that is found has what all have
@@ -69,6 +70,18 @@ module _ (options : Options) (p : Parts) (keeps : IsWorld p) (ask : Ask) where
       ap answer (sym (found_counts (state_of p) ask.callee p.canisters.entries c is keeps.counts))
       ∙ sym (ap (answer_by options (state_of p) ask) (lookup-seen ask.callee p.canisters.entries ∙ ap (option_map (λ c. dropped (seen c))) is))
 
+  pub accepts-none : lookup (at ask.callee) p.canisters.entries ≡ None → true ≡ accepts_now options (state_of p) ask
+  unfolding accepts_now
+  accepts-none is = sym (ap (accepts options (state_of p) ask) (lookup-seen ask.callee p.canisters.entries ∙ ap (option_map (λ c. dropped (seen c))) is))
+
+  pub accepts-some : (c : StoredCanister) → lookup (at ask.callee) p.canisters.entries ≡ Some c
+      → is_accepted (rules_of options).enters (env_at p.time options.limit options.price) (seen c) ask.sender ask.method ask.arg ≡ accepts_now options (state_of p) ask
+  unfolding accepts_now
+  accepts-some c is =
+      let told_of = λ (d : CountedCanister). is_accepted (rules_of options).enters (env_at p.time options.limit options.price) d ask.sender ask.method ask.arg in
+      ap told_of (sym (found_counts (state_of p) ask.callee p.canisters.entries c is keeps.counts))
+      ∙ sym (ap (accepts options (state_of p) ask) (lookup-seen ask.callee p.canisters.entries ∙ ap (option_map (λ c. dropped (seen c))) is))
+
 -- the same canisters, in a map of another layout
 module _ (p : Parts) (m : BTreeMap (List ℕ) StoredCanister) (same : m.entries ≡ p.canisters.entries) where
   pub state_same : state_of (record p { canisters = m }) ≡ state_of p
@@ -85,6 +98,6 @@ module _ (p : Parts) (m : BTreeMap (List ℕ) StoredCanister) (same : m.entries 
         canisters = subst K (sym same) keeps.canisters;
       }
 
--- what holds of the first of two equal responses
-pub told : {E : Type 0} (r : Result Response E) (x y : Response) → x ≡ y → IfOk r (λ q. q ≡ x) → IfOk r (λ q. q ≡ y)
-told r x y is h = let P = λ (z : Response). IfOk r (λ q. q ≡ z) in subst P is h
+-- what holds of the first of two equal answers
+pub told : {E T : Type 0} (r : Result T E) (x y : T) → x ≡ y → IfOk r (λ q. q ≡ x) → IfOk r (λ q. q ≡ y)
+told {E} {T} r x y is h = let P = λ (z : T). IfOk r (λ q. q ≡ z) in subst P is h

@@ -6,19 +6,21 @@ use Rattle.std.proofs.lemmas.List.{length-map}
 use Rattle.std.proofs.lemmas.List.FromFn.{length-enumerate_from}
 use Rattle.ic_outside.specs.Limits.{script_limits}
 use Rattle.ic_outside.specs.Pieces.{pieces, line_of}
-use Rattle.ic_host.specs.declared.options.Options.{Options}
+use Rattle.ic_options.specs.declared.Options.{Options}
 use Rattle.ic_host.specs.declared.status.Status.{Status}
-use Rattle.ic_host.specs.declared.status.Status.TheVariants.{BadLine, WriteFault}
+use Rattle.ic_host.specs.declared.status.Status.TheVariants.{BadLine, NoMemory, WriteFault}
 use Rattle.ic_host.specs.Acts.{Concludes, bad_output, usage_output}
 use Rattle.ic_host.specs.Body.{body, body_of, whole_lines}
 use Rattle.ic_host.specs.EndPart.{end_part}
-use Rattle.ic_host.specs.Explained.{Explained, Explains, bad_stop, bad_stop_of, stop_of, rest_of}
-use Rattle.ic_host.specs.Options.{options_of}
-use Rattle.ic_host.specs.Out.{Output, out, out_of, output_of, ended_output}
-use Rattle.ic_host.specs.Script.{script, script_of, walk_of, lines_until}
+use Rattle.ic_host.specs.Explained.{Explained, Explains, OfSource, bad_stop, bad_stop_of, generated_by, stop_of, rest_of}
+use Rattle.ic_options.specs.Options.{options_of}
+use Rattle.ic_host.specs.Out.{Output, out, out_of, output_of, ended_output, short_output}
+use Rattle.ic_host.specs.Script.{script, script_of, script_for, lines_of, walk_of, lines_until}
 use Rattle.ic_host.specs.Sending.{Taken, Sent, Interrupts}
 use Rattle.ic_behaviour.specs.State.{State}
 use Rattle.ic_host.specs.Walk.{Bad, Walk, start, behind, walk}
+use Rattle.ic_generate.specs.Script.{script as generated}
+use Rattle.ic_host.proofs.SendLaws.{Interrupts-at_once}
 use Rattle.ic_host.proofs.WalkLaws.{stopped, walk-line}
 
 fitting-sent : (before after : Taken) (text whole : List ℕ) (status : Status) → Sent before after text → status ≢ WriteFault
@@ -84,58 +86,14 @@ module _ (words : List (List ℕ)) (left_before left : Option (List ℕ)) (befor
         explain-interrupted status (subst P (sym (ap (λ (o : Output). o.bytes) is)) interrupted)
   ]
 
-module _ (words : List (List ℕ)) (options : Options) (accepted : options_of words ≡ Some options) where
-  out-accepted : (bytes : List ℕ) → out words bytes ≡ output_of options (walk_of options bytes)
-  unfolding out
-  out-accepted bytes = ap (λ o. out_of o bytes) accepted
-
-  -- a way that stops
-  pub out-stopped : (bytes printed : List ℕ) (last : Result State Bad) → walk_of options bytes ≡ behind printed (stopped last)
-      → out words bytes ≡ ended_output options printed last
-  out-stopped bytes printed last way =
-      out-accepted bytes ∙ ap (output_of options) way ∙ ap (λ text. ended_output options text last) (append-nil printed)
-
-  -- what is printed so far is a front of the answer
-  pub out-front : (bytes printed : List ℕ) (way : Walk) → walk_of options bytes ≡ behind printed way
-      → (rest : List ℕ) × ((out words bytes).bytes ≡ (printed ++ way.text) ++ rest)
-  out-front bytes printed way is =
-      let whole = ap (λ (o : Output). o.bytes) (out-accepted bytes ∙ ap (output_of options) is) in
-      let P = λ (o : Result State Bad). (rest : List ℕ) × ((ended_output options (printed ++ way.text) o).bytes ≡ (printed ++ way.text) ++ rest) in
-      let tail : (o : Result State Bad) → P o = λ o. elim o as P [ Ok state ↦ (end_part options state, refl) | Err bad ↦ ((bad_output bad.line bad.cause).bytes, refl) ] in
-      let found = tail way.last in
-      (found.0, whole ∙ found.1)
-
-  pub bad_stop-stopped : (bytes printed : List ℕ) (bad : Bad) → walk_of options bytes ≡ behind printed (stopped (Err bad)) → bad_stop words bytes ≡ bad.stop
-  unfolding bad_stop
-  bad_stop-stopped bytes printed bad way = ap (λ o. bad_stop_of o bytes) accepted ∙ ap (λ (w : Walk). stop_of w.last) way
-
-  pub body-accepted : (bytes : List ℕ) → body words bytes ≡ (walk script_limits (start options) (whole_lines (pieces bytes))).text
-  unfolding body
-  body-accepted bytes = ap (λ o. body_of o bytes) accepted
-
-  -- the bad line is the last of the script
-  pub length-script : (bytes printed : List ℕ) (bad : Bad) → walk_of options bytes ≡ behind printed (stopped (Err bad)) → bad.line ≡ length (script words bytes)
-  unfolding script walk_of
-  length-script bytes printed bad way =
-      let last : (walk script_limits (start options) (pieces bytes)).last ≡ Err bad = ap (λ (w : Walk). w.last) way in
-      let lines = enumerate_from 1 (map line_of (pieces bytes)) in
-      let count : length lines ≡ length (pieces bytes) = length-enumerate_from 1 (map line_of (pieces bytes)) ∙ length-map (pieces bytes) line_of in
-      let cut : script_of (options_of words) bytes ≡ take bad.line lines =
-      ap (λ o. script_of o bytes) accepted ∙ ap (λ o. take (lines_until (length (pieces bytes)) o) lines) last in
-      let shown : length (script_of (options_of words) bytes) ≡ length (take bad.line lines) = ap length cut in
-      omega (arith, shown, count, length-take bad.line lines, walk-line script_limits (start options) (pieces bytes) bad last)
-
-  -- a bad line ends the answer
-  pub explains-bad : (read rest printed : List ℕ) (bad : Bad) → walk_of options (read ++ rest) ≡ behind printed (stopped (Err bad))
-      → bad.stop ≤ length read → length read ≤ bad.stop + 65536
-      → Explains words (BadLine bad.line bad.cause) read rest (printed ++ (bad_output bad.line bad.cause).bytes)
-  explains-bad read rest printed bad way low high =
-      let stop = bad_stop-stopped (read ++ rest) printed bad way in
-      (out-stopped (read ++ rest) printed (Err bad) way, length-script (read ++ rest) printed bad way, omega (arith, stop), omega (arith, stop))
-
 prepend_known-nil : (known : Option (List ℕ)) → prepend_known [] known ≡ known
 prepend_known-nil None = refl
 prepend_known-nil (Some bytes) = refl
+
+-- memory was wanting before anything was read
+pub explain-at_once : (words : List (List ℕ)) (left : Option (List ℕ)) (now : Taken) → Explained words left left now now NoMemory
+explain-at_once words left now =
+    explain-interrupted words left left now now [] (sym (prepend_known-nil left)) NoMemory (Interrupts-at_once now (out words (rest_of left)).bytes)
 
 -- refused words
 pub explain-refused : (words : List (List ℕ)) (left : Option (List ℕ)) (before after : Taken) (status : Status) → options_of words ≡ None
@@ -144,3 +102,101 @@ unfolding out
 explain-refused words left before after status refused concludes =
     let is : out words (rest_of left) ≡ usage_output = ap (λ o. out_of o (rest_of left)) refused in
     explain-concludes words left left before after [] (sym (prepend_known-nil left)) usage_output status is concludes (is, refl) (λ e. cc)
+
+-- what holds where the source is the script, and where the script is generated
+pub of_read : (number : Option ℕ) (read : List ℕ) (P : Type 0) → number ≡ None → P → OfSource number read P
+of_read None read P is p = p
+of_read (Some n) read P is p = cc
+
+of_generated : (number : Option ℕ) (n : ℕ) (P : Type 0) → number ≡ Some n → OfSource number [] P
+of_generated None n P is = cc
+of_generated (Some m) n P is = refl
+
+-- the bad line is the last of a script
+length-lines : (options : Options) (text : List ℕ) (bad : Bad) → (walk_of options text).last ≡ Err bad → bad.line ≡ length (lines_of options text)
+unfolding walk_of
+length-lines options text bad last =
+    let lines = enumerate_from 1 (map line_of (pieces text)) in
+    let count : length lines ≡ length (pieces text) = length-enumerate_from 1 (map line_of (pieces text)) ∙ length-map (pieces text) line_of in
+    let shown : length (lines_of options text) ≡ length (take bad.line lines) = ap (λ o. length (take (lines_until (length (pieces text)) o) lines)) last in
+    omega (arith, shown, count, length-take bad.line lines, walk-line script_limits (start options) (pieces text) bad last)
+
+module _ (words : List (List ℕ)) (options : Options) (accepted : options_of words ≡ Some options) where
+  out-of_number : (number : Option ℕ) → options.generate ≡ number → (bytes : List ℕ)
+      → out words bytes ≡ output_of number options (walk_of options (script_for number bytes))
+  unfolding out
+  out-of_number number is bytes =
+      ap (λ o. out_of o bytes) accepted ∙ ap (λ g. output_of g options (walk_of options (script_for g bytes))) is
+
+  script-of_number : (number : Option ℕ) → options.generate ≡ number → (bytes : List ℕ) → script words bytes ≡ lines_of options (script_for number bytes)
+  unfolding script
+  script-of_number number is bytes = ap (λ o. script_of o bytes) accepted ∙ ap (λ g. lines_of options (script_for g bytes)) is
+
+  number-is : (number : Option ℕ) → options.generate ≡ number → generated_by (options_of words) ≡ number
+  number-is number is = ap generated_by accepted ∙ is
+
+  -- the answer to a generated script
+  module _ (n : ℕ) (made : options.generate ≡ Some n) where
+    explains-generated : (rest : List ℕ) (last : Result State Bad) → (walk_of options (generated n)).last ≡ last
+        → Explains words (short_output options last).status [] rest (short_output options last).bytes
+    explains-generated rest (Ok state) is = (
+      out-of_number (Some n) made rest ∙ ap (short_output options) is,
+      of_generated (generated_by (options_of words)) n (rest ≡ []) (number-is (Some n) made),
+    )
+    explains-generated rest (Err bad) is = (
+      out-of_number (Some n) made rest ∙ ap (short_output options) is,
+      length-lines options (generated n) bad is ∙ sym (ap length (script-of_number (Some n) made rest)),
+      of_generated (generated_by (options_of words)) n _ (number-is (Some n) made),
+    )
+
+    no_write_fault : (last : Result State Bad) → (short_output options last).status ≢ WriteFault
+    no_write_fault (Ok state) = λ e. cc
+    no_write_fault (Err bad) = λ e. cc
+
+    pub explain-generated : (left : Option (List ℕ)) (before after : Taken) (status : Status)
+        → Concludes before after (short_output options (walk_of options (generated n)).last) status → Explained words left left before after status
+    explain-generated left before after status concludes =
+        let last = (walk_of options (generated n)).last in
+        explain-concludes words left left before after [] (sym (prepend_known-nil left)) (short_output options last) status
+        (out-of_number (Some n) made (rest_of left)) concludes (explains-generated (rest_of left) last refl) (no_write_fault last)
+
+  -- the answer to a script that is read
+  module _ (is_read : options.generate ≡ None) where
+    pub none_generated : generated_by (options_of words) ≡ None
+    none_generated = number-is None is_read
+
+    -- a way that stops
+    pub out-stopped : (bytes printed : List ℕ) (last : Result State Bad) → walk_of options bytes ≡ behind printed (stopped last)
+        → out words bytes ≡ ended_output options printed last
+    out-stopped bytes printed last way =
+        out-of_number None is_read bytes ∙ ap (output_of None options) way ∙ ap (λ text. ended_output options text last) (append-nil printed)
+
+    -- what is printed so far is a front of the answer
+    pub out-front : (bytes printed : List ℕ) (way : Walk) → walk_of options bytes ≡ behind printed way
+        → (rest : List ℕ) × ((out words bytes).bytes ≡ (printed ++ way.text) ++ rest)
+    out-front bytes printed way is =
+        let whole = ap (λ (o : Output). o.bytes) (out-of_number None is_read bytes ∙ ap (output_of None options) is) in
+        let P = λ (o : Result State Bad). (rest : List ℕ) × ((ended_output options (printed ++ way.text) o).bytes ≡ (printed ++ way.text) ++ rest) in
+        let tail : (o : Result State Bad) → P o = λ o. elim o as P [ Ok state ↦ (end_part options state, refl) | Err bad ↦ ((bad_output bad.line bad.cause).bytes, refl) ] in
+        let found = tail way.last in
+        (found.0, whole ∙ found.1)
+
+    bad_stop-stopped : (bytes printed : List ℕ) (bad : Bad) → walk_of options bytes ≡ behind printed (stopped (Err bad)) → bad_stop words bytes ≡ bad.stop
+    unfolding bad_stop
+    bad_stop-stopped bytes printed bad way =
+        ap (λ o. bad_stop_of o bytes) accepted ∙ ap (λ g. stop_of (walk_of options (script_for g bytes)).last) is_read ∙ ap (λ (w : Walk). stop_of w.last) way
+
+    pub body-accepted : (bytes : List ℕ) → body words bytes ≡ (walk script_limits (start options) (whole_lines (pieces bytes))).text
+    unfolding body
+    body-accepted bytes = ap (λ o. body_of o bytes) accepted
+
+    -- a bad line ends the answer
+    pub explains-bad : (read rest printed : List ℕ) (bad : Bad) → walk_of options (read ++ rest) ≡ behind printed (stopped (Err bad))
+        → bad.stop ≤ length read → length read ≤ bad.stop + 65536
+        → Explains words (BadLine bad.line bad.cause) read rest (printed ++ (bad_output bad.line bad.cause).bytes)
+    explains-bad read rest printed bad way low high =
+        let stop = bad_stop-stopped (read ++ rest) printed bad way in (
+          out-stopped (read ++ rest) printed (Err bad) way,
+          length-lines options (read ++ rest) bad (ap (λ (w : Walk). w.last) way) ∙ sym (ap length (script-of_number None is_read (read ++ rest))),
+          of_read (generated_by (options_of words)) read _ none_generated (omega (arith, stop), omega (arith, stop)),
+        )

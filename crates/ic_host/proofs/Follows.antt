@@ -7,7 +7,7 @@ use Rattle.ic_outside.specs.Limits.{script_limits, excess_of}
 use Rattle.ic_outside.specs.Pieces.{HasNoLf, pieces, line_of}
 use Rattle.ic_outside.proofs.PieceLaws.{pieces-line, pieces-rest, line_of-line, line_of-rest}
 use Rattle.ic_script.specs.declared.LineCause.{LineCause}
-use Rattle.ic_host.specs.declared.options.Options.{Options}
+use Rattle.ic_options.specs.declared.Options.{Options}
 use Rattle.ic_host.specs.AfterLine.{after_line}
 use Rattle.ic_host.specs.Body.{whole_lines}
 use Rattle.ic_behaviour.specs.State.{State}

@@ -2,8 +2,9 @@
 use Rattle.std.proofs.Common.{◌≡◌, ℕ, List, [], ◌++◌, refl, sym, ap, subst, ◌∙◌, append_assoc, append-nil, inr, Result, Ok, Err, OnOk, IfErr}
 use Rattle.ic_host.specs.declared.status.Status.{Status}
 use Rattle.ic_host.specs.declared.status.Status.TheVariants.{NoMemory}
+use Rattle.ic_host.specs.Acts.{Concludes}
 use Rattle.ic_host.specs.Sending.{Taken, Sent, Interrupts, Prints, Gathers}
-use Rattle.ic_host.proofs.SendLaws.{Sent-nil, Sent-append, Interrupts-after, Interrupts-at_once}
+use Rattle.ic_host.proofs.SendLaws.{Sent-nil, Sent-append, Interrupts-after, Interrupts-more, Interrupts-at_once, Concludes-after}
 
 module _ {T : Type 0} where
   -- nothing was sent
@@ -65,3 +66,18 @@ Gathers-sent u old new gathered text left one none =
 -- memory was wanting when all of it was sent
 pub Interrupts-wanting : (old new : Taken) (text : List ℕ) → Sent old new text → Interrupts old new text NoMemory
 Interrupts-wanting old new text sent = record { cause = inr (refl, record { front = text; is_front = ([], sym (append-nil text)); sent = sent }) }
+
+-- an output behind a text that was gathered
+pub Concludes-behind : (old mid new : Taken) (sent gathered text left more : List ℕ) (last status : Status) → Sent old mid sent → gathered ++ text ≡ sent ++ left
+    → Concludes mid new (record { bytes = left ++ more; status = last }) status → Concludes old new (record { bytes = gathered ++ (text ++ more); status = last }) status
+Concludes-behind old mid new sent gathered text left more last status one cut two =
+    let P = λ (l : List ℕ). Concludes old new (record { bytes = l; status = last }) status in
+    subst P (sym (append_assoc sent left more) ∙ ap (λ l. l ++ more) (sym cut) ∙ append_assoc gathered text more)
+    (Concludes-after old mid new sent (record { bytes = left ++ more; status = last }) status one two)
+
+-- an interruption before the end of an output
+pub Concludes-never : (old new : Taken) (gathered text more : List ℕ) (last status : Status) → Interrupts old new (gathered ++ text) status
+    → Concludes old new (record { bytes = gathered ++ (text ++ more); status = last }) status
+Concludes-never old new gathered text more last status one =
+    let P = λ (l : List ℕ). Interrupts old new l status in
+    inr (subst P (append_assoc gathered text more) (Interrupts-more old new (gathered ++ text) more status one))

@@ -17,7 +17,7 @@ use Rattle.ic_accounting.specs.RulesKeep.{RulesKeep}
 use Rattle.ic_accounting.proofs.Delivers.{deliver_sound, as_absent_keeps}
 use Rattle.ic_accounting.proofs.Systems.{rules_keep as system_rules_keep}
 use Rattle.ic_behaviour.specs.Deliver.{as_absent}
-use Rattle.ic_host.specs.declared.options.Options.{Options}
+use Rattle.ic_options.specs.declared.Options.{Options}
 use Rattle.ic_host.specs.AfterCommand.{acts_of_rounds, after_rounds}
 use Rattle.ic_host.specs.Options.{rules_of}
 

@@ -5,6 +5,7 @@ mod BodyLaws
 mod Follows
 mod Exits
 mod Runs
+mod Unprinted
 mod PieceBounds
 mod Streams
 mod ExpectedTypes

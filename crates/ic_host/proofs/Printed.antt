@@ -66,17 +66,10 @@ module _ (requests : List Request) (start at : Taken) (gathered pending : List �
         subst P (sym next) (Interrupts-after start at new so_far.printed (text ++ rest) status so_far.sent (Interrupts-more at new text rest status interrupted))
 
   -- all answers are sent or gathered
-  module _ (over : length requests ≤ number) where
-    last : gathered ++ answers_from 0 requests ≡ so_far.printed ++ (pending ++ [])
-    last = so_far.whole ∙ ap (λ l. so_far.printed ++ (pending ++ l)) (at_drop_all (answers_from number) requests number over ∙ answers_from-nil number)
-
-    pub Printed-all : {T : Type 0} (u : T) (new : Taken) (left : List ℕ) → Gathers at new pending [] left (Ok u) → left ≡ [] → Sent start new (gathered ++ answers_from 0 requests)
-    Printed-all u new left more none =
-        let P = λ (l : List ℕ). Sent start new l in
-        subst P (sym (last ∙ ap (λ l. so_far.printed ++ l) (more.2 ∙ ap (λ l. more.0 ++ l) none ∙ append-nil more.0)))
-        (Sent-append start at new so_far.printed more.0 so_far.sent more.1)
-
-    pub Printed-unsent : (new : Taken) (status : Status) → Interrupts at new (pending ++ []) status → Interrupts start new (gathered ++ answers_from 0 requests) status
-    Printed-unsent new status interrupted =
-        let P = λ (l : List ℕ). Interrupts start new l status in
-        subst P (sym last) (Interrupts-after start at new so_far.printed (pending ++ []) status so_far.sent interrupted)
+  pub Printed-all : length requests ≤ number → (sent : List ℕ) × Sent start at sent × (gathered ++ answers_from 0 requests ≡ sent ++ pending)
+  Printed-all over = (
+    so_far.printed,
+    so_far.sent,
+    so_far.whole ∙ ap (λ l. so_far.printed ++ (pending ++ l)) (at_drop_all (answers_from number) requests number over ∙ answers_from-nil number)
+        ∙ ap (λ l. so_far.printed ++ l) (append-nil pending),
+  )

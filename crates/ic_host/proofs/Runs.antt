@@ -15,26 +15,26 @@ use Rattle.ic_outside.proofs.KnownLaws.{prepend_known-append}
 use Rattle.ic_outside.proofs.LimitLaws.{excess-none}
 use Rattle.ic_script.specs.declared.LineCause.{LineCause}
 use Rattle.ic_script.specs.declared.LineCause.TheVariants.{LineTooLong, ScriptTooLong}
-use Rattle.ic_host.specs.declared.options.Options.{Options}
+use Rattle.ic_options.specs.declared.Options.{Options}
 use Rattle.ic_host.specs.declared.status.Status.{Status}
 use Rattle.ic_host.specs.declared.status.Status.TheVariants.{Done, BadLine, ReadFault, NoMemory}
 use Rattle.ic_host.specs.Acts.{Concludes, Turns, Stops, bad_output, end_output, behind_gathered}
 use Rattle.ic_host.specs.AfterLine.{after_line}
 use Rattle.ic_host.specs.Body.{body, whole_lines}
 use Rattle.ic_host.specs.EndPart.{end_part}
-use Rattle.ic_host.specs.Explained.{Explained, rest_of}
-use Rattle.ic_host.specs.Options.{options_of}
+use Rattle.ic_host.specs.Explained.{Explained, generated_by, rest_of}
+use Rattle.ic_options.specs.Options.{options_of}
 use Rattle.ic_host.specs.Out.{Output, out}
 use Rattle.ic_host.specs.Script.{walk_of}
 use Rattle.ic_host.specs.Sending.{Taken, Sent, Interrupts, Gathers}
 use Rattle.ic_behaviour.specs.State.{State}
 use Rattle.ic_behaviour.specs.Submitted.{empty}
 use Rattle.ic_host.specs.Walk.{Place, Bad, Walk, start, behind_line, behind, walk, judge}
-use Rattle.ic_host.proofs.Exits.{explain-sent, explain-interrupted, explain-concludes, out-stopped, out-front, body-accepted, explains-bad}
+use Rattle.ic_host.proofs.Exits.{explain-sent, explain-interrupted, explain-concludes, none_generated, of_read, out-stopped, out-front, body-accepted, explains-bad}
 use Rattle.ic_host.proofs.Follows.{Follows, Follows-start, Follows-good, Follows-bad}
 use Rattle.ic_host.proofs.BodyLaws.{whole_lines-none}
 use Rattle.ic_host.proofs.PieceBounds.{length-pieces, length-line_of, excess-long_line, excess-long_script}
-use Rattle.ic_host.proofs.SendLaws.{Sent-nil, Sent-append, Interrupts-after, Interrupts-more, Interrupts-at_once, Concludes-after}
+use Rattle.ic_host.proofs.SendLaws.{Sent-nil, Sent-append, Interrupts-after, Interrupts-more, Concludes-after}
 use Rattle.ic_host.proofs.WalkLaws.{stopped, walk-nil, walk-excess}
 
 no_lf-front : (bytes more : List ℕ) → HasNoLf (bytes ++ more) → HasNoLf bytes
@@ -153,6 +153,34 @@ module _ (options : Options) (left_before left left_after : Option (List ℕ)) (
     pub nothing_left : IsTrue old.ended ⊎ IsAtEnd left_after → rest_of left_after ≡ []
     nothing_left end = elim end [ inl was ↦ last was | inr is ↦ rest_of-end left_after is ]
 
+    -- all bytes of the script, where the source tells them
+    pub script_is : (script : List ℕ) → left_before ≡ Some script → script ≡ (runs.handed ++ (old.kept ++ read)) ++ rest_of left_after
+    script_is script told = known left_after (sym told ∙ read_so_far read taken) where
+      known : (l : Option (List ℕ)) → Some script ≡ prepend_known (runs.handed ++ (old.kept ++ read)) l → script ≡ (runs.handed ++ (old.kept ++ read)) ++ rest_of l
+      known None e = cc
+      known (Some rest) e = cc
+
+    -- the way where the script was read to its end
+    pub way-end : old.kept ++ read ≡ [] → rest_of left_after ≡ []
+        → walk_of options ((runs.handed ++ (old.kept ++ read)) ++ rest_of left_after) ≡ behind runs.printed (stopped (Ok state))
+    way-end none nothing =
+        let at = place_of options state old in
+        let empty : (old.kept ++ read) ++ rest_of left_after ≡ [] = ap (λ l. l ++ rest_of left_after) none ∙ nothing in
+        way_on read over (rest_of left_after) last ∙ ap (λ l. behind runs.printed (walk script_limits at (pieces l))) empty
+        ∙ ap (λ l. behind runs.printed (walk script_limits at l)) pieces-nil ∙ ap (behind runs.printed) (walk-nil script_limits at)
+
+    -- the way to a limit that was passed
+    pub way-excess : (line : ℕ) (excess : Excess) (cause : LineCause) (stop : ℕ) → Exceeds old (old.kept ++ read) excess line
+        → ((piece : List ℕ) → judge script_limits (place_of options state old) piece (Some excess) ≡ Err (record { line = old.handed + 1; cause = cause; stop = stop }))
+        → walk_of options ((runs.handed ++ (old.kept ++ read)) ++ rest_of left_after) ≡ behind runs.printed (stopped (Err (record { line = old.handed + 1; cause = cause; stop = stop })))
+    way-excess line excess cause stop exceeds judged =
+        let at = place_of options state old in
+        let bad : Bad = record { line = old.handed + 1; cause = cause; stop = stop } in
+        let first = exceeds.passes (rest_of left_after) in
+        let L = λ (l : Limits). excess_of l old.offset first.0 ≡ Some excess in
+        way_on read over (rest_of left_after) last ∙ ap (λ l. behind runs.printed (walk script_limits at l)) first.2
+        ∙ ap (behind runs.printed) (walk-excess script_limits at first.0 first.1 excess bad (subst L runs.limits first.3) (judged first.0))
+
     -- a line was handed out
     module _ (line : Line) (out_of : HandsOut old (old.kept ++ read) line new) (open_end : IsTrue new.ended → IsTrue old.ended ⊎ IsAtEnd left_after) where
       new_end : IsTrue new.ended → IsAtEnd left_after
@@ -197,6 +225,17 @@ module _ (options : Options) (left_before left left_after : Option (List ℕ)) (
       way_after : (more : List ℕ) → ((runs.handed ++ (old.kept ++ read)) ++ more) ≡ (runs.handed ++ out_of.piece) ++ (new.kept ++ more)
       way_after more = ap (λ l. l ++ more) regrouped ∙ append_assoc (runs.handed ++ out_of.piece) new.kept more
 
+      -- the way to a bad line
+      pub way-bad : (cause : LineCause) → after_line options state line.bytes ≡ Err cause
+          → walk_of options ((runs.handed ++ (old.kept ++ read)) ++ rest_of left_after)
+          ≡ behind runs.printed (stopped (Err (record { line = old.handed + 1; cause = cause; stop = old.offset + length out_of.piece })))
+      unfolding walk_of
+      way-bad cause bad_line =
+          let more = rest_of left_after in
+          ap (λ l. walk_of options l) (way_after more)
+          ∙ Follows-bad options runs.handed runs.printed (place_of options state old) old.kept old.ended runs.follows read out_of.piece line.bytes new.kept new.ended
+          out_of.front over out_of.still out_of.cut out_of.one_line cause more (λ e. rest_of-end left_after (new_end e)) fits bad_line
+
       -- each line takes the reader on
       pub further : (new.offset ≤ 268435456) × (old.offset < new.offset)
       further =
@@ -208,10 +247,10 @@ module _ (options : Options) (left_before left left_after : Option (List ℕ)) (
           (omega (arith, within.1, out_of.offset), omega (arith, out_of.offset))
 
     -- the run ends here
-    module _ (words : List (List ℕ)) (accepted : options_of words ≡ Some options) where
+    module _ (words : List (List ℕ)) (accepted : options_of words ≡ Some options) (is_read : options.generate ≡ None) where
       front : (rest : List ℕ) × ((out words ((runs.handed ++ (old.kept ++ read)) ++ rest_of left_after)).bytes ≡ runs.printed ++ rest)
       front =
-          let found = out-front words options accepted ((runs.handed ++ (old.kept ++ read)) ++ rest_of left_after) runs.printed _ (way_on read over (rest_of left_after) last) in
+          let found = out-front words options accepted is_read ((runs.handed ++ (old.kept ++ read)) ++ rest_of left_after) runs.printed _ (way_on read over (rest_of left_after) last) in
           (_, found.1 ∙ append_assoc runs.printed _ found.0)
 
       same_sent : after ≡ now → pending ≡ [] → Sent before after runs.printed
@@ -235,22 +274,18 @@ module _ (options : Options) (left_before left left_after : Option (List ℕ)) (
           let ends : walk script_limits (place_of options state old) (whole_lines (pieces (old.kept ++ read))) ≡ stopped (Ok state) =
           ap (walk script_limits (place_of options state old)) (whole_lines-none (old.kept ++ read) none) ∙ walk-nil script_limits (place_of options state old) in
           let printed : runs.printed ≡ body words (runs.handed ++ (old.kept ++ read)) =
-          sym (body-accepted words options accepted (runs.handed ++ (old.kept ++ read)) ∙ ap (λ (w : Walk). w.text) (way ∙ ap (behind runs.printed) ends) ∙ append-nil runs.printed) in
+          sym (body-accepted words options accepted is_read (runs.handed ++ (old.kept ++ read)) ∙ ap (λ (w : Walk). w.text) (way ∙ ap (behind runs.printed) ends) ∙ append-nil runs.printed) in
           explain-sent words left_before left_after before after (runs.handed ++ (old.kept ++ read)) (read_so_far read taken)
-          ReadFault runs.printed (same_sent same nothing) (printed, front, λ e. let is = accepted in cc) (λ e. cc)
+          ReadFault runs.printed (same_sent same nothing) (printed, front, (λ e. let is = accepted in cc), none_generated words options accepted is_read) (λ e. cc)
 
       -- the script was read to its end
       pub explain-end : (status : Status) → old.kept ++ read ≡ [] → rest_of left_after ≡ [] → Concludes now after (behind_gathered pending (end_output options state)) status
           → Explained words left_before left_after before after status
       explain-end status none nothing concludes =
-          let at = place_of options state old in
-          let empty : (old.kept ++ read) ++ rest_of left_after ≡ [] = ap (λ l. l ++ rest_of left_after) none ∙ nothing in
-          let way = way_on read over (rest_of left_after) last ∙ ap (λ l. behind runs.printed (walk script_limits at (pieces l))) empty
-          ∙ ap (λ l. behind runs.printed (walk script_limits at l)) pieces-nil ∙ ap (behind runs.printed) (walk-nil script_limits at) in
-          let is = out-stopped words options accepted ((runs.handed ++ (old.kept ++ read)) ++ rest_of left_after) runs.printed (Ok state) way in
+          let is = out-stopped words options accepted is_read ((runs.handed ++ (old.kept ++ read)) ++ rest_of left_after) runs.printed (Ok state) (way-end none nothing) in
           explain-concludes words left_before left_after before after (runs.handed ++ (old.kept ++ read)) (read_so_far read taken)
           (record { bytes = runs.printed ++ end_part options state; status = Done }) status is
-          (concludes-all (end_output options state) status concludes) (is, nothing) (λ e. cc)
+          (concludes-all (end_output options state) status concludes) (is, of_read (generated_by (options_of words)) _ _ (none_generated words options accepted is_read) nothing) (λ e. cc)
 
       -- a limit was passed
       explain-excess : (status : Status) (line : ℕ) (excess : Excess) (cause : LineCause) (stop : ℕ) → Exceeds old (old.kept ++ read) excess line
@@ -258,18 +293,14 @@ module _ (options : Options) (left_before left left_after : Option (List ℕ)) (
           → stop ≤ length (runs.handed ++ (old.kept ++ read)) → length (runs.handed ++ (old.kept ++ read)) ≤ stop + 65536
           → Concludes now after (behind_gathered pending (bad_output line cause)) status → Explained words left_before left_after before after status
       explain-excess status line excess cause stop exceeds judged low high concludes =
-          let at = place_of options state old in
           let bad : Bad = record { line = old.handed + 1; cause = cause; stop = stop } in
-          let first = exceeds.passes (rest_of left_after) in
-          let L = λ (l : Limits). excess_of l old.offset first.0 ≡ Some excess in
-          let way = way_on read over (rest_of left_after) last ∙ ap (λ l. behind runs.printed (walk script_limits at l)) first.2
-          ∙ ap (behind runs.printed) (walk-excess script_limits at first.0 first.1 excess bad (subst L runs.limits first.3) (judged first.0)) in
+          let way = way-excess line excess cause stop exceeds judged in
           let N = λ (n : ℕ). Concludes now after (behind_gathered pending (bad_output n cause)) status in
           explain-concludes words left_before left_after before after (runs.handed ++ (old.kept ++ read)) (read_so_far read taken)
           (record { bytes = runs.printed ++ (bad_output bad.line cause).bytes; status = BadLine bad.line cause }) status
-          (out-stopped words options accepted ((runs.handed ++ (old.kept ++ read)) ++ rest_of left_after) runs.printed (Err bad) way)
+          (out-stopped words options accepted is_read ((runs.handed ++ (old.kept ++ read)) ++ rest_of left_after) runs.printed (Err bad) way)
           (concludes-all (bad_output bad.line cause) status (subst N exceeds.number concludes))
-          (explains-bad words options accepted (runs.handed ++ (old.kept ++ read)) (rest_of left_after) runs.printed bad way low high) (λ e. cc)
+          (explains-bad words options accepted is_read (runs.handed ++ (old.kept ++ read)) (rest_of left_after) runs.printed bad way low high) (λ e. cc)
 
       long : (excess : Excess) (line : ℕ) → Exceeds old (old.kept ++ read) excess line
           → (piece : List ℕ) × (length piece ≤ length (old.kept ++ read)) × (excess_of script_limits old.offset piece ≡ Some excess)
@@ -310,7 +341,7 @@ module _ (options : Options) (left_before left left_after : Option (List ℕ)) (
         explain-cut_off status next text done interrupted =
             let more = rest_of left_after in
             let way = ap (λ l. walk_of options l) (way_after line out_of open_end more) ∙ (good line out_of open_end next text done).all more (λ e. rest_of-end left_after (new_end line out_of open_end e)) in
-            let whole = out-front words options accepted ((runs.handed ++ (old.kept ++ read)) ++ more) (runs.printed ++ text) _ way in
+            let whole = out-front words options accepted is_read ((runs.handed ++ (old.kept ++ read)) ++ more) (runs.printed ++ text) _ way in
             let I = λ (l : List ℕ). Interrupts before after l status in
             explain-interrupted words left_before left_after before after (runs.handed ++ (old.kept ++ read)) (read_so_far read taken) status
             (subst I (sym whole.1) (Interrupts-more before after _ whole.0 status (Interrupts-more before after (runs.printed ++ text) _ status
@@ -318,21 +349,18 @@ module _ (options : Options) (left_before left left_after : Option (List ℕ)) (
 
         explain-bad : (status : Status) (cause : LineCause) → after_line options state line.bytes ≡ Err cause → Concludes now after (behind_gathered pending (bad_output line.number cause)) status
             → Explained words left_before left_after before after status
-        unfolding walk_of
         explain-bad status cause bad_line concludes =
             let more = rest_of left_after in
             let bad : Bad = record { line = old.handed + 1; cause = cause; stop = old.offset + length out_of.piece } in
-            let way = ap (λ l. walk_of options l) (way_after line out_of open_end more)
-            ∙ Follows-bad options runs.handed runs.printed (place_of options state old) old.kept old.ended runs.follows read out_of.piece line.bytes new.kept new.ended
-            out_of.front over out_of.still out_of.cut out_of.one_line cause more (λ e. rest_of-end left_after (new_end line out_of open_end e)) (fits line out_of open_end) bad_line in
+            let way = way-bad line out_of open_end cause bad_line in
             let size = ap length (regrouped line out_of open_end) ∙ length-append (runs.handed ++ out_of.piece) new.kept in
             let inner = length-append runs.handed out_of.piece in
             let N = λ (n : ℕ). Concludes now after (behind_gathered pending (bad_output n cause)) status in
             explain-concludes words left_before left_after before after (runs.handed ++ (old.kept ++ read)) (read_so_far read taken)
             (record { bytes = runs.printed ++ (bad_output bad.line cause).bytes; status = BadLine bad.line cause }) status
-            (out-stopped words options accepted ((runs.handed ++ (old.kept ++ read)) ++ more) runs.printed (Err bad) way)
+            (out-stopped words options accepted is_read ((runs.handed ++ (old.kept ++ read)) ++ more) runs.printed (Err bad) way)
             (concludes-all (bad_output bad.line cause) status (subst N out_of.number concludes))
-            (explains-bad words options accepted (runs.handed ++ (old.kept ++ read)) more runs.printed bad way
+            (explains-bad words options accepted is_read (runs.handed ++ (old.kept ++ read)) more runs.printed bad way
             (omega (arith, size, inner, runs.offset)) (omega (arith, size, inner, runs.offset, out_of.ahead))) (λ e. cc)
 
         pub explain-line : (status : Status) (left_over : List ℕ) → Turns now after pending left_over line.number (after_line options state line.bytes) (Err status)
@@ -340,10 +368,3 @@ module _ (options : Options) (left_before left left_after : Option (List ℕ)) (
         explain-line status left_over (inl interrupted) = explain-cut_off status interrupted.0.0 interrupted.0.1 interrupted.1 interrupted.2
         explain-line status left_over (inr (inl bad)) = explain-bad status bad.0 bad.1 bad.2
         explain-line status left_over (inr (inr interrupted)) = explain-pending status interrupted
-
--- memory was wanting before anything was read
-pub explain-at_once : (words : List (List ℕ)) (options : Options) → options_of words ≡ Some options → (left : Option (List ℕ)) (now : Taken) → Explained words left left now now NoMemory
-explain-at_once words options accepted left now =
-    let reader : LineReader = record { limits = script_limits; kept = []; offset = 0; handed = 0; ended = false; fault = None } in
-    explain-pending options left left left now now now empty reader reader [] (Runs-start options left now) [] (sym (prepend_known-nil left)) (λ e. refl) words accepted NoMemory
-    (Interrupts-at_once now [])

@@ -1,5 +1,5 @@
 -- The run that a script makes is a run, and its states are those of the way through the script.
-use Rattle.std.proofs.Common.{◌≡◌, ◌≤◌, ℕ, List, [], ◌∷◌, length, Option, Some, None, Result, Ok, Err, refl, sym, ap, ◌∙◌, subst, inl, inr, arith}
+use Rattle.std.proofs.Common.{◌≡◌, ◌≤◌, ℕ, Bool, true, false, cond, List, [], ◌∷◌, length, Option, Some, None, Result, Ok, Err, refl, sym, ap, ◌∙◌, subst, inl, inr, arith}
 use Rattle.std.specs.Prelude.{nat_lt, unwrap_or}
 use Rattle.std.proofs.lemmas.Bool.{cases_Bool, ltb-true, ltb-false}
 use Rattle.ic_outside.specs.Limits.{Limits, Excess, LongLine, LongScript, script_limits, excess_of}
@@ -7,6 +7,7 @@ use Rattle.ic_outside.specs.Pieces.{pieces, line_of}
 use Rattle.ic_script.specs.Line.{command_of}
 use Rattle.ic_script.specs.declared.Command.{Command}
 use Rattle.ic_script.specs.declared.Command.TheVariants.{Nothing, Call, Query, Run, Drain, Time, Decode, Show, Encode}
+use Rattle.ic_script.specs.declared.Command.TheVariants as kind
 use Rattle.ic_script.specs.declared.LineCause.{LineCause}
 use Rattle.ic_script.specs.declared.LineCause.TheVariants.{Back, Calls}
 use Rattle.ic_script.proofs.Times.{time_of_line}
@@ -16,12 +17,14 @@ use Rattle.ic_behaviour.specs.Submitted.{empty}
 use Rattle.ic_behaviour.proofs.Ties.{sound as sound_from}
 use Rattle.ic_behaviour.proofs.Changes.{empty_tallied}
 use Rattle.ic_runs.specs.Steps.{IsEligible}
-use Rattle.ic_runs.specs.Runs.{after, AreAllowed, IsRun}
+use Rattle.ic_runs.specs.Runs.{Act, Submits, after, AreAllowed, IsRun}
 use Rattle.ic_runs.proofs.RunLaws.{delivers_allowed, allowed-append}
-use Rattle.ic_host.specs.declared.options.Options.{Options}
-use Rattle.ic_host.specs.Options.{rules_of, options_of, default_options}
-use Rattle.ic_host.specs.AfterCommand.{acts_of, acts_of_rounds, text_of, fault_of, unless, after_command}
+use Rattle.ic_options.specs.declared.Options.{Options}
+use Rattle.ic_host.specs.Options.{rules_of, default_options}
+use Rattle.ic_options.specs.Options.{options_of}
+use Rattle.ic_host.specs.AfterCommand.{accepts_now, acts_of, acts_of_rounds, text_of, fault_of, unless, after_command}
 use Rattle.ic_host.specs.AfterLine.{after_line, after_spelled}
+use Rattle.ic_host.specs.Script.{script_for}
 use Rattle.ic_host.specs.Walk.{Place, start, behind_line, judge, judge_line}
 use Rattle.ic_host.specs.Trace.{acts_of_spelled, acts_of_line, acting, acts_from, trace_of, trace, rules}
 use Rattle.ic_host.proofs.Keeps.{rules_keep, after_sound, rounds_eligible}
@@ -43,16 +46,20 @@ command_allowed options s Nothing sound within now = tt
 command_allowed options s (Query ask) sound within now = tt
 command_allowed options s (Run count) sound within now = rounds_allowed options count s sound
 command_allowed options s Drain sound within now = rounds_allowed options options.rounds s sound
+command_allowed options s kind.State sound within now = tt
 command_allowed options s (Decode expected bytes) sound within now = tt
 command_allowed options s (Show expected bytes) sound within now = tt
 command_allowed options s (Encode expected text) sound within now = tt
-command_allowed options s (Call ask) sound within now = (
-  elim (cases_Bool (nat_lt (length s.requests) 1048576)) [
-    | inl few ↦ omega (arith, ltb-true _ _ few)
-    | inr many ↦ let bad : Some Calls ≡ None = rw many at now in cc
-  ],
-  tt,
-)
+command_allowed options s (Call ask) sound within now = by (accepts_now options s ask) where
+  by : (b : Bool) → AreAllowed IsEligible (rules_of options) s (cond b (Submits ask.sender ask.callee ask.method ask.arg ∷ []) [])
+  by true = (
+    elim (cases_Bool (nat_lt (length s.requests) 1048576)) [
+      | inl few ↦ omega (arith, ltb-true _ _ few)
+      | inr many ↦ let bad : Some Calls ≡ None = rw many at now in cc
+    ],
+    tt,
+  )
+  by false = tt
 command_allowed options s (Time time) sound within now = (
   (
     elim (cases_Bool (nat_lt time s.time)) [
@@ -114,9 +121,9 @@ pub empty_sound : Sound empty
 empty_sound = sound_from empty empty_tallied
 
 -- the acts of every script are a run
-pub trace_is_run : (words : List (List ℕ)) (script : List ℕ) → IsRun (rules words) (trace words script)
+pub trace_is_run : (words : List (List ℕ)) (bytes : List ℕ) → IsRun (rules words) (trace words bytes)
 unfolding trace
-trace_is_run words script = accepted (options_of words) where
-  accepted : (o : Option Options) → IsRun (rules_of (unwrap_or o default_options)) (trace_of o script)
+trace_is_run words bytes = accepted (options_of words) where
+  accepted : (o : Option Options) → IsRun (rules_of (unwrap_or o default_options)) (trace_of o bytes)
   accepted None = tt
-  accepted (Some options) = acts_allowed script_limits (start options) (pieces script) empty_sound
+  accepted (Some options) = acts_allowed script_limits (start options) (pieces (script_for options.generate bytes)) empty_sound

@@ -7,15 +7,17 @@ use Rattle.ic_script.specs.declared.LineCause.TheVariants as cause
 use Rattle.ic_script.specs.declared.LineError.{LineError}
 use Rattle.ic_script.specs.declared.LineError.TheVariants as error
 use Rattle.ic_host.specs.declared.status.Status.{Status}
-use Rattle.ic_host.specs.declared.status.Status.TheVariants.{Done, BadWords, BadLine, ReadFault}
+use Rattle.ic_host.specs.declared.status.Status.TheVariants.{Done, BadWords, BadLine, ReadFault, NoMemory}
 use Rattle.ic_host.specs.declared.doing.NotDone.{NotDone}
 use Rattle.ic_host.specs.declared.doing.NotDone.TheVariants as undone
-use Rattle.ic_host.specs.declared.options.Options.{Options}
+use Rattle.ic_options.specs.declared.Options.{Options}
+use Rattle.ic_options.specs.Options.{usage_text}
 use Rattle.ic_host.specs.EndPart.{end_part}
 use Rattle.ic_host.specs.Out.{Output}
 use Rattle.ic_host.specs.Sending.{Taken, Sent, Interrupts}
 use Rattle.ic_behaviour.specs.State.{State}
-use Rattle.ic_host.specs.Texts.{usage_text, bad_text}
+use Rattle.ic_host.specs.Texts.{bad_text}
+use Rattle.ic_host.specs.Walk.{Bad}
 
 -- a step gives what was said, unless memory was wanting
 abbrev pub Acts : Result (State × List ℕ) LineCause → Result (State × List ℕ) NotDone → Type 0
@@ -53,6 +55,18 @@ Turns old new gathered left number said (Err status) =
     ⊎ ((cause : LineCause) × (said ≡ Err cause) × Concludes old new (behind_gathered gathered (bad_output number cause)) status)
     ⊎ Interrupts old new gathered status
 
+-- the state behind a line, or that it is bad, unless memory was wanting
+abbrev pub Does : ℕ → Result (State × List ℕ) LineCause → Result State Status → Type 0
+Does number said (Ok state) = (text : List ℕ) × (said ≡ Ok (state, text))
+Does number said (Err (BadLine line cause)) = (line ≡ number) × (said ≡ Err cause)
+Does number said (Err status) = status ≡ NoMemory
+
+-- the state behind the last line of a script, or its first bad line, unless memory was wanting
+abbrev pub Ends : Result State Bad → Result State Status → Type 0
+Ends last (Ok state) = last ≡ Ok state
+Ends last (Err (BadLine line cause)) = (bad : Bad) × (last ≡ Err bad) × (bad.line ≡ line) × (bad.cause ≡ cause)
+Ends last (Err status) = status ≡ NoMemory
+
 -- what came of a fault of the reader of lines
 abbrev pub Stops : Taken → Taken → (gathered : List ℕ) → LineFault → Status → Type 0
 Stops old new gathered (fault.LineTooLong line) status = Concludes old new (behind_gathered gathered (bad_output line cause.LineTooLong)) status
@@ -68,3 +82,10 @@ not_done error.Hex = undone.Bad cause.Hex
 not_done error.Number = undone.Bad cause.Number
 not_done error.Size = undone.Bad cause.Size
 not_done error.NoMemory = undone.NoMemory
+
+-- the status with which a fault of the reader of lines ends a run
+abbrev pub status_of : LineFault → Status
+status_of (fault.LineTooLong line) = BadLine line cause.LineTooLong
+status_of (fault.ScriptTooLong line) = BadLine line cause.ScriptTooLong
+status_of fault.ReadFault = ReadFault
+status_of fault.NoMemory = NoMemory

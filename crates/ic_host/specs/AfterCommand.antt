@@ -1,10 +1,11 @@
 -- What a command does.
-use Rattle.std.specs.Prelude.{ℕ, nat_lt, if◌then◌else◌, List, [], ◌∷◌, length, map, Option, Some, None, Result, Ok, Err}
+use Rattle.std.specs.Prelude.{ℕ, Bool, true, cond, nat_lt, if◌then◌else◌, List, [], ◌∷◌, length, map, Option, Some, None, Result, Ok, Err}
 use Rattle.std.specs.List.{concat}
 use Rattle.std.specs.Map.{lookup}
 use Rattle.ic_script.specs.declared.Ask.{Ask}
 use Rattle.ic_script.specs.declared.Command.{Command}
 use Rattle.ic_script.specs.declared.Command.TheVariants.{Nothing, Call, Query, Run, Drain, Time, Decode, Show, Encode}
+use Rattle.ic_script.specs.declared.Command.TheVariants as kind
 use Rattle.ic_script.specs.declared.LineCause.{LineCause}
 use Rattle.ic_script.specs.declared.LineCause.TheVariants.{Back, Calls}
 use Rattle.ic_behaviour.specs.declared.call.Response.{Response}
@@ -15,9 +16,10 @@ use Rattle.ic_behaviour.specs.Deliver.{env_at}
 use Rattle.ic_runs.specs.Round.{rounds}
 use Rattle.ic_runs.specs.Runs.{Act, Delivers, Submits, SetsTime, after}
 use Rattle.ic_exec.specs.Query.{query_response}
-use Rattle.ic_host.specs.declared.options.Options.{Options}
+use Rattle.ic_exec.specs.Inspection.{is_accepted}
+use Rattle.ic_options.specs.declared.Options.{Options}
 use Rattle.ic_host.specs.Options.{rules_of}
-use Rattle.ic_host.specs.Texts.{accepted_text, query_text, ran_text}
+use Rattle.ic_host.specs.Texts.{accepted_text, call_refused_text, query_text, ran_text, state_line}
 use Rattle.ic_host.specs.Decoding.{decode_text, show_text}
 use Rattle.ic_host.specs.Encoding.{encode_text}
 
@@ -47,16 +49,28 @@ answer_by options s ask (Some c) =
 unfoldable pub answer_now : Options → State → Ask → Response
 answer_now options s ask = answer_by options s ask (lookup (at ask.callee) s.canisters)
 
+-- ---- inspection
+
+-- whether the callee accepts a call before it is submitted; what is no canister looks at no call
+abbrev pub accepts : Options → State → Ask → Option Canister → Bool
+accepts options s ask None = true
+accepts options s ask (Some c) =
+    is_accepted (rules_of options).enters (env_at s.time options.limit options.price) (counted s ask.callee c) ask.sender ask.method ask.arg
+
+unfoldable pub accepts_now : Options → State → Ask → Bool
+accepts_now options s ask = accepts options s ask (lookup (at ask.callee) s.canisters)
+
 -- ---- commands
 
 -- what happens to the state when a command is done
 abbrev pub acts_of : Options → State → Command → List Act
 acts_of options s Nothing = []
-acts_of options s (Call ask) = Submits ask.sender ask.callee ask.method ask.arg ∷ []
+acts_of options s (Call ask) = cond (accepts_now options s ask) (Submits ask.sender ask.callee ask.method ask.arg ∷ []) []
 acts_of options s (Query ask) = []
 acts_of options s (Run count) = acts_of_rounds options count s
 acts_of options s Drain = acts_of_rounds options options.rounds s
 acts_of options s (Time time) = SetsTime time ∷ []
+acts_of options s kind.State = []
 acts_of options s (Decode expected bytes) = []
 acts_of options s (Show expected bytes) = []
 acts_of options s (Encode expected text) = []
@@ -64,11 +78,12 @@ acts_of options s (Encode expected text) = []
 -- what a command prints
 abbrev pub text_of : Options → State → Command → List ℕ
 text_of options s Nothing = []
-text_of options s (Call ask) = accepted_text (length s.requests)
+text_of options s (Call ask) = cond (accepts_now options s ask) (accepted_text (length s.requests)) call_refused_text
 text_of options s (Query ask) = query_text (answer_now options s ask)
 text_of options s (Run count) = text_of_rounds options count s
 text_of options s Drain = text_of_rounds options options.rounds s
 text_of options s (Time time) = []
+text_of options s kind.State = state_line s
 text_of options s (Decode expected bytes) = decode_text expected bytes
 text_of options s (Show expected bytes) = show_text expected bytes
 text_of options s (Encode expected text) = encode_text expected text
@@ -81,6 +96,7 @@ fault_of s (Query ask) = None
 fault_of s (Run count) = None
 fault_of s Drain = None
 fault_of s (Time time) = if nat_lt time s.time then Some Back else None
+fault_of s kind.State = None
 fault_of s (Decode expected bytes) = None
 fault_of s (Show expected bytes) = None
 fault_of s (Encode expected text) = None

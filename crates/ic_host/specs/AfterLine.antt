@@ -3,7 +3,7 @@ use Rattle.std.specs.Prelude.{ℕ, List, Result, Ok, Err}
 use Rattle.ic_script.specs.Line.{command_of}
 use Rattle.ic_script.specs.declared.Command.{Command}
 use Rattle.ic_script.specs.declared.LineCause.{LineCause}
-use Rattle.ic_host.specs.declared.options.Options.{Options}
+use Rattle.ic_options.specs.declared.Options.{Options}
 use Rattle.ic_host.specs.AfterCommand.{after_command}
 use Rattle.ic_behaviour.specs.State.{State}
 

@@ -1,28 +1,29 @@
 -- What the program prints.
-use Rattle.std.specs.Prelude.{ℕ, ◌++◌, List, [], ◌∷◌, codes, decimal, Option, Some, None}
+use Rattle.std.specs.Prelude.{ℕ, Bool, true, false, ◌++◌, List, [], ◌∷◌, codes, decimal, length, count_by, Option, Some, None, is_none}
 use Rattle.json.specs.Print.{quoted}
 use Rattle.hex.specs.Hex.{encode_lower}
 use Rattle.ic_behaviour.specs.declared.call.Response.{Response}
 use Rattle.ic_behaviour.specs.declared.call.Response.TheVariants.{Reply, Reject}
 use Rattle.ic_script.specs.declared.LineCause.{LineCause}
 use Rattle.ic_script.specs.CauseText.{cause_text}
+use Rattle.ic_script.specs.HexWord.{hex_word}
+use Rattle.ic_behaviour.specs.declared.request.Request.{Request}
+use Rattle.ic_behaviour.specs.State.{State}
+use Rattle.ic_summary.specs.StateLine.{state_text}
+use Rattle.ic_tree.specs.HashTree.{root_hash}
+use Rattle.ic_tree.specs.StateTree.{state_tree_of}
 
 -- what ends a printed line
 abbrev pub newline : List ℕ
 newline = 10 ∷ []
 
--- for refused words
-unfoldable pub usage_text : List ℕ
-usage_text = codes "usage: replica" ++ newline
-
 -- for a call that was submitted, by its number from 0
 unfoldable pub accepted_text : ℕ → List ℕ
 accepted_text number = codes "accepted " ++ decimal number ++ newline
 
--- bytes in hexadecimal digits, and a dash where there is none
-abbrev pub hex_word : List ℕ → List ℕ
-hex_word [] = codes "-"
-hex_word (byte ∷ bytes) = encode_lower (byte ∷ bytes)
+-- for a call that its callee did not accept
+unfoldable pub call_refused_text : List ℕ
+call_refused_text = codes "refused" ++ newline
 
 -- what a response tells; the message of a rejection is a string of JSON
 unfoldable pub response_text : Response → List ℕ
@@ -45,3 +46,31 @@ ran_text made left = codes "ran " ++ (decimal made ++ (codes " left " ++ (decima
 -- for a bad line, by its number from 1
 unfoldable pub bad_text : ℕ → LineCause → List ℕ
 bad_text line cause = codes "line " ++ decimal line ++ codes ": " ++ cause_text cause ++ newline
+
+-- ---- a state
+
+-- the line that shows a state
+unfoldable pub state_line : State → List ℕ
+state_line state = state_text state ++ newline
+
+-- the root hash of the tree of a state
+unfoldable pub root_line : State → List ℕ
+root_line state = codes "root " ++ (encode_lower (root_hash (state_tree_of state)) ++ newline)
+
+-- ---- the calls of a generated script
+
+abbrev pub is_replied : Option Response → Bool
+is_replied (Some (Reply bytes)) = true
+is_replied answer = false
+
+abbrev pub is_rejected : Option Response → Bool
+is_rejected (Some (Reject code message)) = true
+is_rejected answer = false
+
+-- how many calls there were, and how many of them were answered how
+unfoldable pub calls_line : List Request → List ℕ
+calls_line requests =
+    codes "calls " ++ (decimal (length requests)
+    ++ (codes " replied " ++ (decimal (count_by (λ (r : Request). is_replied r.answer) requests)
+    ++ (codes " rejected " ++ (decimal (count_by (λ (r : Request). is_rejected r.answer) requests)
+    ++ (codes " waiting " ++ (decimal (count_by (λ (r : Request). is_none r.answer) requests) ++ newline)))))))

@@ -8,9 +8,11 @@ use Rattle.ic_script.specs.declared.LineCause.{LineCause}
 use Rattle.ic_behaviour.specs.State.{State}
 use Rattle.ic_runs.specs.Steps.{Rules}
 use Rattle.ic_runs.specs.Runs.{Act}
-use Rattle.ic_host.specs.declared.options.Options.{Options}
+use Rattle.ic_options.specs.declared.Options.{Options}
 use Rattle.ic_host.specs.AfterCommand.{acts_of, acts_of_rounds}
-use Rattle.ic_host.specs.Options.{default_options, options_of, rules_of}
+use Rattle.ic_host.specs.Options.{default_options, rules_of}
+use Rattle.ic_options.specs.Options.{options_of}
+use Rattle.ic_host.specs.Script.{script_for}
 use Rattle.ic_host.specs.Walk.{Place, Bad, start, behind_line, judge}
 
 abbrev pub acts_of_spelled : Options → State → Result Command LineCause → List Act
@@ -33,14 +35,14 @@ acts_from limits at (piece ∷ pieces) =
     acting (acts_of_line at.options at.state (line_of piece)) (judge limits at piece (excess_of limits at.offset piece))
     (λ state. acts_from limits (behind_line at (length piece) state) pieces)
 
--- the same of a script that runs with the options; where the words are refused nothing happens
+-- the same of the script that runs with the options; where the words are refused nothing happens
 abbrev pub trace_of : Option Options → List ℕ → List Act
-trace_of None script = []
-trace_of (Some options) script = acts_from script_limits (start options) (pieces script)
+trace_of None bytes = []
+trace_of (Some options) bytes = acts_from script_limits (start options) (pieces (script_for options.generate bytes))
 
--- the acts of the run that the words and the script make
+-- the acts of the run that the words and the bytes of the source make
 unfoldable pub trace : List (List ℕ) → List ℕ → List Act
-trace words script = trace_of (options_of words) script
+trace words bytes = trace_of (options_of words) bytes
 
 -- the rules of that run
 abbrev pub rules : List (List ℕ) → Rules

@@ -1,31 +1,40 @@
-ghost use Rattle.std.specs.Prelude.{◌≡◌, ◌≤◌, ℕ, [], length, Ok, IfOk};
+ghost use Rattle.std.specs.Prelude.{◌≡◌, ◌<◌, ◌≤◌, ℕ, [], length, Ok, IfOk};
 ghost use Rattle.ic_behaviour.specs.Submitted.{submitted, timed};
 ghost use Rattle.ic_runs.specs.Round.{rounds};
+ghost use Rattle.ic_behaviour.specs.Entry.{enters_by};
+ghost use Rattle.ic_api.specs.System.{system_api};
+ghost use Rattle.ic_exec.specs.Inspection.{is_accepted};
+ghost use Rattle.ic_state.specs.IsCanister.{IsCanister};
 ghost use Rattle.ic_state.specs.IsWorld.{IsWorld};
-ghost use Rattle.ic_state.specs.Seen.{state_of};
+ghost use Rattle.ic_state.specs.Seen.{seen, state_of};
 ghost use Rattle.ic_host.specs.Acts.{Acts};
 ghost use Rattle.ic_host.specs.AfterLine.{after_line};
-ghost use Rattle.ic_host.specs.AfterCommand.{after_command, after_rounds, text_of_rounds, answer_now, fault_of, unless};
+ghost use Rattle.ic_host.specs.AfterCommand.{after_command, after_rounds, text_of_rounds, answer_now, accepts_now, fault_of, unless};
 ghost use Rattle.ic_host.specs.Decoding.{decode_text, show_text};
 ghost use Rattle.ic_host.specs.Encoding.{encode_text};
-ghost use Rattle.ic_host.specs.Options.{IsWithin, rules_of};
-ghost use Rattle.ic_host.specs.Texts.{accepted_text, query_text};
+ghost use Rattle.ic_host.specs.Options.{rules_of};
+ghost use Rattle.ic_options.specs.Options.{HasBounds};
+ghost use Rattle.ic_host.specs.Texts.{accepted_text, query_text, call_refused_text, state_line};
 
+use crate::closing::state_line;
 use crate::decoding::{decode_text, show_text};
 use crate::encoding::encode_text;
-use crate::options::Options;
-use crate::texts::{accepted_text, query_text, ran_text};
+use crate::texts::{accepted_text, call_refused_text, query_text, ran_text};
 use ic_base::NoMemory as WantOfMemory;
 use ic_calls::no_canister;
-use ic_exec::query;
+use ic_exec::{inspect, inspects, query};
+use ic_options::Options;
 use ic_outside::Gate;
 use ic_principal::Bytes;
 use ic_round::run_rounds;
 use ic_script::{Ask, Command, LineCause, LineError, parse_line};
-use ic_state::{Env, Parts, Response, World};
+use ic_state::{Canister, Env, Parts, Response, World};
 use std::alloc::Global;
 
 const MOST_CALLS: usize = 1_048_576;
+
+// One worker runs, whatever number is allowed.
+const WORKERS: u32 = 1;
 
 /// Why a line was not done.
 #[derive(Clone, Copy, Debug, PartialEq, Eq)]
@@ -74,7 +83,7 @@ pub fn do_line<G: Gate + Sync>(
     line: &[u8],
     gate: &G,
 ) -> Result<(World, Bytes), NotDone>
-    requires { IsWithin options.now }
+    requires { HasBounds options.now }
     ensures { Acts (after_line options.now world line.now) result }
 {
     match parse_line(alloc, line) {
@@ -91,7 +100,7 @@ fn do_command<G: Gate + Sync>(
     command: Command,
     gate: &G,
 ) -> Result<(World, Bytes), NotDone>
-    requires within { IsWithin options.now }
+    requires within { HasBounds options.now }
     requires time { (time : ℕ) → command ≡ Command.Time time → time ≤ 9223372036854775807 }
     ensures { Acts (after_command options.now world command) result }
 {
@@ -102,30 +111,105 @@ fn do_command<G: Gate + Sync>(
                 items: Vec::new(alloc),
             },
         )),
-        Command::Call(ask) => submit(alloc, world, ask),
+        Command::Call(ask) => submit(alloc, options, world, ask),
         Command::Query(ask) => answer(alloc, options, world, ask),
         Command::Run(count) => make_rounds(alloc, options, world, count, gate),
         Command::Drain => make_rounds(alloc, options, world, options.rounds, gate),
         Command::Time(time) => set_time(alloc, world, time),
+        Command::State => show_state(alloc, world),
         Command::Decode { expected, bytes } => decode(alloc, world, &expected, &bytes),
         Command::Show { expected, bytes } => show(alloc, world, &expected, &bytes),
         Command::Encode { expected, text } => encode(alloc, world, &expected, &text),
     }
 }
 
-fn submit(alloc: Global, world: World, ask: Ask) -> Result<(World, Bytes), NotDone>
-    ensures { Acts (unless (fault_of world (Command.Call ask))
-        (submitted world ask.sender ask.callee ask.method ask.arg, accepted_text (length world.requests))) result }
+#[tactic(auto, unfolding(crate::specs::AfterCommand::after_command))]
+fn submit(
+    alloc: Global,
+    options: &Options,
+    world: World,
+    ask: Ask,
+) -> Result<(World, Bytes), NotDone>
+    requires { HasBounds options.now }
+    ensures { Acts (after_command options.now world (Command.Call ask)) result }
 {
-    let number = world.parts().requests.len();
-    if number >= MOST_CALLS {
+    if world.parts().requests.len() >= MOST_CALLS {
         return Err(NotDone::Bad(LineCause::Calls));
     }
+    let mut parts = world.open();
+    let is_accepted = accepts_now(alloc, options, &mut parts, &ask);
+    let world = World::seal(parts);
+    match is_accepted {
+        Ok(true) => accept(alloc, world, ask),
+        Ok(false) => refuse(alloc, world),
+        Err(_) => Err(NotDone::NoMemory),
+    }
+}
+
+// Whether the callee accepts the call. All stays as it is, without memory too.
+#[tactic(auto, unfolding(crate::specs::AfterCommand::accepts_now))]
+fn accepts_now(
+    alloc: Global,
+    options: &Options,
+    parts: &mut Parts,
+    ask: &Ask,
+) -> Result<bool, WantOfMemory>
+    requires within { HasBounds options.now }
+    requires keeps { IsWorld parts.old }
+    ensures accepted { IfOk result (λ b. b ≡ accepts_now options.now (state_of parts.old) ask.now) }
+    ensures same { state_of parts.new ≡ state_of parts.old }
+    ensures keeps { IsWorld parts.new }
+{
+    let env = Env {
+        time: parts.time,
+        limit: options.limit,
+        price: options.price,
+    };
+    match parts.canisters.get_mut(&ask.callee) {
+        Some(canister) => accepts(alloc, canister, ask, env),
+        None => Ok(true),
+    }
+}
+
+// The argument is copied for a canister that looks at calls, and for no other.
+fn accepts(
+    alloc: Global,
+    canister: &mut Canister,
+    ask: &Ask,
+    env: Env,
+) -> Result<bool, WantOfMemory>
+    requires { IsCanister canister.old }
+    ensures accepted { IfOk result (λ b. b ≡ is_accepted (enters_by system_api) env (seen canister.old) ask.now.sender ask.now.method ask.now.arg) }
+    ensures same { canister.new ≡ canister.old }
+{
+    if !inspects(canister) {
+        return Ok(true);
+    }
+    let arg = Bytes {
+        items: Vec::from_slice(alloc, ask.arg.items.as_slice())?,
+    };
+    inspect(alloc, canister, ask.sender, &ask.method.items, arg, env)
+}
+
+fn accept(alloc: Global, world: World, ask: Ask) -> Result<(World, Bytes), NotDone>
+    requires { length world.requests < 1048576 }
+    ensures { Acts (Ok (submitted world ask.sender ask.callee ask.method ask.arg, accepted_text (length world.requests))) result }
+{
+    let number = world.parts().requests.len();
     let Ok(text) = accepted_text(alloc, number) else {
         return Err(NotDone::NoMemory);
     };
     match world.submit(ask.sender, ask.callee, ask.method, ask.arg) {
         Ok(world) => Ok((world, text)),
+        Err(_) => Err(NotDone::NoMemory),
+    }
+}
+
+fn refuse(alloc: Global, world: World) -> Result<(World, Bytes), NotDone>
+    ensures { Acts (Ok (world, call_refused_text)) result }
+{
+    match call_refused_text(alloc) {
+        Ok(text) => Ok((world, text)),
         Err(_) => Err(NotDone::NoMemory),
     }
 }
@@ -137,7 +221,7 @@ fn answer(
     world: World,
     ask: Ask,
 ) -> Result<(World, Bytes), NotDone>
-    requires { IsWithin options.now }
+    requires { HasBounds options.now }
     ensures { Acts (Ok (world, query_text (answer_now options.now world ask))) result }
 {
     let mut parts = world.open();
@@ -160,7 +244,7 @@ fn answer_now(
     parts: &mut Parts,
     ask: Ask,
 ) -> Result<Response, WantOfMemory>
-    requires within { IsWithin options.now }
+    requires within { HasBounds options.now }
     requires keeps { IsWorld parts.old }
     ensures response { IfOk result (λ r. r ≡ answer_now options.now (state_of parts.old) ask) }
     ensures same { state_of parts.new ≡ state_of parts.old }
@@ -190,7 +274,7 @@ fn make_rounds<G: Gate + Sync>(
     count: u32,
     gate: &G,
 ) -> Result<(World, Bytes), NotDone>
-    requires { IsWithin options.now }
+    requires { HasBounds options.now }
     ensures { Acts (Ok (after_rounds options.now count world, text_of_rounds options.now count world)) result }
 {
     let Ok((world, made)) = run_rounds_by(alloc, options, world, count, gate) else {
@@ -211,7 +295,7 @@ pub fn run_rounds_by<G: Gate + Sync>(
     count: u32,
     gate: &G,
 ) -> Result<(World, u32), WantOfMemory>
-    requires { IsWithin options.now }
+    requires { HasBounds options.now }
     ensures state { IfOk result (λ r. r.0 ≡ after_rounds options.now count world) }
     ensures made { IfOk result (λ r. r.1 ≡ length (rounds (rules_of options.now) count world)) }
 {
@@ -219,7 +303,7 @@ pub fn run_rounds_by<G: Gate + Sync>(
         alloc,
         world,
         count,
-        options.workers,
+        WORKERS,
         options.limit,
         options.price,
         gate,
@@ -243,6 +327,16 @@ fn set_time(alloc: Global, mut world: World, time: u64) -> Result<(World, Bytes)
             items: Vec::new(alloc),
         },
     ))
+}
+
+// The world stays as it is.
+fn show_state(alloc: Global, world: World) -> Result<(World, Bytes), NotDone>
+    ensures { Acts (Ok (world, state_line world)) result }
+{
+    match state_line(alloc, &world) {
+        Ok(text) => Ok((world, text)),
+        Err(_) => Err(NotDone::NoMemory),
+    }
 }
 
 fn decode(

@@ -8,12 +8,14 @@
 //! (`specs/Headline.antt`).
 #![tactic(auto)]
 
+mod closing;
 mod decoding;
 mod doing;
 mod encoding;
+mod ending;
 mod gathered;
+mod generated;
 pub mod laws;
-mod options;
 mod printing;
 mod status;
 mod texts;

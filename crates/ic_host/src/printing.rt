@@ -1,4 +1,5 @@
 ghost use Rattle.std.specs.Prelude.{◌≢◌, Err};
+ghost use Rattle.ic_host.specs.Acts.{Concludes};
 ghost use Rattle.ic_host.specs.Sending.{Prints, sink_at};
 
 use crate::status::Status;
@@ -13,5 +14,16 @@ pub fn print_bytes<K: Sink>(sink: &mut K, text: &[u8]) -> Result<(), Status>
     match send(sink, text) {
         Ok(()) => Ok(()),
         Err(_) => Err(Status::WriteFault),
+    }
+}
+
+/// Prints all that is printed, and answers the status.
+pub fn print_last<K: Sink>(sink: &mut K, text: &[u8], status: Status) -> Status
+    ensures { Concludes (sink_at K.taken K.fits K.faults sink.old) (sink_at K.taken K.fits K.faults sink.new)
+        (record { bytes = text.now; status = status }) result }
+{
+    match print_bytes(sink, text) {
+        Ok(()) => status,
+        Err(fault) => fault,
     }
 }

@@ -1,6 +1,7 @@
 ghost use Rattle.std.specs.Prelude.{◌≡◌};
 ghost use Rattle.ic_host.specs.Status.{code_of};
 
+use ic_outside::LineFault;
 use ic_script::LineCause;
 
 /// How a call of `replica` ended.
@@ -32,6 +33,28 @@ impl Status {
             Status::ReadFault => 4,
             Status::WriteFault => 5,
             Status::NoMemory => 6,
+        }
+    }
+}
+
+impl From<LineFault> for Status {
+    ghost use Rattle.std.specs.Prelude.{◌≡◌};
+    ghost use Rattle.ic_host.specs.Acts.{status_of};
+
+    ghost from_gives = { λ fault status. status ≡ status_of fault };
+
+    fn from(fault: LineFault) -> Status {
+        match fault {
+            LineFault::LineTooLong { line } => Status::BadLine {
+                line,
+                cause: LineCause::LineTooLong,
+            },
+            LineFault::ScriptTooLong { line } => Status::BadLine {
+                line,
+                cause: LineCause::ScriptTooLong,
+            },
+            LineFault::ReadFault => Status::ReadFault,
+            LineFault::NoMemory => Status::NoMemory,
         }
     }
 }

@@ -1,16 +1,13 @@
 ghost use Rattle.std.specs.Prelude.{◌≡◌, IfOk, codes, string_bytes};
 ghost use Rattle.json.specs.Print.{quoted};
-ghost use Rattle.ic_host.specs.Texts.{accepted_text, query_text, answer_text, ran_text, response_text, hex_word, bad_text};
+ghost use Rattle.ic_host.specs.Texts.{accepted_text, call_refused_text, query_text, answer_text, ran_text, response_text, bad_text};
 
 use ic_base::NoMemory;
 use ic_principal::Bytes;
-use ic_script::LineCause;
+use ic_script::{LineCause, hex_word};
 use ic_state::Response;
 use serde_json::Value;
 use std::alloc::Global;
-
-/// For refused words.
-pub const USAGE: &str = "usage: replica\n";
 
 // Room for every text but the longest, so that its memory is taken once.
 const ROOM: usize = 96;
@@ -24,6 +21,16 @@ pub fn accepted_text(alloc: Global, number: usize) -> Result<Bytes, NoMemory>
     write!(text, "accepted {number}\n")?;
     Ok(Bytes {
         items: text.into_bytes(),
+    })
+}
+
+/// For a call that its callee did not accept.
+#[tactic(auto, unfolding(crate::specs::Texts::call_refused_text))]
+pub fn call_refused_text(alloc: Global) -> Result<Bytes, NoMemory>
+    ensures { IfOk result (λ text. text ≡ call_refused_text) }
+{
+    Ok(Bytes {
+        items: String::from_str(alloc, "refused\n")?.into_bytes(),
     })
 }
 
@@ -84,16 +91,6 @@ fn response_text(alloc: Global, response: &Response) -> Result<String, NoMemory>
             let message = quoted(alloc, &message.items)?;
             format!(in alloc; "rejected {code} {message}")
         }
-    }
-}
-
-// Bytes in hexadecimal digits, and a dash where there is none.
-fn hex_word(alloc: Global, bytes: &[u8]) -> Result<String, NoMemory>
-    ensures { IfOk result (λ text. string_bytes text ≡ hex_word bytes.now) }
-{
-    match bytes {
-        [] => String::from_str(alloc, "-"),
-        [_, ..] => hex::encode(alloc, bytes),
     }
 }
 

@@ -1,33 +1,34 @@
-ghost use Rattle.std.specs.Prelude.{◌≡◌, ◌≢◌, ◌≤◌, ◌++◌, ℕ, List, Some, IsTrue, IfSome, map, length, string_bytes};
+ghost use Rattle.std.specs.Prelude.{◌≡◌, ◌≢◌, ◌≤◌, ◌++◌, ℕ, List, Some, None, IsTrue, IfSome, map, length, string_bytes};
 ghost use Rattle.ic_outside.specs.Faults.{Rose};
-ghost use Rattle.ic_host.specs.Acts.{Concludes, Turns, Stops, usage_output, bad_output, end_output, behind_gathered};
-ghost use Rattle.ic_host.specs.AfterLine.{after_line};
-ghost use Rattle.ic_behaviour.specs.declared.request.Request.{Request as SomeRequest};
+ghost use Rattle.ic_options.specs.Options.{HasBounds, options_of};
 ghost use Rattle.ic_runs.specs.Runs.{IsRun, EachState, EachDelivery};
-ghost use Rattle.ic_host.specs.EndPart.{answers_from};
+ghost use Rattle.ic_host.specs.Acts.{Concludes, Turns, Stops, usage_output, bad_output, behind_gathered};
+ghost use Rattle.ic_host.specs.AfterLine.{after_line};
 ghost use Rattle.ic_host.specs.Headline.{PlacedOnce, Conserves, TrapsLeave};
-ghost use Rattle.ic_host.specs.Options.{options_of, IsWithin};
-ghost use Rattle.ic_host.specs.Explained.{Explained, GivesOutput};
+ghost use Rattle.ic_host.specs.Explained.{Explained, GivesOutput, generated_by};
 ghost use Rattle.ic_host.specs.Out.{out};
 ghost use Rattle.ic_host.specs.Sending.{sink_at};
 ghost use Rattle.ic_host.specs.Trace.{rules, trace};
 
-use crate::doing::{NotDone, do_line, run_rounds_by};
+use crate::doing::{NotDone, do_line};
+use crate::ending::finish;
 use crate::gathered::Gathered;
-use crate::options::Options;
-use crate::printing::print_bytes;
+use crate::generated::run_generated;
+use crate::printing::print_last;
 use crate::status::Status;
-use crate::texts::{USAGE, answer_text, bad_text};
+use crate::texts::bad_text;
+use ic_options::{Options, usage};
 use ic_outside::{Gate, Line, LineFault, Lines, Sink, Source};
 use ic_script::LineCause;
-use ic_state::{Request, World};
+use ic_state::World;
 use std::alloc::Global;
 use std::thread::Threads;
 
-// The most bytes of a line before its line feed, and of a script.
-const LARGEST_LINE: usize = 8_388_608;
+/// The most bytes of a line before its line feed.
+pub const LARGEST_LINE: usize = 8_388_608;
 
-const LARGEST_SCRIPT: u64 = 268_435_456;
+/// The most bytes of a script.
+pub const LARGEST_SCRIPT: u64 = 268_435_456;
 
 /// Runs the script that the source gives, as the words ask, and prints to the sink. The words begin
 /// with the program's name. The gate is passed as soon as rounds have several workers.
@@ -64,7 +65,9 @@ pub fn replica<R: Threads + Sync, S: Source, K: Sink, G: Gate + Sync>(
     ensures read { result ≡ Status.ReadFault → Rose (S.faults source.old) (S.faults source.new) }
     ensures write { result ≡ Status.WriteFault → Rose (K.faults sink.old) (K.faults sink.new) }
     ensures untouched { result ≡ Status.BadWords → source.new ≡ source.old }
-    ensures to_the_end { result ≡ Status.Done → IsTrue (S.ended source.new) }
+    ensures generated { (n : ℕ) → generated_by (options_of (map string_bytes words.now)) ≡ Some n → source.new ≡ source.old }
+    ensures to_the_end { result ≡ Status.Done → generated_by (options_of (map string_bytes words.now)) ≡ None
+        → IsTrue (S.ended source.new) }
 
     // No count of faults falls.
     ensures later_source { S.faults source.old ≤ S.faults source.new }
@@ -96,14 +99,20 @@ fn run<S: Source, K: Sink, G: Gate + Sync>(
     ensures read { result ≡ Status.ReadFault → Rose (S.faults source.old) (S.faults source.new) }
     ensures write { result ≡ Status.WriteFault → Rose (K.faults sink.old) (K.faults sink.new) }
     ensures untouched { result ≡ Status.BadWords → source.new ≡ source.old }
-    ensures to_the_end { result ≡ Status.Done → IsTrue (S.ended source.new) }
+    ensures generated { (n : ℕ) → generated_by (options_of (map string_bytes words.now)) ≡ Some n → source.new ≡ source.old }
+    ensures to_the_end { result ≡ Status.Done → generated_by (options_of (map string_bytes words.now)) ≡ None
+        → IsTrue (S.ended source.new) }
     ensures sure { S.cannot_fail source.old
         → S.cannot_fail source.new × (S.faults source.new ≡ S.faults source.old) × (result ≢ Status.ReadFault) }
     ensures later { S.faults source.old ≤ S.faults source.new }
 {
-    match Options::read(words) {
-        Some(options) => run_script(alloc, &options, source, sink, gate),
-        None => refuse(sink),
+    match Options::read(alloc, words) {
+        Ok(Some(options)) => match options.generate {
+            Some(number) => run_generated(alloc, &options, number, sink, gate),
+            None => run_script(alloc, &options, source, sink, gate),
+        },
+        Ok(None) => refuse(sink),
+        Err(_) => Status::NoMemory,
     }
 }
 
@@ -112,10 +121,7 @@ fn refuse<K: Sink>(sink: &mut K) -> Status
     ensures refused { Concludes (sink_at K.taken K.fits K.faults sink.old) (sink_at K.taken K.fits K.faults sink.new)
         usage_output result }
 {
-    match print_bytes(sink, USAGE.as_bytes()) {
-        Ok(()) => Status::BadWords,
-        Err(status) => status,
-    }
+    print_last(sink, usage().as_bytes(), Status::BadWords)
 }
 
 fn run_script<S: Source, K: Sink, G: Gate + Sync>(
@@ -125,7 +131,8 @@ fn run_script<S: Source, K: Sink, G: Gate + Sync>(
     sink: &mut K,
     gate: &G,
 ) -> Status
-    requires { IsWithin options.now }
+    requires bounds { HasBounds options.now }
+    requires read { options.now.generate ≡ None }
     ensures explained { (words : List (List ℕ)) → options_of words ≡ Some options.now
         → Explained words (S.left source.old) (S.left source.new)
         (sink_at K.taken K.fits K.faults sink.old) (sink_at K.taken K.fits K.faults sink.new) result }
@@ -169,7 +176,7 @@ fn turn<K: Sink, G: Gate + Sync>(
     sink: &mut K,
     gate: &G,
 ) -> Result<World, Status>
-    requires { IsWithin options.now }
+    requires { HasBounds options.now }
     ensures turns { Turns (sink_at K.taken K.fits K.faults sink.old) (sink_at K.taken K.fits K.faults sink.new)
         gathered.old gathered.new line.now.number (after_line options.now world line.now.bytes) result }
 {
@@ -215,47 +222,5 @@ fn stop<K: Sink>(alloc: Global, fault: LineFault, gathered: &mut Gathered, sink:
         // Nothing is gathered where the source was read.
         LineFault::ReadFault => Status::ReadFault,
         LineFault::NoMemory => gathered.give_up(sink),
-    }
-}
-
-// Makes the rounds at the end of the script, and prints the answer to each call.
-fn finish<K: Sink, G: Gate + Sync>(
-    alloc: Global,
-    options: &Options,
-    world: World,
-    gathered: &mut Gathered,
-    sink: &mut K,
-    gate: &G,
-) -> Status
-    requires { IsWithin options.now }
-    ensures finished { Concludes (sink_at K.taken K.fits K.faults sink.old) (sink_at K.taken K.fits K.faults sink.new)
-        (behind_gathered gathered.old (end_output options.now world)) result }
-{
-    match run_rounds_by(alloc, options, world, options.rounds, gate) {
-        Ok((world, _)) => print_answers(alloc, &world.parts().requests.items, gathered, sink),
-        Err(_) => gathered.give_up(sink),
-    }
-}
-
-fn print_answers<K: Sink>(
-    alloc: Global,
-    requests: &[Request],
-    gathered: &mut Gathered,
-    sink: &mut K,
-) -> Status
-    ensures finished { Concludes (sink_at K.taken K.fits K.faults sink.old) (sink_at K.taken K.fits K.faults sink.new)
-        (record { bytes = gathered.old ++ answers_from 0 requests.now; status = Status.Done }) result }
-{
-    for (number, request) in requests.iter().enumerate() {
-        let Ok(text) = answer_text(alloc, number, &request.answer) else {
-            return gathered.give_up(sink);
-        };
-        if let Err(status) = gathered.put(sink, &text.items) {
-            return status;
-        }
-    }
-    match gathered.flush(sink) {
-        Ok(()) => Status::Done,
-        Err(status) => status,
     }
 }

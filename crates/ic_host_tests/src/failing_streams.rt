@@ -85,7 +85,7 @@ const SCRIPT: [(&str, usize); 12] = [
     ("call 2vxsx-fae 2vxsx-fae last -\n", 1),
 ];
 
-// What each line prints, and at the end the answers.
+// What each line prints, and at the end the answers, the state and its root.
 const OUTPUT: &[u8] = b"\
     accepted 0\n\
     decoded 4449444c00017d2a\n\
@@ -97,16 +97,18 @@ const OUTPUT: &[u8] = b"\
     answer 0 rejected 3 \"no canister rwlgt-iiaaa-aaaaa-aaaaa-cai\"\n\
     answer 1 rejected 3 \"no canister 2vxsx-fae\"\n\
     answer 2 rejected 3 \"no canister 2vxsx-fae\"\n\
+    {\"burned\":\"0\",\"canisters\":[],\"created\":\"0\",\"held\":\"0\",\"messages\":0,\"time\":\"0\"}\n\
+    root 4245c290d05416093bf9c505a1846e532e266d1fce2b6c72cf957d1560fa8aa5\n\
 ";
 
 /// The numbers of a read and of a write that fail, how many bytes of the output were taken before,
 /// and the status. Before a read that fails the whole lines among 100 bytes a read were read. What the
-/// lines of a read print is sent before the next read, and the answers are sent together: a write for
-/// each 100 bytes.
+/// lines of a read print is sent before the next read, and what is printed at the end is sent together: a
+/// write for each 100 bytes.
 type Failing = (u64, u64, usize, Status);
 
 // There is no eighth read, and no write after the last text.
-static EACH: [Failing; 16] = [
+static EACH: [Failing; 17] = [
     (1, 0, 0, Status::ReadFault),
     (2, 0, 11, Status::ReadFault),
     (3, 0, 47, Status::ReadFault),
@@ -122,7 +124,8 @@ static EACH: [Failing; 16] = [
     (0, 6, 210, Status::WriteFault),
     (0, 7, 221, Status::WriteFault),
     (0, 8, 321, Status::WriteFault),
-    (8, 9, 371, Status::Done),
+    (0, 9, 421, Status::WriteFault),
+    (8, 10, 520, Status::Done),
 ];
 
 fn each() -> &'static [Failing] {
@@ -139,6 +142,7 @@ fn fails_so<R: Threads + Sync + AllocGlobal>(rt: &R, failing: &Failing) -> bool 
                 failing_reads: &[read],
                 failing_writes: &[write],
                 printed,
+                end: b"",
                 status,
                 ..nothing()
             };

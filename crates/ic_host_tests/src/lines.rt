@@ -4,7 +4,7 @@ use ic_script::{Ask, Command, LineError, parse_line};
 use std::alloc::Global;
 
 /// What a line is read as: nothing, a fault, a call or a query of `hello` at canister 0 by the
-/// anonymous principal with this argument, rounds, a time, or the bytes of types and of a message.
+/// anonymous principal with this argument, rounds, a time, the state, or the bytes of types and of a message.
 enum Reads {
     Nothing,
     Fault(LineError),
@@ -13,10 +13,11 @@ enum Reads {
     Run(u32),
     Drain,
     Time(u64),
+    State,
     Decode(&'static [u8], &'static [u8]),
 }
 
-static LINES: [(&[u8], Reads); 74] = [
+static LINES: [(&[u8], Reads); 76] = [
     (b"", Reads::Nothing),
     (b"#", Reads::Nothing),
     (b"# call", Reads::Nothing),
@@ -190,6 +191,8 @@ static LINES: [(&[u8], Reads); 74] = [
     (b"time 05", Reads::Fault(LineError::Number)),
     (b"time", Reads::Fault(LineError::Form)),
     (b"time 5 5", Reads::Fault(LineError::Form)),
+    (b"state", Reads::State),
+    (b"state -", Reads::Fault(LineError::Form)),
     (b"decode - -", Reads::Decode(b"", b"")),
     (b"decode 4449444C0000 -", Reads::Decode(b"DIDL\0\0", b"")),
     (b"decode 00fF 07", Reads::Decode(&[0x00, 0xFF], &[0x07])),
@@ -214,6 +217,7 @@ fn is_read_as(read: &Result<Command, LineError>, reads: &Reads) -> bool {
         (Reads::Query(arg), Ok(Command::Query(ask))) => is_ask(ask, arg),
         (Reads::Run(rounds), Ok(Command::Run(count))) => count == rounds,
         (Reads::Drain, Ok(Command::Drain)) => true,
+        (Reads::State, Ok(Command::State)) => true,
         (Reads::Time(time), Ok(Command::Time(nanoseconds))) => time == nanoseconds,
         (Reads::Decode(types, message), Ok(Command::Decode { expected, bytes })) => {
             expected.items.as_slice() == *types && bytes.items.as_slice() == *message

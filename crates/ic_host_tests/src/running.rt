@@ -19,6 +19,8 @@ pub struct Run<'a> {
     /// How many bytes the sink takes.
     pub room: usize,
     pub printed: &'a [u8],
+    /// What is printed behind it where the script's end is reached.
+    pub end: &'a [u8],
     pub status: Status,
     /// How many bytes the source has left, where that is looked at.
     pub left: Option<usize>,
@@ -33,6 +35,7 @@ pub const NOTHING: Run<'static> = Run {
     failing_writes: &[],
     room: 4000,
     printed: b"",
+    end: b"{\"burned\":\"0\",\"canisters\":[],\"created\":\"0\",\"held\":\"0\",\"messages\":0,\"time\":\"0\"}\nroot 1fb845fb329fa6b278fbd76576f003319bb503d04dedd611f37fd509233c28c1\n",
     status: Status::Done,
     left: None,
 };
@@ -105,6 +108,15 @@ fn left(source: &mut MemorySource) -> usize {
     count
 }
 
+// The roots of states were computed by the definitions with Python's hashlib.
+fn ends_so(taken: &[u8], run: &Run) -> bool {
+    match taken.strip_prefix(run.printed) {
+        Some(end) if run.status == Status::Done => end == run.end,
+        Some(end) => end.is_empty(),
+        None => false,
+    }
+}
+
 fn is_printed<R: Threads + Sync + AllocGlobal>(
     rt: &R,
     run: &Run,
@@ -115,7 +127,7 @@ fn is_printed<R: Threads + Sync + AllocGlobal>(
     match sink_of(rt.alloc(), run.room, piece, run.failing_writes) {
         Ok(mut sink) => {
             let status = replica(rt.alloc(), rt, words, source, &mut sink, &OpenGate);
-            status == run.status && sink.taken() == run.printed
+            status == run.status && ends_so(sink.taken(), run)
         }
         Err(_) => false,
     }

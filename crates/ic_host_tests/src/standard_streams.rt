@@ -99,7 +99,8 @@ fn run_flushed<R: Threads + Sync + AllocGlobal>(rt: &R, noted: &mut Vec<u8>) -> 
 fn is_flushed<R: Threads + Sync + AllocGlobal>(rt: &R) -> bool {
     let mut noted = Vec::new(rt.alloc());
     let status = run_flushed(rt, &mut noted);
-    let printed = b"accepted 0\n|answer 0 rejected 3 \"no canister aaaaa-aa\"\n|";
+    let printed =
+        b"accepted 0\n|answer 0 rejected 3 \"no canister aaaaa-aa\"\n{\"burned\":\"0\",\"canisters\":[],\"created\":\"0\",\"held\":\"0\",\"messages\":0,\"time\":\"0\"}\nroot 572c25a5241408957392168b30671bb36f9d3bb684a8b934c7b4986d0f1e7022\n|";
     status == Status::Done && noted.as_slice() == printed.as_slice()
 }
 

@@ -16,7 +16,7 @@ const BAD_PRINCIPAL: Status = Status::BadLine {
 
 const SIZES: [(usize, usize); 3] = [(1, 1), (7, 7), (65_536, 65_536)];
 
-static RUNS: [Run<'static>; 20] = [
+static RUNS: [Run<'static>; 22] = [
     Run {
         pieces: &SIZES,
         ..NOTHING
@@ -30,12 +30,14 @@ static RUNS: [Run<'static>; 20] = [
         script: &[("call 2vxsx-fae rwlgt-iiaaa-aaaaa-aaaaa-cai hello -\n", 1)],
         pieces: &SIZES,
         printed: b"accepted 0\nanswer 0 rejected 3 \"no canister rwlgt-iiaaa-aaaaa-aaaaa-cai\"\n",
+        end: b"{\"burned\":\"0\",\"canisters\":[],\"created\":\"0\",\"held\":\"0\",\"messages\":0,\"time\":\"0\"}\nroot 0b3eb7cac2b8e4ae477486592e16d09e03a9aee6db979d9fdfa6f9dc81d97846\n",
         ..NOTHING
     },
     Run {
         script: &[("call 2vxsx-fae aaaaa-aa hello -", 1)],
         pieces: &SIZES,
         printed: b"accepted 0\nanswer 0 rejected 3 \"no canister aaaaa-aa\"\n",
+        end: b"{\"burned\":\"0\",\"canisters\":[],\"created\":\"0\",\"held\":\"0\",\"messages\":0,\"time\":\"0\"}\nroot 572c25a5241408957392168b30671bb36f9d3bb684a8b934c7b4986d0f1e7022\n",
         ..NOTHING
     },
     Run {
@@ -45,13 +47,13 @@ static RUNS: [Run<'static>; 20] = [
         )],
         pieces: &SIZES,
         printed: b"accepted 0\naccepted 1\nanswer 0 rejected 3 \"no canister aaaaa-aa\"\nanswer 1 rejected 3 \"no canister 2vxsx-fae\"\n",
+        end: b"{\"burned\":\"0\",\"canisters\":[],\"created\":\"0\",\"held\":\"0\",\"messages\":0,\"time\":\"0\"}\nroot 312d3774097a5d4378a956864ec8a6bb6ea3f90d73ed7595fa35392e071f5fe7\n",
         ..NOTHING
     },
     Run {
         script: &[("state\n", 1)],
         pieces: &SIZES,
-        printed: b"line 1: Form\n",
-        status: BAD_FORM,
+        printed: b"{\"burned\":\"0\",\"canisters\":[],\"created\":\"0\",\"held\":\"0\",\"messages\":0,\"time\":\"0\"}\n",
         ..NOTHING
     },
     Run {
@@ -109,6 +111,7 @@ static RUNS: [Run<'static>; 20] = [
         )],
         pieces: &SIZES,
         printed: b"accepted 0\nran 1 left 0\nran 0 left 0\nanswer 0 rejected 3 \"no canister rwlgt-iiaaa-aaaaa-aaaaa-cai\"\n",
+        end: b"{\"burned\":\"0\",\"canisters\":[],\"created\":\"0\",\"held\":\"0\",\"messages\":0,\"time\":\"0\"}\nroot 0b3eb7cac2b8e4ae477486592e16d09e03a9aee6db979d9fdfa6f9dc81d97846\n",
         ..NOTHING
     },
     // A message goes in a round where no earlier one of its sender to its callee is left.
@@ -119,6 +122,7 @@ static RUNS: [Run<'static>; 20] = [
         ],
         pieces: &SIZES,
         printed: b"accepted 0\naccepted 1\nran 0 left 2\nran 1 left 0\nran 0 left 0\nanswer 0 rejected 3 \"no canister aaaaa-aa\"\nanswer 1 rejected 3 \"no canister aaaaa-aa\"\n",
+        end: b"{\"burned\":\"0\",\"canisters\":[],\"created\":\"0\",\"held\":\"0\",\"messages\":0,\"time\":\"0\"}\nroot a4576f2fcc56d128677e26e4a425fc6c06cdc9313c8eeb248908cf83dacf8a97\n",
         ..NOTHING
     },
     Run {
@@ -133,6 +137,7 @@ static RUNS: [Run<'static>; 20] = [
     Run {
         script: &[("time 5\n", 2)],
         pieces: &SIZES,
+        end: b"{\"burned\":\"0\",\"canisters\":[],\"created\":\"0\",\"held\":\"0\",\"messages\":0,\"time\":\"5\"}\nroot 541c4735392ebfb371c9d82e230e7ad2175623bf196eb4d2910d000b3e887d85\n",
         ..NOTHING
     },
     Run {
@@ -156,17 +161,34 @@ static RUNS: [Run<'static>; 20] = [
         ..NOTHING
     },
     Run {
+        words: &["replica", "--workers", "64", "--limit=1", "--rounds", "+1"],
+        script: &[("call 2vxsx-fae aaaaa-aa a -\n", 2)],
+        pieces: &SIZES,
+        printed: b"accepted 0\naccepted 1\nanswer 0 rejected 3 \"no canister aaaaa-aa\"\nanswer 1 rejected 3 \"no canister aaaaa-aa\"\n",
+        end: b"{\"burned\":\"0\",\"canisters\":[],\"created\":\"0\",\"held\":\"0\",\"messages\":0,\"time\":\"0\"}\nroot a4576f2fcc56d128677e26e4a425fc6c06cdc9313c8eeb248908cf83dacf8a97\n",
+        ..NOTHING
+    },
+    Run {
+        words: &["replica", "--workers", "0"],
+        script: &[("state\n", 1)],
+        pieces: &SIZES,
+        printed: b"usage: replica [--workers 1..64] [--limit N] [--rounds N] [--generate N] [--price N]\n",
+        status: Status::BadWords,
+        left: Some(6),
+        ..NOTHING
+    },
+    Run {
         words: &["replica", "x"],
         script: &[("state\n", 1)],
         pieces: &SIZES,
-        printed: b"usage: replica\n",
+        printed: b"usage: replica [--workers 1..64] [--limit N] [--rounds N] [--generate N] [--price N]\n",
         status: Status::BadWords,
         ..NOTHING
     },
     Run {
         words: &["replica", ""],
         pieces: &SIZES,
-        printed: b"usage: replica\n",
+        printed: b"usage: replica [--workers 1..64] [--limit N] [--rounds N] [--generate N] [--price N]\n",
         status: Status::BadWords,
         ..NOTHING
     },
@@ -214,6 +236,7 @@ static LONG: [Run<'static>; 8] = [
             ("\n", 1),
         ],
         printed: b"accepted 0\nanswer 0 rejected 3 \"no canister aaaaa-aa\"\n",
+        end: b"{\"burned\":\"0\",\"canisters\":[],\"created\":\"0\",\"held\":\"0\",\"messages\":0,\"time\":\"0\"}\nroot 25afa7fad4d3e5799f7ee25cd1f8728f5b0a2b46c6061bfbd27a87df9aabdde1\n",
         ..NOTHING
     },
     Run {

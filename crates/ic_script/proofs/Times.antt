@@ -5,9 +5,9 @@ use Rattle.std.specs.Str.Parse.{digits_value}
 use Rattle.std.proofs.lemmas.Bool.{and_parts, leb-true, cases_Bool}
 use Rattle.ic_script.specs.Line.{command_of, says_nothing}
 use Rattle.ic_script.specs.Words.{words_of, is_well_formed, is_numeral}
-use Rattle.ic_script.specs.Command.{◌>>=◌, ask_of, number_word, run_command, drain_command, time_command, typed_bytes, command_of_words}
+use Rattle.ic_script.specs.Command.{◌>>=◌, ask_of, number_word, run_command, alone, time_command, typed_bytes, command_of_words}
 use Rattle.ic_script.specs.declared.command.Command.{Command}
-use Rattle.ic_script.specs.declared.command.Command.TheVariants.{Nothing, Call, Query, Run, Drain, Time, Decode, Show, Encode}
+use Rattle.ic_script.specs.declared.command.Command.TheVariants.{Nothing, Call, Query, Run, Drain, Time, State, Decode, Show, Encode}
 use Rattle.ic_script.specs.declared.line_cause.LineCause.{LineCause}
 use Rattle.ic_script.specs.declared.line_cause.LineCause.TheVariants.{Form, Number}
 
@@ -19,6 +19,7 @@ IsTimely (Query ask) = Unit {0}
 IsTimely (Run count) = Unit {0}
 IsTimely Drain = Unit {0}
 IsTimely (Time time) = time ≤ 9223372036854775807
+IsTimely State = Unit {0}
 IsTimely (Decode expected bytes) = Unit {0}
 IsTimely (Show expected bytes) = Unit {0}
 IsTimely (Encode expected text) = Unit {0}
@@ -61,10 +62,10 @@ of_run [] = tt
 of_run (count ∷ []) = of_number (number_word 1000000 count) Run (λ n e. tt)
 of_run (count ∷ other ∷ words) = tt
 
-of_drain : (words : List (List ℕ)) → GivesTimely (drain_command words)
+of_alone : (command : Command) (words : List (List ℕ)) → IsTimely command → GivesTimely (alone command words)
 unfolding GivesTimely
-of_drain [] = tt
-of_drain (word ∷ words) = tt
+of_alone command [] h = h
+of_alone command (word ∷ words) h = tt
 
 of_time : (words : List (List ℕ)) → GivesTimely (time_command words)
 unfolding time_command GivesTimely
@@ -79,11 +80,12 @@ of_words (verb ∷ words) =
     either _ _ _ (of_made (ask_of words) Call (λ a. tt))
     (either _ _ _ (of_made (ask_of words) Query (λ a. tt))
     (either _ _ _ (of_run words)
-    (either _ _ _ (of_drain words)
+    (either _ _ _ (of_alone Drain words tt)
     (either _ _ _ (of_time words)
+    (either _ _ _ (of_alone State words tt)
     (either _ _ _ (of_made (typed_bytes words) (λ x. Decode x.0 x.1) (λ x. tt))
     (either _ _ _ (of_made (typed_bytes words) (λ x. Show x.0 x.1) (λ x. tt))
-    (either _ _ _ (of_made (typed_bytes words) (λ x. Encode x.0 x.1) (λ x. tt)) (refuses Form))))))))
+    (either _ _ _ (of_made (typed_bytes words) (λ x. Encode x.0 x.1) (λ x. tt)) (refuses Form)))))))))
 
 nothing : GivesTimely (Ok Nothing)
 unfolding GivesTimely

@@ -6,7 +6,7 @@ use Rattle.ic_principal.specs.Text.{principal_of}
 use Rattle.hex.specs.Hex.{decode_of}
 use Rattle.ic_script.specs.declared.command.Ask.{Ask}
 use Rattle.ic_script.specs.declared.command.Command.{Command}
-use Rattle.ic_script.specs.declared.command.Command.TheVariants.{Call, Query, Run, Drain, Time, Decode, Show, Encode}
+use Rattle.ic_script.specs.declared.command.Command.TheVariants.{Call, Query, Run, Drain, Time, State, Decode, Show, Encode}
 use Rattle.ic_script.specs.declared.line_cause.LineCause.{LineCause}
 use Rattle.ic_script.specs.declared.line_cause.LineCause.TheVariants.{Form, Principal, Hex, Number, Size}
 use Rattle.ic_script.specs.Words.{is_numeral}
@@ -54,9 +54,10 @@ unfoldable pub run_command : List (List ℕ) → Result Command LineCause
 run_command (count ∷ []) = number_word 1000000 count >>= λ n. Ok (Run n)
 run_command _ = Err Form
 
-abbrev pub drain_command : List (List ℕ) → Result Command LineCause
-drain_command [] = Ok Drain
-drain_command (word ∷ words) = Err Form
+-- a command without further words
+abbrev pub alone : Command → List (List ℕ) → Result Command LineCause
+alone command [] = Ok command
+alone command (word ∷ words) = Err Form
 
 -- the time
 unfoldable pub time_command : List (List ℕ) → Result Command LineCause
@@ -70,8 +71,9 @@ command_of_words (verb ∷ words) =
     if bytes_eq verb (codes "call") then (ask_of words >>= λ ask. Ok (Call ask))
     else if bytes_eq verb (codes "query") then (ask_of words >>= λ ask. Ok (Query ask))
     else if bytes_eq verb (codes "run") then run_command words
-    else if bytes_eq verb (codes "drain") then drain_command words
+    else if bytes_eq verb (codes "drain") then alone Drain words
     else if bytes_eq verb (codes "time") then time_command words
+    else if bytes_eq verb (codes "state") then alone State words
     else if bytes_eq verb (codes "decode") then (typed_bytes words >>= λ x. Ok (Decode x.0 x.1))
     else if bytes_eq verb (codes "show") then (typed_bytes words >>= λ x. Ok (Show x.0 x.1))
     else if bytes_eq verb (codes "encode") then (typed_bytes words >>= λ x. Ok (Encode x.0 x.1))

@@ -1,4 +1,5 @@
 pub mod Words
+pub mod HexWord
 pub mod Command
 pub mod Line
 pub mod CauseText

@@ -29,6 +29,8 @@ pub enum Command {
     Drain,
     /// The time from here on, in nanoseconds since 1970-01-01, at most 9,223,372,036,854,775,807.
     Time(u64),
+    /// The line that shows the state.
+    State,
     /// A Candid message that is read at once, and what is to be the header of its expected types.
     /// Neither is looked at yet.
     Decode { expected: Bytes, bytes: Bytes },

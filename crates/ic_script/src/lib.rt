@@ -14,3 +14,4 @@ mod words;
 pub use command::{Ask, Command};
 pub use line_cause::{LineCause, LineError};
 pub use parse::parse_line;
+pub use words::hex_word;

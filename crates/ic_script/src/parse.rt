@@ -1,7 +1,7 @@
 ghost use Rattle.std.specs.Prelude.{◌≡◌, ◌≢◌, ◌≤◌, ◌<◌, ◌^◌, ℕ, Ok, Err, option_copied};
 ghost use Rattle.ic_script.specs.Line.{Agrees, command_of, says_nothing};
 ghost use Rattle.ic_script.specs.Words.{words_left};
-ghost use Rattle.ic_script.specs.Command.{ask_of, run_command, drain_command, time_command, typed_bytes, principal_word, bytes_word, number_word};
+ghost use Rattle.ic_script.specs.Command.{ask_of, run_command, alone, time_command, typed_bytes, principal_word, bytes_word, number_word};
 
 use crate::command::{Ask, Command};
 use crate::line_cause::LineError;
@@ -36,8 +36,9 @@ pub fn parse_line(alloc: Global, bytes: &[u8]) -> Result<Command, LineError>
         "call" => Ok(Command::Call(parse_ask(alloc, operands)?)),
         "query" => Ok(Command::Query(parse_ask(alloc, operands)?)),
         "run" => parse_run(operands),
-        "drain" => parse_drain(operands),
+        "drain" => parse_alone(operands, Command::Drain),
         "time" => parse_time(operands),
+        "state" => parse_alone(operands, Command::State),
         "decode" => {
             let (expected, bytes) = parse_typed(alloc, operands)?;
             Ok(Command::Decode { expected, bytes })
@@ -100,12 +101,12 @@ fn parse_run(operands: Option<&str>) -> Result<Command, LineError>
     Ok(Command::Run(number(count, MOST_ROUNDS)? as u32))
 }
 
-/// No further word.
-fn parse_drain(operands: Option<&str>) -> Result<Command, LineError>
-    ensures { Agrees result (drain_command (words_left (option_copied operands.entry))) }
+/// A command without further words.
+fn parse_alone(operands: Option<&str>, command: Command) -> Result<Command, LineError>
+    ensures { Agrees result (alone command (words_left (option_copied operands.entry))) }
 {
     match operands {
-        None => Ok(Command::Drain),
+        None => Ok(command),
         Some(_) => Err(LineError::Form),
     }
 }

@@ -1,7 +1,11 @@
-ghost use Rattle.std.specs.Prelude.{◌≡◌, ◌≢◌, false, [], ◌∷◌, length, map, IfSome, IfNone, IsTrue, option_copied};
+ghost use Rattle.std.specs.Prelude.{◌≡◌, ◌≢◌, false, [], ◌∷◌, length, map, IfOk, IfSome, IfNone, IsTrue, option_copied, string_bytes};
 ghost use Rattle.std.specs.List.{list_all, slice_split};
 ghost use Rattle.std.specs.Char.{is_ascii_digit};
+ghost use Rattle.ic_script.specs.HexWord.{hex_word};
 ghost use Rattle.ic_script.specs.Words.{words_of, is_well_formed, is_printable, is_word, is_numeral, has_leading_zero, words_left};
+
+use ic_base::NoMemory;
+use std::alloc::Global;
 
 /// The line as text, where it is well formed.
 #[tactic(auto, unfolding(crate::specs::Words::is_well_formed), using(crate::proofs::Text::not_text))]
@@ -103,5 +107,15 @@ pub fn two_words(text: Option<&str>) -> Option<(&str, &str)>
     match rest {
         None => Some((first, second)),
         Some(_) => None,
+    }
+}
+
+/// The word that spells bytes.
+pub fn hex_word(alloc: Global, bytes: &[u8]) -> Result<String, NoMemory>
+    ensures { IfOk result (λ word. string_bytes word ≡ hex_word bytes.now) }
+{
+    match bytes {
+        [] => String::from_str(alloc, "-"),
+        [_, ..] => hex::encode(alloc, bytes),
     }
 }

@@ -1,5 +1,6 @@
 use Rattle.std.proofs.Common.{map, string_bytes}
-use Rattle.ic_host.specs.Options.{options_of, default_options}
+use Rattle.ic_host.specs.Options.{default_options}
+use Rattle.ic_options.specs.Options.{options_of}
 use Rattle.std.specs.Prelude.{unwrap_or}
 use Rattle.ic_host.proofs.Keeps.{rules_keep}
 use Rattle.ic_host.proofs.Traces.{trace_is_run}

@@ -1,7 +1,17 @@
-use Rattle.std.proofs.Common.{sym}
-use Rattle.ic_host.proofs.Exits.{explain-refused}
+use Rattle.std.proofs.Common.{map, string_bytes, sym}
+use Rattle.ic_host.specs.Sending.{sink_at}
+use Rattle.ic_host.proofs.Exits.{explain-at_once, explain-generated, explain-refused}
 use Rattle.ic_host.proofs.top.run.Goals as goal
 
-pub returns-in-None-clause-explained : goal.returns-in-None-clause-explained
-returns-in-None-clause-explained g c =
-    explain-refused _ (g.S.Source.left c.args.source.now) _ _ c.refuse.result (sym c.in-None.ensures.value) c.refuse.ensures.refused
+pub returns-in-Some-clause-explained : goal.returns-in-Some-clause-explained
+returns-in-Some-clause-explained g c =
+    explain-generated _ c.in-Ok-Some.options (rw c.in-Ok-Some.field-0-is at (sym c.in-Ok-Some.ensures.value)) c.in-Some.number (rw c.in-Ok-Some.field-0-is at c.in-Some.is)
+    (g.S.Source.left c.args.source.now) (sink_at g.K.Sink.taken g.K.Sink.fits g.K.Sink.faults c.args.sink.now) (sink_at g.K.Sink.taken g.K.Sink.fits g.K.Sink.faults c.run_generated.new.sink)
+    c.run_generated.result (rw c.in-Ok-Some.field-0-is at c.run_generated.ensures)
+
+pub returns-in-Ok-None-clause-explained : goal.returns-in-Ok-None-clause-explained
+returns-in-Ok-None-clause-explained g c =
+    explain-refused _ (g.S.Source.left c.args.source.now) _ _ c.refuse.result (rw c.in-Ok-None.field-0-is at (sym c.in-Ok-None.ensures.value)) c.refuse.ensures.refused
+
+pub returns-in-Err-clause-explained : goal.returns-in-Err-clause-explained
+returns-in-Err-clause-explained g c = explain-at_once _ _ _

@@ -6,3 +6,6 @@ returns-in-run-clause-time c = time_of_line c.args.bytes.now
 
 pub returns-in-time-clause-time : goal.returns-in-time-clause-time
 returns-in-time-clause-time c = time_of_line c.args.bytes.now
+
+pub returns-in-state-clause-time : goal.returns-in-state-clause-time
+returns-in-state-clause-time c = time_of_line c.args.bytes.now

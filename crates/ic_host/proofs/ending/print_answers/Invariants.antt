@@ -1,6 +1,6 @@
 use Rattle.ic_host.specs.Sending.{sink_at}
 use Rattle.ic_host.proofs.Printed.{Printed}
-use Rattle.ic_host.proofs.top.print_answers.Given as goal
+use Rattle.ic_host.proofs.ending.print_answers.Given as goal
 
 abbrev pub invariant-loop-number : goal.invariant-loop-number
 invariant-loop-number g l =
