@@ -1,7 +1,7 @@
 use crate::running::{Run, is_run, nothing};
 
-// Lines that read messages, and what each prints.
-static READ: [(&str, &[u8]); 41] = [
+// Lines that read messages and texts of values, and what each prints.
+static READ: [(&str, &[u8]); 64] = [
     // nat
     (
         "decode 4449444c00017d 4449444c00017d2a",
@@ -174,6 +174,81 @@ static READ: [(&str, &[u8]); 41] = [
         "decode 4449444c016c01007d0100 4449444c016c02007d01710100070268",
         b"refused BadValue\n",
     ),
+    // values shown
+    (
+        "show 4449444c00027d71 4449444c00027d712a026869",
+        b"shown (42, \"hi\")\n",
+    ),
+    ("show 4449444c0000 4449444c0000", b"shown ()\n"),
+    ("show 4449444c00017c 4449444c00017c7f", b"shown (-1)\n"),
+    (
+        "show 4449444c016d7b0100 4449444c016d7b0100020061",
+        b"shown (blob \"\\00\\61\")\n",
+    ),
+    (
+        "show 4449444c016d7d0100 4449444c016d7d010000",
+        b"shown (vec {})\n",
+    ),
+    (
+        "show 4449444c016d7d0100 4449444c016d7d0100020102",
+        b"shown (vec { 1; 2 })\n",
+    ),
+    (
+        "show 4449444c016c02007d01710100 4449444c016c02007d0171010007026869",
+        b"shown (record { 0 = 7; 1 = \"hi\" })\n",
+    ),
+    (
+        "show 4449444c016b02007f017d0100 4449444c016b02007f017d01000105",
+        b"shown (variant { 1 = 5 })\n",
+    ),
+    (
+        "show 4449444c016e7d0100 4449444c016e7d01000105",
+        b"shown (opt 5)\n",
+    ),
+    (
+        "show 4449444c000168 4449444c0001680100",
+        b"shown (principal \"aaaaa-aa\")\n",
+    ),
+    // a text with a quote, a backslash, a line feed, DEL and é
+    (
+        "show 4449444c000171 4449444c00017106225c0a7fc3a9",
+        b"shown (\"\\\"\\\\\\0a\\7f\xc3\xa9\")\n",
+    ),
+    // messages that are not read
+    (
+        "show 4449444c000171 4449444c00017d2a",
+        b"refused NotSubtype 0\n",
+    ),
+    ("show 4449444c000172 4449444c0000", b"bad expected\n"),
+    // values said by a text
+    (
+        "encode 4449444c00017d 28343229",
+        b"encoded 4449444c00017d2a\n",
+    ),
+    (
+        "encode 4449444c00027d71 283432203a206e61742c20226869222c29",
+        b"encoded 4449444c00027d712a026869\n",
+    ),
+    (
+        "encode 4449444c016c01dbb7017d0100 287265636f7264207b206964203d20315f303030207d29",
+        b"encoded 4449444c016c01dbb7017d0100e807\n",
+    ),
+    (
+        "encode 4449444c016d7b0100 28626c6f6220225c3030612229",
+        b"encoded 4449444c016d7b0100020061\n",
+    ),
+    (
+        "encode 4449444c016e7d0100 286f7074202835203a206e61742929",
+        b"encoded 4449444c016e7d01000105\n",
+    ),
+    (
+        "encode 4449444c016b02007f017d0100 2876617269616e74207b2031203d2035207d29",
+        b"encoded 4449444c016b02007f017d01000105\n",
+    ),
+    ("encode 4449444c00017b 2832353629", b"refused NotText\n"),
+    ("encode 4449444c00017d 282d3129", b"refused NotText\n"),
+    ("encode 4449444c00017d -", b"refused NotText\n"),
+    ("encode 4449444c000172 28343229", b"bad expected\n"),
 ];
 
 fn readings() -> &'static [(&'static str, &'static [u8])] {

@@ -15,9 +15,11 @@ enum Reads {
     Time(u64),
     State,
     Decode(&'static [u8], &'static [u8]),
+    Show(&'static [u8], &'static [u8]),
+    Encode(&'static [u8], &'static [u8]),
 }
 
-static LINES: [(&[u8], Reads); 76] = [
+static LINES: [(&[u8], Reads); 80] = [
     (b"", Reads::Nothing),
     (b"#", Reads::Nothing),
     (b"# call", Reads::Nothing),
@@ -196,6 +198,10 @@ static LINES: [(&[u8], Reads); 76] = [
     (b"decode - -", Reads::Decode(b"", b"")),
     (b"decode 4449444C0000 -", Reads::Decode(b"DIDL\0\0", b"")),
     (b"decode 00fF 07", Reads::Decode(&[0x00, 0xFF], &[0x07])),
+    (b"show 00fF 07", Reads::Show(&[0x00, 0xFF], &[0x07])),
+    (b"show 00fF", Reads::Fault(LineError::Form)),
+    (b"encode 00fF 07", Reads::Encode(&[0x00, 0xFF], &[0x07])),
+    (b"encode 00fF 0", Reads::Fault(LineError::Hex)),
 ];
 
 fn lines() -> &'static [(&'static [u8], Reads)] {
@@ -221,6 +227,12 @@ fn is_read_as(read: &Result<Command, LineError>, reads: &Reads) -> bool {
         (Reads::Time(time), Ok(Command::Time(nanoseconds))) => time == nanoseconds,
         (Reads::Decode(types, message), Ok(Command::Decode { expected, bytes })) => {
             expected.items.as_slice() == *types && bytes.items.as_slice() == *message
+        }
+        (Reads::Show(types, message), Ok(Command::Show { expected, bytes })) => {
+            expected.items.as_slice() == *types && bytes.items.as_slice() == *message
+        }
+        (Reads::Encode(types, said), Ok(Command::Encode { expected, text })) => {
+            expected.items.as_slice() == *types && text.items.as_slice() == *said
         }
         _ => false,
     }
