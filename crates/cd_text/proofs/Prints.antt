@@ -1,11 +1,10 @@
 -- Tokens one after the other as they are printed.
-use Rattle.std.proofs.Common.{◌≡◌, ℕ, ◌<◌, Bool, true, false, List, [], ◌∷◌, ◌++◌, codes, refl, sym, ap, subst, ◌∙◌, append_assoc, inl, inr, arith}
-use Rattle.std.specs.Prelude.{◌&&◌, ◌||◌, nat_lt}
-use Rattle.std.specs.List.{flat_map, list_all}
+use Rattle.std.proofs.Common.{◌≡◌, ℕ, ◌<◌, true, false, List, [], ◌∷◌, ◌++◌, codes, refl, sym, ap, subst, ◌∙◌, append_assoc, inl, inr, arith}
+use Rattle.std.specs.List.{list_all}
 use Rattle.std.specs.Str.{IsUtf8}
 use Rattle.std.proofs.lemmas.List.{append-nil}
 use Rattle.std.proofs.lemmas.Str.{IsUtf8-append, IsUtf8-nil, IsUtf8-from_ascii}
-use Rattle.cd_tokens.specs.Bytes.{is_mark, is_sign, is_word_byte, goes_on}
+use Rattle.cd_tokens.specs.Bytes.{is_mark, is_word_byte, goes_on}
 use Rattle.cd_tokens.specs.Gap.{IsGap, blank}
 use Rattle.cd_tokens.specs.Lexed.{IsTokens}
 use Rattle.cd_tokens.specs.Token.{Token, run, quoted, mark, begins_run, is_run, is_closed}

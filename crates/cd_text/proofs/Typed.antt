@@ -1,16 +1,16 @@
 -- What a text says has the expected types.
 use Rattle.std.proofs.Common.{◌≡◌, ℕ, zero, suc, ◌+◌, ◌*◌, ◌≤◌, ◌<◌, ◌^◌, Bool, true, false, List, [], ◌∷◌, ◌++◌, length, map, Option, Some, None, refl, sym, ap, subst, ◌∙◌, inl, inr, arith}
-use Rattle.std.specs.Prelude.{ℤ, pos, negsuc, ◌==◌, ◌&&◌, nat_lt, nat_le, codes, if◌then◌else◌, slice_get, FitsSigned, IsTrue, Result, Ok, Err, IfOk}
+use Rattle.std.specs.Prelude.{ℤ, pos, negsuc, ◌==◌, codes, if◌then◌else◌, slice_get, FitsSigned, IsTrue, Result, Ok, Err, IfOk}
 use Rattle.std.specs.Int.Digits.{number_from_digits}
 use Rattle.std.specs.Int.Signed.{mag}
 use mir.Val.{bits}
-use Rattle.std.specs.Int.{Width, w8, w16, w32, w64, w128, byte_len, to_le_bytes, cast_signed, cast_unsigned}
+use Rattle.std.specs.Int.{Width, w8, w16, w32, w64, w128, byte_len, to_le_bytes, cast_unsigned}
 use Rattle.std.specs.List.{AllByRecursion}
 use Rattle.std.specs.Str.{is_utf8}
 use Rattle.std.specs.Option.{option_or}
 use Rattle.std.proofs.lemmas.Bool.{eqb-true, ltb-true}
 use Rattle.std.proofs.lemmas.Str.{is_utf8-from_IsUtf8}
-use Rattle.std.proofs.lemmas.Int.{ints, to_z-of_z}
+use Rattle.std.proofs.lemmas.Int.{to_z-of_z}
 use Rattle.std.proofs.lemmas.List.{length-append}
 use Rattle.std.proofs.lemmas.Str.{length-encode, len_utf8_bounds}
 use Rattle.ic_base.specs.Reader.{◌>>=◌}
@@ -18,7 +18,6 @@ use Rattle.ic_base.proofs.Steps.{bind_some, some_is}
 use Rattle.ic_leb.specs.declared.width.Width.TheVariants.{Candid}
 use Rattle.ic_leb.specs.Spelling.{unsigned_spelling, signed_spelling}
 use Rattle.ic_leb.proofs.Shortest.{unsigned_spelled, signed_spelled}
-use Rattle.ic_principal.specs.Text.{principal_of}
 use Rattle.ic_principal.proofs.PrincipalLaws.{principal_of-tells}
 use Rattle.cd_types.specs.declared.primitive.Primitive.{Primitive}
 use Rattle.cd_types.specs.declared.primitive.Primitive.TheVariants as primitives
@@ -26,26 +25,26 @@ use Rattle.cd_types.specs.declared.entry.TyRef.{TyRef}
 use Rattle.cd_types.specs.declared.entry.TyRef.TheVariants.{Prim, Index}
 use Rattle.cd_types.specs.declared.entry.Entry.{Entry}
 use Rattle.cd_types.specs.declared.entry.Entry.TheVariants.{Opt, Seq, Rec, Var, Func, Service}
-use Rattle.cd_types.specs.IsOrdered.{is_ordered, ids_rise_from}
+use Rattle.cd_types.specs.IsOrdered.{is_ordered}
 use Rattle.cd_types.specs.IsTable.{is_table}
 use Rattle.cd_types.proofs.EntryLemmas.{entry_ordered, few_ids}
 use Rattle.cd_types.specs.Shape.{Shape, primitive, compound, dangling, entry_shape, shape}
-use Rattle.cd_codec.specs.Content.{Content, Plain, plain, null, bool, nat, int, nat8, nat16, nat32, nat64, int8, int16, int32, int64, text, reserved, func, service, principal, blob, none, some, list, record_of, variant, contents_of, parts_of, count_of}
-use Rattle.cd_codec.specs.AreValues.{WireEach, HasTypes}
-use Rattle.cd_codec.specs.Basic.{SpellsNatural, SpellsInteger, SpellsCounted, SpellsText, SpellsPrincipal}
+use Rattle.cd_codec.specs.Content.{Content, Plain, none, contents_of, parts_of, count_of}
+use Rattle.cd_codec.specs.AreValues.{HasTypes}
+use Rattle.cd_codec.specs.Basic.{SpellsInteger, SpellsCounted, SpellsText, SpellsPrincipal}
 use Rattle.cd_codec.specs.Missing.{missing}
 use Rattle.cd_codec.specs.Plain.{HasShape, SpellsPlain, bool_byte}
-use Rattle.cd_codec.specs.Wire.{is_nat8, Wire, WireAll, WireParts}
+use Rattle.cd_codec.specs.Wire.{Wire, WireAll, WireParts}
 use Rattle.cd_tokens.specs.Token.{Token, run, quoted, mark, arrow, IsToken}
 use Rattle.cd_tokens.specs.Label.{IsNameOf}
 use Rattle.cd_tokens.specs.Lexed.{IsTokens}
-use Rattle.cd_tokens.specs.Unescaped.{Part, byte, letter, pair, scalar, SayParts, SaysPart, AreHex, Unescaped}
+use Rattle.cd_tokens.specs.Unescaped.{Part, byte, letter, pair, scalar, SayParts, SaysPart, Unescaped}
 use Rattle.cd_tokens.proofs.Firsts.{some_byte}
 use Rattle.cd_tokens.proofs.Labels.{name_utf8}
-use Rattle.cd_text.specs.Said.{Saying, Annotated, bare, annotated, InParentheses, SaysParts, InBraces, no_place, SaysByte, SaysBlob, type_of, SaysField, labelled, unlabelled, value_of, are_distinct, left_out, filled, SaysRecord, place_of, SaysCase, valued, alone, SaysVariant, SaysShape, Says}
+use Rattle.cd_text.specs.Said.{Saying, Annotated, bare, annotated, SaysParts, InBraces, no_place, SaysByte, SaysBlob, type_of, SaysField, labelled, unlabelled, value_of, left_out, filled, place_of, SaysCase, valued, alone, SaysShape, Says}
 use Rattle.cd_tokens.specs.ReadNumeral.{is_between}
 use Rattle.cd_text.specs.Words.{name_of}
-use Rattle.cd_text.specs.SaysPlain.{SaysPlain, SaysPrincipal, SaysFunc, IsPrincipalText}
+use Rattle.cd_text.specs.SaysPlain.{SaysPlain, IsPrincipalText}
 use Rattle.cd_text.specs.Whole.{SaysArgument, Said}
 use Rattle.cd_text.proofs.Values.{are_fields, fields_distinct}
 

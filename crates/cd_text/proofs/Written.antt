@@ -1,45 +1,40 @@
 -- What is printed of values says them.
-use Rattle.std.proofs.Common.{◌≡◌, ℕ, zero, suc, ◌+◌, ◌≤◌, ◌<◌, ◌^◌, Bool, true, false, List, [], ◌∷◌, ◌++◌, length, map, Option, Some, None, codes, refl, sym, ap, subst, ◌∙◌, append_assoc, inl, inr, arith}
-use Rattle.std.specs.Prelude.{ℤ, pos, negsuc, ◌==◌, ◌&&◌, not, nat_lt, nat_le, max, slice_get, FitsSigned, IsTrue}
+use Rattle.std.proofs.Common.{◌≡◌, ℕ, zero, suc, ◌+◌, ◌≤◌, ◌<◌, ◌^◌, Bool, true, false, List, [], ◌∷◌, ◌++◌, length, map, Some, codes, refl, sym, ap, subst, ◌∙◌, append_assoc, inl, inr, arith}
+use Rattle.std.specs.Prelude.{ℤ, pos, negsuc, ◌==◌, ◌&&◌, nat_lt, nat_le, slice_get, FitsSigned, IsTrue}
 use Rattle.std.specs.Fmt.{decimal, signed_decimal}
 use mir.Val.{bits}
 use mir.ValLaws.{to_z-Fits}
-use Rattle.std.specs.Int.{Width, w8, w16, w32, w64, w128, byte_len, cast_signed}
+use Rattle.std.specs.Int.{Width, w8, w16, w32, w64, cast_signed}
 use Rattle.std.specs.Int.Signed.{mag}
-use Rattle.std.specs.List.{AllByRecursion, All, flat_map, list_all}
-use Rattle.std.specs.Str.{is_utf8, IsUtf8, IsAscii}
-use Rattle.std.proofs.lemmas.Bool.{eqb-true, ltb-true, lt-ltb, leb-true}
+use Rattle.std.specs.List.{AllByRecursion, flat_map}
+use Rattle.std.specs.Str.{is_utf8}
+use Rattle.std.proofs.lemmas.Bool.{ltb-true, lt-ltb, leb-true}
 use Rattle.std.proofs.lemmas.List.{append-nil}
-use Rattle.std.proofs.lemmas.Str.{IsUtf8-append, IsUtf8-nil, IsUtf8-from_ascii, is_utf8-from_IsUtf8}
-use Rattle.ic_base.specs.Reader.{◌>>=◌}
+use Rattle.std.proofs.lemmas.Str.{is_utf8-from_IsUtf8}
 use Rattle.ic_base.proofs.Steps.{some_is}
 use Rattle.ic_principal.specs.IsPrincipal.{IsPrincipal}
-use Rattle.ic_principal.specs.Text.{text_of as principal_text, principal_of}
+use Rattle.ic_principal.specs.Text.{text_of as principal_text}
 use Rattle.ic_principal.proofs.PrincipalLaws.{principal_of-text}
-use Rattle.cd_types.specs.declared.primitive.Primitive.{Primitive}
 use Rattle.cd_types.specs.declared.primitive.Primitive.TheVariants as primitives
 use Rattle.cd_types.specs.declared.entry.TyRef.{TyRef}
 use Rattle.cd_types.specs.declared.entry.Entry.{Entry}
-use Rattle.cd_types.specs.declared.entry.Entry.TheVariants.{Opt, Seq, Rec, Var, Func, Service}
+use Rattle.cd_types.specs.declared.entry.Entry.TheVariants.{Opt, Seq, Rec, Var}
 use Rattle.cd_types.specs.IsOrdered.{ids_rise_from}
 use Rattle.cd_types.specs.IsTable.{is_table}
 use Rattle.cd_types.specs.Shape.{Shape, primitive, compound, shape}
-use Rattle.cd_codec.specs.Content.{Content, Plain, plain, null, bool, nat, int, nat8, nat16, nat32, nat64, int8, int16, int32, int64, text, reserved, func, service, principal, blob, none, some, list, record_of, variant, Contents, no_content, content, contents_of, Parts, no_part, part, parts_of}
+use Rattle.cd_codec.specs.Content.{Content, Plain, plain, null, bool, nat, int, nat8, nat16, nat32, nat64, int8, int16, int32, int64, text, reserved, func, service, principal, blob, none, some, list, record_of, variant, Contents, no_content, content, contents_of, Parts, no_part, part}
 use Rattle.cd_codec.specs.AreValues.{WireEach, HasTypes}
 use Rattle.cd_codec.specs.Measure.{nesting, nesting_all, nesting_parts, nesting_each, number_each}
 use Rattle.cd_codec.specs.Plain.{HasShape, SpellsPlain}
-use Rattle.cd_codec.specs.Wire.{is_nat8, Wire, WireAll, WireParts}
+use Rattle.cd_codec.specs.Wire.{Wire, WireAll, WireParts}
 use Rattle.cd_codec.proofs.ValueAgain.{items_in, contents_in, parts_in, parts_made}
-use Rattle.cd_tokens.specs.Bytes.{goes_on}
-use Rattle.cd_tokens.specs.Label.{IsTextOf}
 use Rattle.cd_tokens.specs.Lexed.{IsTokens}
-use Rattle.cd_tokens.specs.Numeral.{IsNatural, IsInteger}
 use Rattle.cd_tokens.specs.ReadNumeral.{is_between}
 use Rattle.cd_tokens.specs.Token.{Token, run, quoted, mark, is_run}
 use Rattle.cd_text.specs.HoldsBytes.{HoldsBytes, HoldsBytesAll, HoldsBytesParts, NamesPrincipal}
 use Rattle.cd_text.specs.Printed.{hex_escape, escape, joined, braced, labelled as labelled_text, plain_text, value_text, item_texts, field_texts, argument_texts, printed}
-use Rattle.cd_text.specs.Said.{Saying, Annotated, bare, SaysParts, InBraces, no_place, SaysBlob, type_of, SaysField, labelled, value_of, is_absent, are_distinct, left_out, filled, SaysRecord, place_of, valued, SaysVariant, SaysShape, Says}
-use Rattle.cd_text.specs.SaysPlain.{SaysNatural, SaysInteger, SaysPlain, SaysPrincipal, SaysFunc, IsPrincipalText}
+use Rattle.cd_text.specs.Said.{Annotated, bare, SaysParts, no_place, type_of, SaysField, labelled, value_of, is_absent, are_distinct, filled, place_of, valued, SaysShape, Says}
+use Rattle.cd_text.specs.SaysPlain.{SaysNatural, SaysInteger, SaysPrincipal, SaysFunc, IsPrincipalText}
 use Rattle.cd_text.specs.Types.{inner_of, item_of, fields_of, field_at, type_at}
 use Rattle.cd_text.specs.Whole.{SaysArgument, Said}
 use Rattle.cd_text.specs.Placed.{placed}
@@ -49,7 +44,7 @@ use Rattle.cd_text.proofs.Escapes.{escapes_closed, escapes_utf8, escapes_text, h
 use Rattle.cd_text.proofs.PrincipalTexts.{principal_text_utf8}
 use Rattle.cd_text.proofs.Prints.{Prints, no_tokens, mark_before, blank_before, run_before, run_alone, string_before, both_print, IsWritten, AreWritten, parts_written, braces_written}
 use Rattle.cd_text.proofs.Typed.{Inside, all_inside, shape_ordered}
-use Rattle.cd_text.proofs.Values.{both, are_fields, fields_distinct}
+use Rattle.cd_text.proofs.Values.{both, fields_distinct}
 
 -- ---- values without parts
 

@@ -1,5 +1,5 @@
 -- Values whose bytes are bytes: what each value of the program is.
-use Rattle.std.specs.Prelude.{ℕ, ◌<◌, List}
+use Rattle.std.specs.Prelude.{◌<◌}
 use Rattle.std.specs.List.{AllByRecursion}
 use Rattle.ic_principal.specs.IsPrincipal.{IsPrincipal}
 use Rattle.cd_codec.specs.Content.{Content, Plain, func, service, principal, plain, blob, none, some, list, record_of, variant, Contents, no_content, content, Parts, no_part, part}

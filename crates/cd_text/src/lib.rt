@@ -1,6 +1,7 @@
 //! Candid values as text (Candid specification, "Core Grammar").
 #![tactic(auto)]
 
+mod back;
 mod fault;
 mod fields;
 pub mod laws;
@@ -12,6 +13,7 @@ mod tokens;
 mod types;
 mod whole;
 
+pub use back::read_back;
 pub use fault::TextFault;
 pub use printing::print;
 pub use whole::read;
