@@ -26,9 +26,11 @@ const WITH_OPT: &[u8] = b"DIDL\x02\x6e\x7d\x6c\x02\x00\x7d\x01\x00\x01\x01";
 
 const REFERENCES: &[u8] = b"DIDL\x02\x6a\x00\x00\x00\x69\x00\x03\x68\x01\x00";
 
+const NULLS: &[u8] = b"DIDL\x01\x6d\x7f\x01\x00";
+
 const PLAIN: &[u8] = b"DIDL\x00\x03\x77\x7e\x70";
 
-static ROWS: [Row; 66] = [
+static ROWS: [Row; 95] = [
     // Numbers, blanks, annotations and parentheses.
     (NAT, b"(42)", Some(b"(42)")),
     (NAT, b"( 42 , )", Some(b"(42)")),
@@ -58,6 +60,15 @@ static ROWS: [Row; 66] = [
         Some(b"(340282366920938463463374607431768211455)"),
     ),
     (NAT, b"(340282366920938463463374607431768211456)", None),
+    (NAT, b"(42:nat)", Some(b"(42)")),
+    (NAT, b"(((42) : nat))", Some(b"(42)")),
+    (NAT, b"(0x2_a)", Some(b"(42)")),
+    (NAT, b"(0x)", None),
+    (NAT, b"(0X2a)", None),
+    (NAT, b"(42nat)", None),
+    (NAT, b"(42 : nat : nat)", None),
+    (NAT, b"(42,,)", None),
+    (NAT, b"(,42)", None),
     // Strings.
     (TEXT, b"(\"hi\")", Some(b"(\"hi\")")),
     (
@@ -74,6 +85,19 @@ static ROWS: [Row; 66] = [
     (TEXT, b"(\"\\u{d800}\")", None),
     (TEXT, b"(\"\xff\")", None),
     (TEXT, b"(\"\\u{1F600}\")", Some(b"(\"\xf0\x9f\x98\x80\")")),
+    (
+        TEXT,
+        b"(\"\\u{000041}\\u{10ffff}\")",
+        Some(b"(\"A\xf4\x8f\xbf\xbf\")"),
+    ),
+    (TEXT, b"(\"\x7f\")", Some(b"(\"\\7f\")")),
+    (TEXT, b"(\"\\u{0000041}\")", None),
+    (TEXT, b"(\"\\u{110000}\")", None),
+    (TEXT, b"(\"\\u{}\")", None),
+    (TEXT, b"(\"\\5\")", None),
+    (TEXT, b"(\"\\x41\")", None),
+    (TEXT, b"(\"\n\")", None),
+    (TEXT, b"(\"a\\\")", None),
     // A record with a field `id`, whose number is 23515.
     (
         RECORD,
@@ -94,6 +118,11 @@ static ROWS: [Row; 66] = [
     (RECORD, b"(record { id = 1; id = 1 })", None),
     (RECORD, b"(record {})", None),
     (RECORD, b"(record { id = 1; other = 2 })", None),
+    (RECORD, b"(record { id = 1; 23515 = 1 })", None),
+    (RECORD, b"(record { 023515 = 1 })", None),
+    (RECORD, b"(record { 2_3515 = 1 })", None),
+    (RECORD, b"(record { id = 1;; })", None),
+    (RECORD, b"(record { id : 1 })", None),
     // A vec of nat8.
     (BLOB, b"(blob \"\\00a\")", Some(b"(blob \"\\00\\61\")")),
     (BLOB, b"(vec { 0; 97 })", Some(b"(blob \"\\00\\61\")")),
@@ -105,6 +134,8 @@ static ROWS: [Row; 66] = [
     (BLOB, b"(vec { 256 })", None),
     (BLOB, b"(blob \"\\ff\")", Some(b"(blob \"\\ff\")")),
     (BLOB, b"(vec {})", Some(b"(blob \"\")")),
+    (BLOB, b"(blob \"\\u{e9}\")", Some(b"(blob \"\\c3\\a9\")")),
+    (BLOB, b"(vec { 0;; 97 })", None),
     // An opt nat.
     (OPT_NAT, b"(opt 5)", Some(b"(opt 5)")),
     (OPT_NAT, b"(opt (5 : nat))", Some(b"(opt 5)")),
@@ -112,6 +143,7 @@ static ROWS: [Row; 66] = [
     (OPT_NAT, b"(5)", None),
     (OPT_NAT, b"(opt opt 5)", None),
     (OPT_NAT, b"(opt null)", None),
+    (OPT_NAT, b"(opt5)", None),
     // A variant { 0 : null; 1 : nat }.
     (VARIANT, b"(variant { 0 })", Some(b"(variant { 0 = null })")),
     (
@@ -123,6 +155,12 @@ static ROWS: [Row; 66] = [
     (VARIANT, b"(variant { 2 = 5 })", None),
     (VARIANT, b"(variant { 0; 1 = 5 })", None),
     (VARIANT, b"(variant {})", None),
+    (
+        VARIANT,
+        b"(variant { 0 = null; })",
+        Some(b"(variant { 0 = null })"),
+    ),
+    (VARIANT, b"(variant { 0 : null })", None),
     // A record { 0 : nat; 1 : opt nat }: fields in any order, the opt left out, fields without labels.
     (
         WITH_OPT,
@@ -140,6 +178,7 @@ static ROWS: [Row; 66] = [
         Some(b"(record { 0 = 1; 1 = opt 2 })"),
     ),
     (WITH_OPT, b"(record { 1 = null })", None),
+    (WITH_OPT, b"(record { 1; opt 2; null })", None),
     // A principal, a service and a function of it.
     (
         REFERENCES,
@@ -224,4 +263,24 @@ fn is_nested(alloc: Global, count: usize, wanted: Option<&[u8]>) -> bool {
 fn limit_of_nesting(rt: HostRuntime) {
     assert!(rt; is_nested(rt.alloc(), 128, Some(b"(42)")));
     assert!(rt; is_nested(rt.alloc(), 129, None));
+}
+
+// A vec of so many nulls, each one value more than the vec.
+fn is_said(alloc: Global, count: usize, wanted: bool) -> bool {
+    let Ok(text) = message_of(alloc, &[(b"(vec {", 1), (b"null;", count), (b"})", 1)]) else {
+        return false;
+    };
+    let Some(expected) = expected_of(alloc, NULLS) else {
+        return false;
+    };
+    match read(alloc, &expected, &text) {
+        Ok(_) => wanted,
+        Err(fault) => !wanted && fault == TextFault::NotText,
+    }
+}
+
+#[test]
+fn limit_of_values(rt: HostRuntime) {
+    assert!(rt; is_said(rt.alloc(), 999_999, true));
+    assert!(rt; is_said(rt.alloc(), 1_000_000, false));
 }
