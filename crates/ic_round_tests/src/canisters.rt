@@ -4,6 +4,7 @@ ghost use Rattle.ic_behaviour.specs.Submitted.{IsNew};
 ghost use Rattle.ic_state.specs.Seen.{seen};
 ghost use Rattle.ic_state.specs.IsCanister.{IsCanister};
 
+use crate::asking::asking_bytes;
 use ic_base::NoMemory;
 use ic_exec::place_code;
 use ic_principal::{Bytes, Principal};
@@ -81,14 +82,31 @@ fn canister_with(alloc: Global, number: u64, valid: Option<Valid>) -> Option<Can
     }
 }
 
+fn running(alloc: Global, number: u64, bytes: Result<Bytes, NoMemory>) -> Option<Canister>
+    ensures new { IfSome result (λ c. IsNew number (dropped (seen c))) }
+    ensures keeps { IfSome result IsCanister }
+    ensures balance { IfSome result (λ c. c.balance ≡ 1000000000000) }
+{
+    match bytes {
+        Ok(bytes) => canister_with(alloc, number, valid_of(alloc, bytes.items.as_slice())),
+        Err(_) => None,
+    }
+}
+
 /// The canister with this number, with 1,000,000,000,000 cycles. It runs the relay module.
 pub fn relaying(alloc: Global, number: u64) -> Option<Canister>
     ensures new { IfSome result (λ c. IsNew number (dropped (seen c))) }
     ensures keeps { IfSome result IsCanister }
     ensures balance { IfSome result (λ c. c.balance ≡ 1000000000000) }
 {
-    match relay_bytes(alloc) {
-        Ok(bytes) => canister_with(alloc, number, valid_of(alloc, bytes.items.as_slice())),
-        Err(_) => None,
-    }
+    running(alloc, number, relay_bytes(alloc))
+}
+
+/// The same, but it runs the module that calls the relay module.
+pub fn asking(alloc: Global, number: u64) -> Option<Canister>
+    ensures new { IfSome result (λ c. IsNew number (dropped (seen c))) }
+    ensures keeps { IfSome result IsCanister }
+    ensures balance { IfSome result (λ c. c.balance ≡ 1000000000000) }
+{
+    running(alloc, number, asking_bytes(alloc))
 }

@@ -2,8 +2,12 @@
 #![tactic(auto)]
 
 #[cfg(test)]
+mod asking;
+#[cfg(test)]
 mod canisters;
 #[cfg(test)]
 mod relays;
+#[cfg(test)]
+mod rows;
 #[cfg(test)]
 mod tests;

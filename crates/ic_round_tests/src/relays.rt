@@ -1,36 +1,49 @@
 ghost use Rattle.std.specs.Prelude.{◌≡◌, ◌+◌, ◌<◌, ◌^◌, length, IfOk, IfSome};
+ghost use Rattle.ic_behaviour.specs.Counted.{dropped};
+ghost use Rattle.ic_behaviour.specs.Submitted.{IsNew};
+ghost use Rattle.ic_state.specs.Seen.{seen};
+ghost use Rattle.ic_state.specs.IsCanister.{IsCanister};
 
-use crate::canisters::relaying;
+use crate::canisters::{asking, relaying};
+use crate::rows::{Row, Seen, asking as asking_rows, relaying as relaying_rows};
 use ic_base::NoMemory;
 use ic_outside::OpenGate;
 use ic_principal::{Bytes, Principal, Text};
 use ic_round::{round, run_rounds};
-use ic_state::{Response, World};
+use ic_state::{Canister, Message, Response, World};
 use std::alloc::Global;
+use std::process::Abort;
 use std::test::*;
 
-// A user calls `relay`.
-fn called(alloc: Global, world: World, callee: Principal, arg: &[u8]) -> Result<World, NoMemory>
+// A user calls a method of the first canister.
+fn called(alloc: Global, world: World, method: &str, arg: &[u8]) -> Result<World, NoMemory>
     requires { length world.requests < 2 ^ 20 }
-    ensures { IfOk result (λ w. length w.requests ≡ length world.requests + 1) }
 {
     let method = Text {
-        items: String::from_str(alloc, "relay")?,
+        items: String::from_str(alloc, method)?,
     };
     let arg = Bytes {
         items: Vec::from_slice(alloc, arg)?,
     };
-    world.submit(Principal::canister_id(9), callee, method, arg)
+    world.submit(
+        Principal::canister_id(9),
+        Principal::canister_id(0),
+        method,
+        arg,
+    )
 }
 
-// Two canisters that relay.
-fn two(alloc: Global) -> Option<World>
-    ensures { IfSome result (λ w. length w.requests ≡ 0) }
+// A world with this canister and one that relays, and the call.
+fn begun(alloc: Global, first: Option<Canister>, row: &Row) -> Option<World>
+    requires new { IfSome first (λ c. IsNew 0 (dropped (seen c))) }
+    requires keeps { IfSome first IsCanister }
+    requires balance { IfSome first (λ c. c.balance ≡ 1000000000000) }
 {
-    let first = relaying(alloc, 0)?;
+    let first = first?;
     let world = World::new(alloc).add(first).ok()?;
     let second = relaying(alloc, 1)?;
-    world.add(second).ok()
+    let world = world.add(second).ok()?;
+    called(alloc, world, row.method, row.arg).ok()
 }
 
 fn balance(world: &World, number: u64) -> u128 {
@@ -40,48 +53,112 @@ fn balance(world: &World, number: u64) -> u128 {
     }
 }
 
-// Whether the request is answered with the number 1, of eight bytes.
-fn is_one(world: &World, number: u32) -> bool
-    requires { number < length world.now.requests }
-{
-    match world.answer(number) {
-        Some(Response::Reply(bytes)) => {
-            bytes.items.as_slice() == b"\x01\x00\x00\x00\x00\x00\x00\x00".as_slice()
+// The first byte of the first canister's memory.
+fn stored(world: &World) -> u8 {
+    let mut bytes = [9; 1];
+    if let Some(canister) = world.parts().canisters.get(&Principal::canister_id(0)) {
+        canister.store.copy_out(0, &mut bytes);
+    }
+    bytes[0]
+}
+
+// What is under way, and the balances.
+fn seen_in(world: &World) -> Seen {
+    let mut seen = Seen {
+        calls: 0,
+        answers: 0,
+        cycles: 0,
+        balances: [balance(world, 0), balance(world, 1)],
+    };
+    for message in &world.parts().messages.items {
+        match message {
+            Message::Call { cycles, .. } => {
+                seen.calls = seen.calls.wrapping_add(1);
+                seen.cycles = seen.cycles.wrapping_add(*cycles);
+            }
+            Message::Answer { refund, .. } => {
+                seen.answers = seen.answers.wrapping_add(1);
+                seen.cycles = seen.cycles.wrapping_add(*refund);
+            }
         }
-        _ => false,
+    }
+    seen
+}
+
+// The code of the answer, or 0 for a reply, and its bytes.
+fn answer(world: &World) -> Option<(u32, &[u8])> {
+    let request = world.parts().requests.items.first()?;
+    match &request.answer {
+        Some(Response::Reply(arg)) => Some((0, arg.items.as_slice())),
+        Some(Response::Reject { code, message }) => Some((*code, message.items.as_bytes())),
+        None => None,
     }
 }
 
-// A call goes through two canisters: the second accepts 300 of 500 cycles, and the answer comes back in
-// the third round.
-#[test]
-fn relayed(rt: HostRuntime) -> Result<(), NoMemory> {
-    let alloc = rt.alloc();
-    let world = two(alloc).expect(&rt, "no world");
-    let second = Principal::canister_id(1);
-    let world = called(alloc, world, Principal::canister_id(0), second.bytes())?;
-    let (world, handled) = round(alloc, world, 1, 5_000_000, 0, &OpenGate)?;
-    assert_eq!(rt; handled, 1);
-    assert_eq!(rt; world.parts().messages.items.len(), 1);
-    let (world, made) = run_rounds(alloc, world, 100, 1, 5_000_000, 0, &OpenGate)?;
-    assert_eq!(rt; made, 2);
-    assert!(rt; world.drained());
-    assert_eq!(rt; balance(&world, 0), 999_999_999_700);
-    assert_eq!(rt; balance(&world, 1), 1_000_000_000_300);
-    assert_eq!(rt; world.parts().requests.len(), 1);
-    assert!(rt; is_one(&world, 0));
-    Ok(())
+fn check_seen(rt: &impl Abort, world: &World, wanted: &Seen) {
+    assert_eq!(rt; seen_in(world), *wanted);
 }
 
-// At a price the 29 instructions of a call leave the balance.
+// A round; the world is owned here, and looked at elsewhere.
+fn after_round(
+    rt: &impl Abort,
+    alloc: Global,
+    world: World,
+    price: u64,
+    wanted: &Seen,
+) -> Option<World> {
+    match round(alloc, world, 1, 5_000_000, price, &OpenGate) {
+        Ok((world, _)) => {
+            check_seen(rt, &world, wanted);
+            Some(world)
+        }
+        Err(_) => None,
+    }
+}
+
+// Three rounds, each looked at, and then all others.
+fn followed(
+    rt: &impl Abort,
+    alloc: Global,
+    world: Option<World>,
+    row: &Row,
+) -> Option<(World, u32)> {
+    let mut world = world?;
+    for wanted in &row.seen {
+        world = after_round(rt, alloc, world, row.price, wanted)?;
+    }
+    run_rounds(alloc, world, 1000, 1, 5_000_000, row.price, &OpenGate).ok()
+}
+
+fn compare(rt: &impl Abort, row: &Row, done: &Option<(World, u32)>) {
+    let Some((world, rounds)) = done else {
+        panic!(rt; "no rounds");
+    };
+    assert_eq!(rt; (*rounds, seen_in(world)), (row.rounds, row.last));
+    assert_eq!(rt; world.totals().burned, row.burned);
+    assert_eq!(rt; answer(world), Some((row.code, row.answer)));
+    assert_eq!(rt; stored(world), row.stored);
+}
+
+fn check_row(rt: &impl Abort, alloc: Global, first: Option<Canister>, row: &Row)
+    requires new { IfSome first (λ c. IsNew 0 (dropped (seen c))) }
+    requires keeps { IfSome first IsCanister }
+    requires balance { IfSome first (λ c. c.balance ≡ 1000000000000) }
+{
+    let done = followed(rt, alloc, begun(alloc, first, row), row);
+    compare(rt, row, &done);
+}
+
 #[test]
-fn charged(rt: HostRuntime) -> Result<(), NoMemory> {
-    let alloc = rt.alloc();
-    let world = two(alloc).expect(&rt, "no world");
-    let world = called(alloc, world, Principal::canister_id(0), b"")?;
-    let (world, made) = run_rounds(alloc, world, 100, 1, 5_000_000, 20_000, &OpenGate)?;
-    assert_eq!(rt; made, 1);
-    assert_eq!(rt; balance(&world, 0), 999_999_420_000);
-    assert_eq!(rt; world.totals().burned, 580_000);
-    Ok(())
+fn relayed(rt: HostRuntime) {
+    for row in &relaying_rows() {
+        check_row(&rt, rt.alloc(), relaying(rt.alloc(), 0), row);
+    }
+}
+
+#[test]
+fn asked(rt: HostRuntime) {
+    for row in &asking_rows() {
+        check_row(&rt, rt.alloc(), asking(rt.alloc(), 0), row);
+    }
 }

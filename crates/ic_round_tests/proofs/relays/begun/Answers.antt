@@ -2,7 +2,7 @@ use Rattle.std.proofs.Common.{◌≡◌, rules, sym, subst}
 use Rattle.ic_behaviour.specs.Counted.{dropped}
 use Rattle.ic_behaviour.specs.Submitted.{IsNew}
 use Rattle.ic_state.specs.Seen.{seen}
-use Rattle.ic_round_tests.proofs.relays.two.Goals as goal
+use Rattle.ic_round_tests.proofs.relays.begun.Goals as goal
 
 -- one was added before
 pub add-requires-2-clause-new : goal.add-requires-2-clause-new
