@@ -1,0 +1,10 @@
+pub mod Entries
+pub mod Numbers
+pub mod Cycles
+pub mod Sends
+pub mod Refusals
+pub mod Rows
+pub mod Installs
+pub mod Worlds
+pub mod Makes
+pub mod Orders

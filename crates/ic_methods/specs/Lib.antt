@@ -1,0 +1,3 @@
+pub mod Taken
+pub mod Ending
+pub mod Changes

@@ -1,0 +1,118 @@
+ghost use Rattle.std.specs.Prelude.{◌≡◌, ◌≤◌, true, option_map, IfOk, OnOk};
+ghost use Rattle.std.specs.Option.{IsSome};
+ghost use Rattle.ic_behaviour.specs.State.{Code as SomeCode};
+ghost use Rattle.ic_behaviour.specs.Deliver.{env_at};
+ghost use Rattle.ic_behaviour.specs.Installing.{enters_after, installed};
+ghost use Rattle.ic_api.specs.System.{system_api};
+ghost use Rattle.ic_state.specs.Seen.{seen, code_of as seen_code};
+ghost use Rattle.ic_state.specs.IsCanister.{IsCanister};
+ghost use Rattle.ic_orders.specs.Checks.{Meets, MeetsBy};
+ghost use Rattle.ic_orders.specs.Modules.{code_of};
+ghost use Rattle.ic_management.specs.Rows.{installs, unless_unsuited, unless_refused};
+ghost use Rattle.ic_exec.specs.Installed.{is_upgrade};
+ghost use Rattle.ic_methods.specs.Taken.{incoming_of};
+ghost use Rattle.ic_methods.specs.Ending.{IfMemory};
+ghost use Rattle.ic_methods.specs.Changes.{asked_of, DoesAt, KeepsCounts, IsInstalled};
+
+use crate::change::NewCode;
+use crate::ending::{Ending, done};
+use crate::incoming::Incoming;
+use ic_base::NoMemory;
+use ic_behaviour::Mode;
+use ic_exec::{Installed, Order, install};
+use ic_orders::{Denial, Unmet, hash_of, module_of};
+use ic_principal::{Bytes, Principal};
+use ic_state::{Canister, Code, Controllers, Env};
+use std::alloc::Global;
+use std::mem::replace;
+
+fn code_of(alloc: Global, bytes: &Bytes) -> Result<Code, Unmet>
+    ensures { MeetsBy seen_code result (code_of bytes.now) }
+{
+    let valid = module_of(alloc, &bytes.items)?;
+    let hash = hash_of(&bytes.items);
+    Ok(Code { valid, hash })
+}
+
+// The mode suits a canister with this code, or without.
+fn unless_unsuited(mode: Mode, code: &Option<Code>) -> Result<(), Unmet>
+    ensures suits { Meets result (unless_unsuited mode (option_map seen_code code.now)) }
+    ensures upgraded { OnOk result (is_upgrade mode ≡ true → IsSome code.now) }
+{
+    match mode {
+        Mode::Install if code.is_some() => Err(Unmet::Denied(Denial::HasModule)),
+        Mode::Upgrade { .. } if code.is_none() => Err(Unmet::Denied(Denial::NoModule)),
+        _ => Ok(()),
+    }
+}
+
+// Takes the canister out of its place, where one without code stays.
+fn take(alloc: Global, canister: &mut Canister) -> Result<Canister, NoMemory>
+    ensures { IfOk result (λ taken. taken ≡ canister.old) }
+{
+    let nobody = Controllers {
+        items: Vec::new(alloc),
+    };
+    let empty = Canister::new(alloc, canister.id, nobody, 0)?;
+    Ok(replace(canister, empty))
+}
+
+// Installs the code, which is not paid for.
+fn put(alloc: Global, canister: &mut Canister, order: Order, env: Env) -> Result<(), Unmet>
+    requires keeps { IsCanister canister.old }
+    requires upgraded { is_upgrade order.mode ≡ true → IsSome canister.old.code }
+    requires limit { env.limit ≤ 1000000000000 }
+    ensures installed { IsInstalled result canister.old canister.new
+        (installed (enters_after system_api) (env_at env.time env.limit 0) (seen canister.old) order.mode (seen_code order.code) order.arg order.sender) }
+    ensures keeps { IfMemory result (IsCanister canister.new) }
+{
+    let env = Env {
+        time: env.time,
+        limit: env.limit,
+        price: 0,
+    };
+    let held = take(alloc, canister)?;
+    let Installed {
+        canister: after,
+        refusal,
+        ..
+    } = install(alloc, held, order, env)?;
+    *canister = after;
+    match refusal {
+        Some(fault) => Err(Unmet::Denied(Denial::NotInstalled(fault))),
+        None => Ok(()),
+    }
+}
+
+/// Installs code (IC Interface Specification, "IC method install_code").
+pub fn install_code(
+    alloc: Global,
+    canister: &mut Canister,
+    id: Principal,
+    call: &Incoming,
+    new: NewCode,
+    env: Env,
+) -> Result<Ending, Unmet>
+    requires keeps { IsCanister canister.old }
+    requires limit { env.limit ≤ 1000000000000 }
+    ensures does { DoesAt result (incoming_of call.now) id canister.old canister.new
+        (λ now s. installs (enters_after system_api) env.limit (record now { time = env.time }) s (incoming_of call.now) (asked_of id new)) }
+    ensures counts { IfMemory result (KeepsCounts id canister.old canister.new) }
+    ensures keeps { IfMemory result (IsCanister canister.new) }
+{
+    let NewCode {
+        mode,
+        wasm_module,
+        arg,
+    } = new;
+    let code = code_of(alloc, &wasm_module)?;
+    unless_unsuited(mode, &canister.code)?;
+    let order = Order {
+        mode,
+        code,
+        arg,
+        sender: call.sender,
+    };
+    put(alloc, canister, order, env)?;
+    Ok(done(alloc, call.cycles)?)
+}

@@ -1,0 +1,51 @@
+ghost use Rattle.std.specs.Prelude.{◌≡◌, ◌++◌, Ok, IfOk};
+ghost use Rattle.ic_state.specs.IsCanister.{IsCanister};
+ghost use Rattle.ic_management.specs.Rows.{uninstalls};
+ghost use Rattle.ic_methods.specs.Taken.{incoming_of};
+ghost use Rattle.ic_methods.specs.Ending.{IfMemory};
+ghost use Rattle.ic_methods.specs.Changes.{DoesAt, KeepsCounts};
+
+use crate::ending::{Ending, empty_reply};
+use crate::incoming::Incoming;
+use ic_base::NoMemory;
+use ic_calls::close;
+use ic_lifecycle::uninstall;
+use ic_orders::Unmet;
+use ic_principal::Principal;
+use ic_state::{AnsweredList, Canister};
+use std::alloc::Global;
+
+// Both lists, one behind the other.
+fn joined(front: AnsweredList, back: AnsweredList) -> Result<AnsweredList, NoMemory>
+    ensures { IfOk result (λ l. l ≡ front ++ back) }
+{
+    let AnsweredList { mut items } = front;
+    let AnsweredList { items: mut more } = back;
+    items.append(&mut more)?;
+    Ok(AnsweredList { items })
+}
+
+/// The canister loses its code and its memories, and its contexts are deleted (IC Interface
+/// Specification, "IC method uninstall_code"). The contexts that await no call are closed.
+pub fn uninstall_code(
+    alloc: Global,
+    canister: &mut Canister,
+    id: Principal,
+    call: &Incoming,
+) -> Result<Ending, Unmet>
+    requires keeps { IsCanister canister.old }
+    ensures does { DoesAt result (incoming_of call.now) id canister.old canister.new
+        (λ now s c. Ok (uninstalls now s (incoming_of call.now) id c)) }
+    ensures counts { IfMemory result (KeepsCounts id canister.old canister.new) }
+    ensures keeps { IfMemory result (IsCanister canister.new) }
+{
+    let response = empty_reply(alloc)?;
+    let rejections = uninstall(alloc, canister)?;
+    let closing = close(alloc, canister, None, None)?;
+    let answers = joined(rejections, closing)?;
+    Ok(Ending {
+        reply: Some((response, call.cycles)),
+        sender: id,
+        answers,
+    })
+}
