@@ -1,3 +1,4 @@
 pub mod WayLaws
 pub mod Sweeps
-pub mod Keeps
+pub mod Handles
+pub mod Singles

@@ -1,58 +1,47 @@
--- Messages to no canister are handled in one pass. No standard has this.
-use Rattle.std.specs.Prelude.{ℕ, ◌+◌, ◌||◌, Bool, cond, is_some, List, [], ◌∷◌, ◌++◌}
-use Rattle.std.specs.List.{list_any, fold}
+-- The second phase in one pass. No standard has this.
+use Rattle.std.specs.Prelude.{◌≡◌, ℕ, ◌+◌, ◌||◌, Bool, is_some, List, ◌∷◌, ◌++◌, length}
+use Rattle.std.specs.List.{list_any}
 use Rattle.std.specs.Map.{lookup}
 use Rattle.ic_behaviour.specs.declared.call.Message.{Message}
-use Rattle.ic_behaviour.specs.declared.call.Message.TheVariants.{Call, Answer}
 use Rattle.ic_behaviour.specs.State.{at, callee_of}
-use Rattle.ic_behaviour.specs.Outcomes.{Enters}
-use Rattle.ic_behaviour.specs.Texts.{no_canister}
-use Rattle.ic_behaviour.specs.Deliver.{as_absent}
 use Rattle.ic_state.specs.declared.world.Parts.{Parts}
-use Rattle.ic_runs.specs.Steps.{Rules, same_way}
-use Rattle.ic_calls.specs.Sent.{answered_in}
-use Rattle.ic_mgmt.specs.declared.sweep.Sweep.{Sweep}
+use Rattle.ic_state.specs.Seen.{state_of}
+use Rattle.ic_state.specs.IsWorld.{IsWorld}
+use Rattle.ic_runs.specs.Steps.{Rules, step, same_way, along}
+use Rattle.ic_runs.specs.Round.{sweep, second_phase}
+use Rattle.ic_management.specs.Managed.{managed_rules}
 
--- as long as there is no management canister
-abbrev pub absent_rules : Enters → (limit price : ℕ) → Rules
-absent_rules enters limit price = record { enters = enters; outside = as_absent; limit = limit; price = price }
-
--- a call goes back with all its cycles; an answer is dropped, but no sound state has one whose caller is not there
-abbrev pub sent_back_in : Message → Parts → Parts
-sent_back_in (Call from sender callee method arg cycles) p = answered_in callee (record { origin = from; response = no_canister callee; refund = cycles }) p
-sent_back_in (Answer from sender response refund) p = p
-
--- the messages that stay, all else with the new messages, and the number handled
-pub record Sweeping : Type 0 where
-  pub kept : List Message
-  pub rest : Parts
-  pub handled : ℕ
-
-abbrev pub sweeping_of : Sweep → Sweeping
-sweeping_of w = record { kept = w.kept; rest = w.rest; handled = w.handled }
+-- the parts with the messages that stay, and those to come, before their own, which are the new ones
+abbrev pub among : (kept todo : List Message) → Parts → Parts
+among kept todo p = record p { messages = kept ++ (todo ++ p.messages) }
 
 -- whether a message stays: its callee is a canister, or one of its sender to its callee has stayed
-abbrev pub stays : Sweeping → Message → Bool
-stays w m = is_some (lookup (at (callee_of m)) w.rest.canisters.entries) || list_any (same_way m) w.kept
+abbrev pub stays : (kept : List Message) → Parts → Message → Bool
+stays kept p m = is_some (lookup (at (callee_of m)) p.canisters.entries) || list_any (same_way m) kept
 
-abbrev pub keep : Sweeping → Message → Sweeping
-keep w m = record w { kept = w.kept ++ m ∷ [] }
+-- this message is met next in a world
+abbrev pub Meets : (kept : List Message) → Message → Parts → Type 0
+Meets kept m p = (todo : List Message) × IsWorld (among kept (m ∷ todo) p)
 
-abbrev pub handle : Sweeping → Message → Sweeping
-handle w m = record w { rest = sent_back_in m w.rest; handled = w.handled + 1 }
+-- ---- a message is handled
 
--- a message is met
-abbrev pub meet : Sweeping → Message → Sweeping
-meet w m = cond (stays w m) (keep w m) (handle w m)
+-- the message has left the list, and is delivered, which leaves a world
+pub record Delivers (limit : ℕ) (kept : List Message) (m : Message) (todo : List Message) (p q : Parts) : Type 0 where
+  pub keeps : IsWorld (among kept todo q)
+  pub state : (price : ℕ) → state_of (among kept todo q) ≡ step (managed_rules limit price) (state_of (among kept (m ∷ todo) p)) (length kept)
 
--- before the first message, where the rest has none
-abbrev pub sweeping : Parts → Sweeping
-sweeping rest = record { kept = []; rest = rest; handled = 0 }
+-- ---- all are met
 
--- after the last: the new messages come last
-abbrev pub swept : Sweeping → Parts
-swept w = record w.rest { messages = w.kept ++ w.rest.messages }
+-- the places of those of the messages to come that are delivered
+abbrev pub ahead : Rules → (kept todo : List Message) → Parts → List ℕ
+ahead rules kept todo p = sweep rules (length todo) (length kept) (state_of (among kept todo p))
 
--- all are met, from the first on
-abbrev pub all_met : Parts → Sweeping
-all_met p = fold meet (sweeping (record p { messages = [] })) p.messages
+-- so many messages were handled since the phase began at a world, and what is left to do leads to its end
+pub record Reaches (limit : ℕ) (start : Parts) (kept todo : List Message) (p : Parts) (count : ℕ) : Type 0 where
+  pub keeps : IsWorld (among kept todo p)
+  pub state : (price : ℕ)
+      → along (managed_rules limit price) (state_of (among kept todo p)) (ahead (managed_rules limit price) kept todo p)
+      ≡ along (managed_rules limit price) (state_of start) (second_phase (managed_rules limit price) (state_of start))
+  pub handled : (price : ℕ)
+      → count + length (ahead (managed_rules limit price) kept todo p)
+      ≡ length (second_phase (managed_rules limit price) (state_of start))

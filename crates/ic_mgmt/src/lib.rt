@@ -1,14 +1,17 @@
-//! The second phase of a round: messages to principals that are no canisters, in the order of the
-//! list.
+//! The second phase of a round: messages to principals that are no canisters, the management canister
+//! among these, in the order of the list.
 //!
-//! There is no management canister yet: a call to it is answered as one to no canister. One pass goes
-//! through the list (`specs/Sweeping`) and knows of whom a message to whom has stayed, so that none is
-//! handled before an earlier one. That this is the second phase of a round as `ic_runs` defines it, one
-//! delivery after another, is proved.
+//! One pass goes through the list (`specs/Sweeping`) and knows of whom a message to whom has stayed, so
+//! that none is handled before an earlier one. A call to the management canister is carried out by
+//! `ic_methods`, and every other goes back. That this is the second phase of a round as `ic_runs`
+//! defines it, one delivery after another, is proved. `manage` is one such delivery by itself.
 #![tactic(auto)]
 
+mod managed;
 mod outside;
+mod parts;
 mod second;
 mod sweep;
 
+pub use managed::manage;
 pub use second::outside_turns;

@@ -1,61 +1,51 @@
-ghost use Rattle.std.specs.Prelude.{◌≡◌, ◌<◌, ◌≤◌, ◌^◌, ℕ, length, IfOk};
-ghost use Rattle.ic_behaviour.specs.Outcomes.{Enters as AnyEnters};
+ghost use Rattle.std.specs.Prelude.{◌≡◌, ◌<◌, ◌≤◌, ◌^◌, ℕ, [], length, IfOk};
+ghost use Rattle.ic_state.specs.IsWorld.{IsWorld};
 ghost use Rattle.ic_runs.specs.Steps.{along};
 ghost use Rattle.ic_runs.specs.Round.{second_phase};
-ghost use Rattle.ic_mgmt.specs.Sweeping.{absent_rules, all_met, sweeping_of};
+ghost use Rattle.ic_management.specs.Managed.{managed_rules};
+ghost use Rattle.ic_mgmt.specs.Sweeping.{Reaches};
 
+use crate::parts::{put_together, taken_apart};
 use crate::sweep::Sweep;
 use ic_base::NoMemory;
-use ic_state::{Messages, Parts, World};
+use ic_state::{Parts, World};
 use std::alloc::Global;
 
 // Goes past all messages.
-fn all_met(alloc: Global, parts: Parts) -> Result<Sweep, NoMemory>
-    ensures met { IfOk result (λ w. sweeping_of w ≡ all_met parts) }
+fn all_met(alloc: Global, parts: Parts, limit: u64) -> Result<Sweep, NoMemory>
+    requires limit { limit ≤ 1000000000000 }
+    requires keeps { IsWorld parts }
+    ensures reaches { IfOk result (λ w. Reaches limit parts w.kept [] w.rest w.handled) }
     ensures few { IfOk result (λ w. w.handled < 2 ^ 63) }
 {
-    let Parts {
-        canisters,
-        messages,
-        requests,
-        time,
-        created,
-        burned,
-        next_canister,
-    } = parts;
-    let rest = Parts {
-        canisters,
-        messages: Messages {
-            items: Vec::new(alloc),
-        },
-        requests,
-        time,
-        created,
-        burned,
-        next_canister,
-    };
+    let (rest, messages) = taken_apart(alloc, parts);
     let mut sweep = Sweep::start(alloc, rest);
     for message in messages.items {
-        sweep = sweep.meet(alloc, message)?;
+        sweep = sweep.meet(alloc, message, limit)?;
     }
     Ok(sweep)
 }
 
 /// The second phase of a round: down the list as it then is, each message is handled whose callee is no
-/// canister, unless one of its sender to its callee stays before it. Messages that are made in it wait
-/// for a later round. Gives the number of messages that were handled. There is no management canister:
-/// a call to it goes back as one to no canister. Nothing is charged, whatever an instruction costs, and
-/// no canister runs. `limit` is the most instructions that one execution may use.
+/// canister, unless one of its sender to its callee stays before it. Calls to the management canister
+/// are among these, and may make canisters and remove them, so that a later message has a callee or
+/// has none. Messages that are made in it wait for a later round. Gives the number of messages that
+/// were handled. Nothing is charged, whatever an instruction costs. `limit` is the most instructions
+/// that one execution, or one installation, may use.
 pub fn outside_turns(alloc: Global, world: World, limit: u64) -> Result<(World, u64), NoMemory>
     requires limit { limit ≤ 1000000000000 }
-    ensures state { IfOk result (λ r. (enters : AnyEnters) (price : ℕ)
-        → r.0 ≡ along (absent_rules enters limit price) world
-        (second_phase (absent_rules enters limit price) world)) }
-    ensures handled { IfOk result (λ r. (enters : AnyEnters) (price : ℕ)
-        → r.1 ≡ length (second_phase (absent_rules enters limit price) world)) }
+    ensures state { IfOk result (λ r. (price : ℕ)
+        → r.0 ≡ along (managed_rules limit price) world (second_phase (managed_rules limit price) world)) }
+    ensures handled { IfOk result (λ r. (price : ℕ)
+        → r.1 ≡ length (second_phase (managed_rules limit price) world)) }
     ensures few { IfOk result (λ r. r.1 < 2 ^ 63) }
 {
-    let _limit = limit;
-    let (parts, handled) = all_met(alloc, world.open())?.finish()?;
+    let Sweep {
+        kept,
+        rest,
+        handled,
+        ..
+    } = all_met(alloc, world.open(), limit)?;
+    let parts = put_together(kept, rest)?;
     Ok((World::seal(parts), handled))
 }

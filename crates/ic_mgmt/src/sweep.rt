@@ -1,9 +1,11 @@
-ghost use Rattle.std.specs.Prelude.{◌≡◌, ◌<◌, ◌++◌, IfOk, OnOk};
+ghost use Rattle.std.specs.Prelude.{◌≡◌, ◌+◌, ◌<◌, ◌≤◌, ◌∷◌, ℕ, List, [], true, false, IfOk};
+ghost use Rattle.ic_behaviour.specs.declared.call.Message.{Message as AMessage};
+ghost use Rattle.ic_state.specs.declared.world.Parts.{Parts as TheParts};
 ghost use Rattle.ic_runs.specs.Steps.{sender_of};
-ghost use Rattle.ic_mgmt.specs.Sweeping.{stays, keep, handle, meet, sweeping, swept, sweeping_of};
+ghost use Rattle.ic_mgmt.specs.Sweeping.{stays, Meets, Reaches};
 ghost use Rattle.ic_mgmt.specs.Ways.{HasWays};
 
-use crate::outside::send_back;
+use crate::outside::handle;
 use ic_base::NoMemory;
 use ic_calls::callee;
 use ic_principal::Principal;
@@ -22,14 +24,6 @@ pub struct Sweep {
     pub handled: u64,
 }
 
-fn append(messages: &mut Messages, more: Messages) -> Result<(), NoMemory>
-    ensures { OnOk result (messages.new ≡ messages.old ++ more) }
-{
-    let Messages { items: mut more } = more;
-    messages.items.append(&mut more)?;
-    Ok(())
-}
-
 fn sender(message: &Message) -> Principal
     ensures { result ≡ sender_of message.now }
 {
@@ -42,7 +36,9 @@ fn sender(message: &Message) -> Principal
 impl Sweep {
     /// Before the first message; the parts are without their messages.
     pub fn start(alloc: Global, rest: Parts) -> Sweep
-        ensures value { sweeping_of result ≡ sweeping rest }
+        ensures kept { result.kept ≡ [] }
+        ensures rest { result.rest ≡ rest }
+        ensures handled { result.handled ≡ 0 }
         ensures ways { HasWays result.left result.kept }
     {
         Sweep {
@@ -55,44 +51,9 @@ impl Sweep {
         }
     }
 
-    /// The parts after the last message, and the number of messages handled.
-    pub fn finish(self) -> Result<(Parts, u64), NoMemory>
-        ensures parts { IfOk result (λ r. r.0 ≡ swept (sweeping_of self)) }
-        ensures handled { IfOk result (λ r. r.1 ≡ self.handled) }
-    {
-        let Sweep {
-            mut kept,
-            rest,
-            handled,
-            ..
-        } = self;
-        let Parts {
-            canisters,
-            messages,
-            requests,
-            time,
-            created,
-            burned,
-            next_canister,
-        } = rest;
-        append(&mut kept, messages)?;
-        Ok((
-            Parts {
-                canisters,
-                messages: kept,
-                requests,
-                time,
-                created,
-                burned,
-                next_canister,
-            },
-            handled,
-        ))
-    }
-
     fn stays(&self, message: &Message) -> bool
         requires ways { HasWays self.now.left self.now.kept }
-        ensures { result ≡ stays (sweeping_of self.now) message.now }
+        ensures { result ≡ stays self.now.kept self.now.rest message.now }
     {
         let callee = callee(message);
         self.rest.canisters.contains_key(&callee) || self.left.contains(&(sender(message), callee))
@@ -100,8 +61,12 @@ impl Sweep {
 
     fn keep(self, message: Message) -> Result<Sweep, NoMemory>
         requires ways { HasWays self.left self.kept }
-        ensures value { IfOk result (λ w. sweeping_of w ≡ keep (sweeping_of self) message) }
+        requires stays { stays self.kept self.rest message ≡ true }
+        ensures reaches { IfOk result (λ w. (limit : ℕ) (start : TheParts) (todo : List AMessage)
+            → Reaches limit start self.kept (message ∷ todo) self.rest self.handled
+            → Reaches limit start w.kept todo w.rest w.handled) }
         ensures ways { IfOk result (λ w. HasWays w.left w.kept) }
+        ensures handled { IfOk result (λ w. w.handled ≡ self.handled) }
     {
         let Sweep {
             mut kept,
@@ -120,11 +85,17 @@ impl Sweep {
         })
     }
 
-    fn handle(self, alloc: Global, message: Message) -> Result<Sweep, NoMemory>
+    fn handle(self, alloc: Global, message: Message, limit: u64) -> Result<Sweep, NoMemory>
+        requires limit { limit ≤ 1000000000000 }
         requires ways { HasWays self.left self.kept }
         requires few { self.handled < 18446744073709551615 }
-        ensures value { IfOk result (λ w. sweeping_of w ≡ handle (sweeping_of self) message) }
+        requires next { Meets self.kept message self.rest }
+        requires goes { stays self.kept self.rest message ≡ false }
+        ensures reaches { IfOk result (λ w. (start : TheParts) (todo : List AMessage)
+            → Reaches limit start self.kept (message ∷ todo) self.rest self.handled
+            → Reaches limit start w.kept todo w.rest w.handled) }
         ensures ways { IfOk result (λ w. HasWays w.left w.kept) }
+        ensures handled { IfOk result (λ w. w.handled ≡ self.handled + 1) }
     {
         let Sweep {
             kept,
@@ -132,7 +103,7 @@ impl Sweep {
             rest,
             handled,
         } = self;
-        let rest = send_back(alloc, rest, &message)?;
+        let rest = handle(alloc, rest, message, limit)?;
         Ok(Sweep {
             kept,
             left,
@@ -142,16 +113,21 @@ impl Sweep {
     }
 
     /// Goes past a message.
-    pub fn meet(self, alloc: Global, message: Message) -> Result<Sweep, NoMemory>
+    pub fn meet(self, alloc: Global, message: Message, limit: u64) -> Result<Sweep, NoMemory>
+        requires limit { limit ≤ 1000000000000 }
         requires ways { HasWays self.left self.kept }
         requires few { self.handled < 18446744073709551615 }
-        ensures value { IfOk result (λ w. sweeping_of w ≡ meet (sweeping_of self) message) }
+        requires next { Meets self.kept message self.rest }
+        ensures reaches { IfOk result (λ w. (start : TheParts) (todo : List AMessage)
+            → Reaches limit start self.kept (message ∷ todo) self.rest self.handled
+            → Reaches limit start w.kept todo w.rest w.handled) }
         ensures ways { IfOk result (λ w. HasWays w.left w.kept) }
+        ensures few { IfOk result (λ w. w.handled ≤ self.handled + 1) }
     {
         if self.stays(&message) {
             self.keep(message)
         } else {
-            self.handle(alloc, message)
+            self.handle(alloc, message, limit)
         }
     }
 }

@@ -1,0 +1,29 @@
+use Rattle.std.proofs.Common.{◌≡◌, false, is_some, IfOk, sym, ◌∙◌, subst}
+use Rattle.std.specs.Map.{lookup}
+use Rattle.ic_behaviour.specs.declared.call.Message.{Message}
+use Rattle.ic_behaviour.specs.State.{at, callee_of}
+use Rattle.ic_mgmt.proofs.Handles.{Handled, taken_out, managed_ok, sent_ok, answer_delivers}
+use Rattle.ic_mgmt.proofs.outside.handle.Goals as goal
+
+pub manage-requires-clause-taken : goal.manage-requires-clause-taken
+manage-requires-clause-taken c = taken_out c.requires.next.0 c.args.message c.args.parts _ c.in-Call.callee c.in-Call.is c.requires.next.1
+
+pub returns-then-is_management : goal.returns-then-is_management
+returns-then-is_management c =
+    let absent = subst (λ (m : Message). is_some (lookup (at (callee_of m)) c.args.parts.canisters.entries) ≡ false) c.in-Call.is c.requires.absent in
+    subst (λ (m : Message). IfOk c.manage.result (Handled c.args.limit m c.args.parts)) (sym c.in-Call.is)
+    (managed_ok c.args.limit c.in-Call.origin c.in-Call.sender c.in-Call.callee c.in-Call.method c.in-Call.arg c.in-Call.cycles c.args.parts absent
+    c.manage.result (sym c.is_management.ensures ∙ c.if-is_management.true) c.manage.ensures.state c.manage.ensures.counts c.manage.ensures.keeps)
+
+pub returns-in-Call : goal.returns-in-Call
+returns-in-Call c =
+    let absent = subst (λ (m : Message). is_some (lookup (at (callee_of m)) c.args.parts.canisters.entries) ≡ false) c.in-Call.is c.requires.absent in
+    subst (λ (m : Message). IfOk c.send_back.result (Handled c.args.limit m c.args.parts)) (sym c.in-Call.is)
+    (sent_ok c.args.limit c.in-Call.origin c.in-Call.sender c.in-Call.callee c.in-Call.method c.in-Call.arg c.in-Call.cycles c.args.parts absent
+    c.send_back.result (sym c.is_management.ensures ∙ c.if-is_management.false) c.send_back.ensures)
+
+pub returns : goal.returns
+returns c =
+    let absent = subst (λ (m : Message). is_some (lookup (at (callee_of m)) c.args.parts.canisters.entries) ≡ false) c.in-Answer.is c.requires.absent in
+    subst (λ (m : Message). Handled c.args.limit m c.args.parts c.args.parts) (sym c.in-Answer.is)
+    (λ kept todo is. answer_delivers c.args.limit kept c.in-Answer.origin c.in-Answer.sender c.in-Answer.response c.in-Answer.refund todo c.args.parts c.args.parts is absent)
