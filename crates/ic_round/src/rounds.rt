@@ -1,9 +1,8 @@
 ghost use Rattle.std.specs.Prelude.{◌≡◌, ◌≤◌, length, IfOk};
 ghost use Rattle.std.specs.List.{concat};
-ghost use Rattle.ic_behaviour.specs.Deliver.{as_absent};
 ghost use Rattle.ic_runs.specs.Steps.{along};
 ghost use Rattle.ic_runs.specs.Round.{round, rounds};
-ghost use Rattle.ic_accounting.specs.System.{system_rules};
+ghost use Rattle.ic_management.specs.Managed.{managed_rules};
 
 use ic_base::NoMemory;
 use ic_mgmt::outside_turns;
@@ -13,9 +12,10 @@ use ic_state::World;
 use std::alloc::Global;
 
 /// A round: each canister that has a message handles its first one, in rising id, and then messages
-/// to no canister are handled down the list. Gives the number of messages that were handled, at least
-/// one where a message is under way. `limit` is the most instructions that one execution may use, and
-/// `price` the cycles that an instruction costs.
+/// to no canister, the management canister among these, are handled down the list. Gives the number of
+/// messages that were handled, at least one where a message is under way. `limit` is the most
+/// instructions that one execution or installation may use, and `price` the cycles that an instruction
+/// of an execution costs.
 pub fn round<G: Gate + Sync>(
     alloc: Global,
     world: World,
@@ -27,10 +27,10 @@ pub fn round<G: Gate + Sync>(
     requires workers { workers ≡ 1 }
     requires limit { limit ≤ 1000000000000 }
     ensures state { IfOk result (λ r. r.0
-        ≡ along (system_rules as_absent limit price) world
-        (round (system_rules as_absent limit price) world)) }
+        ≡ along (managed_rules limit price) world
+        (round (managed_rules limit price) world)) }
     ensures handled { IfOk result (λ r. r.1
-        ≡ length (round (system_rules as_absent limit price) world)) }
+        ≡ length (round (managed_rules limit price) world)) }
 {
     let (world, first) = canister_turns(alloc, world, workers, limit, price, gate)?;
     let (world, second) = outside_turns(alloc, world, limit)?;
@@ -50,10 +50,10 @@ pub fn run_rounds<G: Gate + Sync>(
     requires workers { workers ≡ 1 }
     requires limit { limit ≤ 1000000000000 }
     ensures state { IfOk result (λ r. r.0
-        ≡ along (system_rules as_absent limit price) world
-        (concat (rounds (system_rules as_absent limit price) count world))) }
+        ≡ along (managed_rules limit price) world
+        (concat (rounds (managed_rules limit price) count world))) }
     ensures made { IfOk result (λ r. r.1
-        ≡ length (rounds (system_rules as_absent limit price) count world)) }
+        ≡ length (rounds (managed_rules limit price) count world)) }
 {
     let mut world = world;
     for made in 0..count {
