@@ -14,15 +14,14 @@ use Rattle.ic_runs.specs.Runs.{Act, Delivers, Submits, SetsTime, after_act, afte
 use Rattle.ic_runs.proofs.Chains.{round_eligible, eligible_append}
 use Rattle.ic_runs.proofs.RunLaws.{after_delivers}
 use Rattle.ic_accounting.specs.RulesKeep.{RulesKeep}
-use Rattle.ic_accounting.proofs.Delivers.{deliver_sound, as_absent_keeps}
-use Rattle.ic_accounting.proofs.Systems.{rules_keep as system_rules_keep}
-use Rattle.ic_behaviour.specs.Deliver.{as_absent}
+use Rattle.ic_accounting.proofs.Delivers.{deliver_sound}
+use Rattle.ic_management.proofs.Managed.{managed_keep}
 use Rattle.ic_options.specs.declared.Options.{Options}
 use Rattle.ic_host.specs.AfterCommand.{acts_of_rounds, after_rounds}
 use Rattle.ic_host.specs.Options.{rules_of}
 
 pub rules_keep : (options : Options) → RulesKeep (rules_of options)
-rules_keep options = system_rules_keep as_absent options.limit options.price as_absent_keeps
+rules_keep options = managed_keep options.limit options.price
 
 module _ (rules : Rules) (keep : RulesKeep rules) where
   step_sound : (s : State) (place : ℕ) → Sound s → Sound (step rules s place)

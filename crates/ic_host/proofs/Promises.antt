@@ -1,5 +1,5 @@
 -- What holds in the run that a script makes.
-use Rattle.std.proofs.Common.{◌≡◌, ℕ, cond, List, [], ◌∷◌, ◌++◌, Some, refl, sym, ap, ◌∙◌, subst, append-nil}
+use Rattle.std.proofs.Common.{◌≡◌, ℕ, cond, List, [], ◌∷◌, ◌++◌, Some, refl, sym, ap, ◌∙◌, subst, append_assoc, append-nil}
 use Rattle.std.specs.List.{remove, flat_map, AllByRecursion}
 use Rattle.std.specs.Map.{lookup, set_value}
 use Rattle.std.proofs.lemmas.Bool.{cond-true, cond-false}
@@ -11,17 +11,27 @@ use Rattle.ic_behaviour.specs.declared.call.Answered.{Answered}
 use Rattle.ic_behaviour.specs.State.{at, callee_of, Canister, State}
 use Rattle.ic_behaviour.specs.Counted.{counted, dropped}
 use Rattle.ic_behaviour.specs.Closing.{Handled}
+use Rattle.ic_behaviour.specs.Entry.{enters_by}
+use Rattle.ic_behaviour.specs.Installing.{enters_after}
 use Rattle.ic_behaviour.specs.Deliver.{env_at, handled_by, placed, routed, without}
 use Rattle.ic_behaviour.specs.Submitted.{empty}
 use Rattle.ic_behaviour.specs.Sound.{Sound}
+use Rattle.ic_behaviour.proofs.Ties.{tallied}
 use Rattle.ic_behaviour.proofs.Weights.{laws, at-self}
+use Rattle.ic_api.specs.System.{system_api}
 use Rattle.ic_runs.specs.Steps.{Rules, step, IsEligible}
-use Rattle.ic_runs.specs.Runs.{Act, AllStates, EachState, EachDelivery, IsRun, after_act}
-use Rattle.ic_runs.proofs.RunLaws.{all_states, all_deliveries}
+use Rattle.ic_runs.specs.Runs.{Act, Delivers, AllStates, EachState, EachDelivery, IsRun, IsAnyRun, HasMessage, after_act}
+use Rattle.ic_runs.proofs.RunLaws.{all_states, all_deliveries, any_run}
 use Rattle.ic_accounting.proofs.Delivers.{deliver_is}
+use Rattle.ic_accounting.proofs.Drains.{drained_done}
+use Rattle.ic_accounting.proofs.Histories.{allowed_parts, run_answered}
 use Rattle.ic_accounting.proofs.Trapped.{trap_keeps}
 use Rattle.ic_accounting.specs.RulesKeep.{RulesKeep}
-use Rattle.ic_host.specs.Headline.{PlacedOnce, Conserves, IsAnswer, work_on, TrapLeaves, TrapsLeave}
+use Rattle.ic_management.specs.Moves.{message_of}
+use Rattle.ic_management.specs.Manage.{ended, manage}
+use Rattle.ic_options.specs.declared.Options.{Options}
+use Rattle.ic_host.specs.Options.{rules_of}
+use Rattle.ic_host.specs.Headline.{PlacedOnce, Conserves, DoneWhenDrained, AnsweredOnce, IsAnswer, work_on, TrapLeaves, TrapsLeave, RefusalsLeave}
 use Rattle.ic_host.proofs.Keeps.{act_sound}
 use Rattle.ic_host.proofs.Traces.{empty_sound}
 
@@ -40,6 +50,15 @@ module _ (rules : Rules) (keep : RulesKeep rules) (acts : List Act) (run : IsRun
 
   pub each_conserves : EachState Conserves rules acts
   each_conserves = each Sound Conserves (λ s sound. sound.cycles.conserved) rules empty acts each_sound
+
+  pub each_done : EachState DoneWhenDrained rules acts
+  each_done = each Sound DoneWhenDrained (λ s sound drained. drained_done s (tallied s sound) drained) rules empty acts each_sound
+
+  pub each_answered : AnsweredOnce rules acts
+  each_answered front middle back place id is answers =
+      let split : acts ≡ (front ++ Delivers place ∷ middle) ++ back = is ∙ sym (append_assoc front (Delivers place ∷ middle) back) in
+      let begun = allowed_parts rules HasMessage empty (front ++ Delivers place ∷ middle) back (subst (IsAnyRun rules) split (any_run rules acts run)) in
+      (run_answered rules keep front middle place id begun.0 answers).1
 
 -- ---- each delivery
 
@@ -83,3 +102,16 @@ traps_leave rules s place m c is_m there trapped =
 
 pub each_trap : (rules : Rules) (acts : List Act) → EachDelivery (TrapsLeave rules) rules acts
 each_trap rules acts = all_deliveries (TrapsLeave rules) rules (traps_leave rules) empty acts
+
+-- ---- refused calls to the management canister
+
+refusals_leave : (options : Options) (s : State) (place : ℕ) → RefusalsLeave (rules_of options) s place
+unfolding manage
+refusals_leave options s place call denial is_m none refused =
+    let outside = manage (enters_after system_api) in
+    deliver_is (enters_by system_api) outside options.limit options.price s place (message_of call []) is_m
+    ∙ ap (handled_by (enters_by system_api) outside options.limit options.price s (without s place) (message_of call [])) none
+    ∙ ap (ended (without s place) call) refused
+
+pub each_refusal : (options : Options) (acts : List Act) → EachDelivery (RefusalsLeave (rules_of options)) (rules_of options) acts
+each_refusal options acts = all_deliveries (RefusalsLeave (rules_of options)) (rules_of options) (refusals_leave options) empty acts

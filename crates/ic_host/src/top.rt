@@ -4,7 +4,7 @@ ghost use Rattle.ic_options.specs.Options.{HasBounds, options_of};
 ghost use Rattle.ic_runs.specs.Runs.{IsRun, EachState, EachDelivery};
 ghost use Rattle.ic_host.specs.Acts.{Concludes, Turns, Stops, usage_output, bad_output, behind_gathered};
 ghost use Rattle.ic_host.specs.AfterLine.{after_line};
-ghost use Rattle.ic_host.specs.Headline.{PlacedOnce, Conserves, TrapsLeave};
+ghost use Rattle.ic_host.specs.Headline.{PlacedOnce, Conserves, DoneWhenDrained, AnsweredOnce, TrapsLeave, RefusalsLeave};
 ghost use Rattle.ic_host.specs.Explained.{Explained, GivesOutput, generated_by};
 ghost use Rattle.ic_host.specs.Out.{out};
 ghost use Rattle.ic_host.specs.Sending.{sink_at};
@@ -53,8 +53,16 @@ pub fn replica<R: Threads + Sync, S: Source, K: Sink, G: Gate + Sync>(
     ensures trapped { (script : List ℕ)
         → EachDelivery (TrapsLeave (rules (map string_bytes words.now))) (rules (map string_bytes words.now)) (trace (map string_bytes words.now) script) }
 
-    // No call is answered twice: it never has two places.
+    // So does a call to the management canister that is refused, as an installation that traps is.
+    ensures refused { (script : List ℕ)
+        → EachDelivery (RefusalsLeave (rules (map string_bytes words.now))) (rules (map string_bytes words.now)) (trace (map string_bytes words.now) script) }
+
+    // No call is answered twice: it never has two places, and none once its answer was delivered.
     ensures placed_once { (script : List ℕ) → EachState PlacedOnce (rules (map string_bytes words.now)) (trace (map string_bytes words.now) script) }
+    ensures answered_once { (script : List ℕ) → AnsweredOnce (rules (map string_bytes words.now)) (trace (map string_bytes words.now) script) }
+
+    // Where nothing is left to be done, every request is answered.
+    ensures drained { (script : List ℕ) → EachState DoneWhenDrained (rules (map string_bytes words.now)) (trace (map string_bytes words.now) script) }
 
     // The cycles that are there and those that were burned are the created ones.
     ensures cycles { (script : List ℕ) → EachState Conserves (rules (map string_bytes words.now)) (trace (map string_bytes words.now) script) }

@@ -4,7 +4,7 @@ use Rattle.ic_options.specs.Options.{options_of}
 use Rattle.std.specs.Prelude.{unwrap_or}
 use Rattle.ic_host.proofs.Keeps.{rules_keep}
 use Rattle.ic_host.proofs.Traces.{trace_is_run}
-use Rattle.ic_host.proofs.Promises.{each_trap, each_placed_once, each_conserves}
+use Rattle.ic_host.proofs.Promises.{each_trap, each_refusal, each_placed_once, each_answered, each_done, each_conserves}
 use Rattle.ic_host.proofs.top.replica.Goals as goal
 
 pub returns-clause-run : goal.returns-clause-run
@@ -18,3 +18,12 @@ returns-clause-placed_once g c = λ script. each_placed_once _ (rules_keep (unwr
 
 pub returns-clause-cycles : goal.returns-clause-cycles
 returns-clause-cycles g c = λ script. each_conserves _ (rules_keep (unwrap_or (options_of (map string_bytes c.args.words.now)) default_options)) _ (trace_is_run _ script)
+
+pub returns-clause-refused : goal.returns-clause-refused
+returns-clause-refused g c = λ script. each_refusal (unwrap_or (options_of (map string_bytes c.args.words.now)) default_options) _
+
+pub returns-clause-answered_once : goal.returns-clause-answered_once
+returns-clause-answered_once g c = λ script. each_answered _ (rules_keep (unwrap_or (options_of (map string_bytes c.args.words.now)) default_options)) _ (trace_is_run _ script)
+
+pub returns-clause-drained : goal.returns-clause-drained
+returns-clause-drained g c = λ script. each_done _ (rules_keep (unwrap_or (options_of (map string_bytes c.args.words.now)) default_options)) _ (trace_is_run _ script)
