@@ -1,0 +1,6 @@
+//! Tests of state trees, root hashes and request ids, beside their crate: a crate with tests of its
+//! own is proved twice.
+#![tactic(auto)]
+
+#[cfg(test)]
+mod tests;
