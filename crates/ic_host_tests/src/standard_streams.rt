@@ -100,7 +100,7 @@ fn is_flushed<R: Threads + Sync + AllocGlobal>(rt: &R) -> bool {
     let mut noted = Vec::new(rt.alloc());
     let status = run_flushed(rt, &mut noted);
     let printed =
-        b"accepted 0\n|answer 0 rejected 3 \"no canister aaaaa-aa\"\n{\"burned\":\"0\",\"canisters\":[],\"created\":\"0\",\"held\":\"0\",\"messages\":0,\"time\":\"0\"}\nroot 572c25a5241408957392168b30671bb36f9d3bb684a8b934c7b4986d0f1e7022\n|";
+        b"accepted 0\n|answer 0 rejected 5 \"no such management method\"\n{\"burned\":\"0\",\"canisters\":[],\"created\":\"0\",\"held\":\"0\",\"messages\":0,\"time\":\"0\"}\nroot 5bcc8353983760a82cf03a04ef225c8f903c400ddaca7f1b4ddf5637b3eb5efb\n|";
     status == Status::Done && noted.as_slice() == printed.as_slice()
 }
 

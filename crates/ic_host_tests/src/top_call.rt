@@ -36,8 +36,8 @@ static RUNS: [Run<'static>; 22] = [
     Run {
         script: &[("call 2vxsx-fae aaaaa-aa hello -", 1)],
         pieces: &SIZES,
-        printed: b"accepted 0\nanswer 0 rejected 3 \"no canister aaaaa-aa\"\n",
-        end: b"{\"burned\":\"0\",\"canisters\":[],\"created\":\"0\",\"held\":\"0\",\"messages\":0,\"time\":\"0\"}\nroot 572c25a5241408957392168b30671bb36f9d3bb684a8b934c7b4986d0f1e7022\n",
+        printed: b"accepted 0\nanswer 0 rejected 5 \"no such management method\"\n",
+        end: b"{\"burned\":\"0\",\"canisters\":[],\"created\":\"0\",\"held\":\"0\",\"messages\":0,\"time\":\"0\"}\nroot 5bcc8353983760a82cf03a04ef225c8f903c400ddaca7f1b4ddf5637b3eb5efb\n",
         ..NOTHING
     },
     Run {
@@ -46,8 +46,8 @@ static RUNS: [Run<'static>; 22] = [
             1,
         )],
         pieces: &SIZES,
-        printed: b"accepted 0\naccepted 1\nanswer 0 rejected 3 \"no canister aaaaa-aa\"\nanswer 1 rejected 3 \"no canister 2vxsx-fae\"\n",
-        end: b"{\"burned\":\"0\",\"canisters\":[],\"created\":\"0\",\"held\":\"0\",\"messages\":0,\"time\":\"0\"}\nroot 312d3774097a5d4378a956864ec8a6bb6ea3f90d73ed7595fa35392e071f5fe7\n",
+        printed: b"accepted 0\naccepted 1\nanswer 0 rejected 5 \"no such management method\"\nanswer 1 rejected 3 \"no canister 2vxsx-fae\"\n",
+        end: b"{\"burned\":\"0\",\"canisters\":[],\"created\":\"0\",\"held\":\"0\",\"messages\":0,\"time\":\"0\"}\nroot 612ae6ba56e8689ed445e001f4aa96948891d3f11dd0e9fcfd6de9922eca71c7\n",
         ..NOTHING
     },
     Run {
@@ -121,8 +121,8 @@ static RUNS: [Run<'static>; 22] = [
             ("run 0\nrun 1\ndrain\n", 1),
         ],
         pieces: &SIZES,
-        printed: b"accepted 0\naccepted 1\nran 0 left 2\nran 1 left 0\nran 0 left 0\nanswer 0 rejected 3 \"no canister aaaaa-aa\"\nanswer 1 rejected 3 \"no canister aaaaa-aa\"\n",
-        end: b"{\"burned\":\"0\",\"canisters\":[],\"created\":\"0\",\"held\":\"0\",\"messages\":0,\"time\":\"0\"}\nroot a4576f2fcc56d128677e26e4a425fc6c06cdc9313c8eeb248908cf83dacf8a97\n",
+        printed: b"accepted 0\naccepted 1\nran 0 left 2\nran 1 left 0\nran 0 left 0\nanswer 0 rejected 5 \"no such management method\"\nanswer 1 rejected 5 \"no such management method\"\n",
+        end: b"{\"burned\":\"0\",\"canisters\":[],\"created\":\"0\",\"held\":\"0\",\"messages\":0,\"time\":\"0\"}\nroot 1b34bd284e913248c73c48869ff45b283201475168cbe88f012b2e83e3b18bee\n",
         ..NOTHING
     },
     Run {
@@ -164,8 +164,8 @@ static RUNS: [Run<'static>; 22] = [
         words: &["replica", "--workers", "64", "--limit=1", "--rounds", "+1"],
         script: &[("call 2vxsx-fae aaaaa-aa a -\n", 2)],
         pieces: &SIZES,
-        printed: b"accepted 0\naccepted 1\nanswer 0 rejected 3 \"no canister aaaaa-aa\"\nanswer 1 rejected 3 \"no canister aaaaa-aa\"\n",
-        end: b"{\"burned\":\"0\",\"canisters\":[],\"created\":\"0\",\"held\":\"0\",\"messages\":0,\"time\":\"0\"}\nroot a4576f2fcc56d128677e26e4a425fc6c06cdc9313c8eeb248908cf83dacf8a97\n",
+        printed: b"accepted 0\naccepted 1\nanswer 0 rejected 5 \"no such management method\"\nanswer 1 rejected 5 \"no such management method\"\n",
+        end: b"{\"burned\":\"0\",\"canisters\":[],\"created\":\"0\",\"held\":\"0\",\"messages\":0,\"time\":\"0\"}\nroot 1b34bd284e913248c73c48869ff45b283201475168cbe88f012b2e83e3b18bee\n",
         ..NOTHING
     },
     Run {
@@ -235,8 +235,8 @@ static LONG: [Run<'static>; 8] = [
             ("0", 4_194_304),
             ("\n", 1),
         ],
-        printed: b"accepted 0\nanswer 0 rejected 3 \"no canister aaaaa-aa\"\n",
-        end: b"{\"burned\":\"0\",\"canisters\":[],\"created\":\"0\",\"held\":\"0\",\"messages\":0,\"time\":\"0\"}\nroot 25afa7fad4d3e5799f7ee25cd1f8728f5b0a2b46c6061bfbd27a87df9aabdde1\n",
+        printed: b"accepted 0\nanswer 0 rejected 5 \"no such management method\"\n",
+        end: b"{\"burned\":\"0\",\"canisters\":[],\"created\":\"0\",\"held\":\"0\",\"messages\":0,\"time\":\"0\"}\nroot ae7cd9e60d1c35250c66aa6d8d3ca3da4235e3ff42e3a9abaa28fc57e6d4e920\n",
         ..NOTHING
     },
     Run {
