@@ -1,0 +1,12 @@
+pub mod Roots
+pub mod Labels
+pub mod Cuts
+pub mod Kept
+pub mod Numbers
+pub mod Trees
+pub mod Scans
+pub mod Neighbors
+pub mod StateOrder
+pub mod Depths
+pub mod Orders
+pub mod StateSays

@@ -1,0 +1,11 @@
+pub mod Nodes
+pub mod At
+pub mod Prune
+pub mod Whole
+pub mod Cbor
+pub mod ReadCbor
+pub mod Reads
+pub mod Walks
+pub mod Needed
+pub mod Witness
+pub mod Table
