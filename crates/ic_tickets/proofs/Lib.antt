@@ -1,0 +1,5 @@
+pub mod Lists
+pub mod Steps
+pub mod Opens
+pub mod Draws
+pub mod Closes
