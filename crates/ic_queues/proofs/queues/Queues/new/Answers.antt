@@ -1,0 +1,12 @@
+use Rattle.ic_queues.proofs.Outsides.{NewEnd, new_end}
+use Rattle.ic_queues.proofs.queues.Queues.new.Goals as goal
+
+ends : (c : goal.After-new-2) → NewEnd c.args.canisters.items c.in_ok-empty_lines.field-0.entries c.new.result.entries c.new-2.result
+ends c =
+    new_end c.args.canisters.items c.in_ok-empty_lines.field-0.entries c.new.result.entries c.new-2.result c.requires.rising c.in_ok-empty_lines.ensures c.new.ensures.empty c.new-2.ensures
+
+pub invariant_of-result : goal.invariant_of-result
+invariant_of-result c = (ends c).queued
+
+pub returns : goal.returns
+returns c = (ends c).queues

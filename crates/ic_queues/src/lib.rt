@@ -1,0 +1,12 @@
+//! Messages under way, in queues: one for each canister, and one for messages to no canister.
+//!
+//! The messages stand under numbers that rise, so they are the list of the abstract state in its order
+//! (`specs/Queued`), and a queue has the numbers of its messages. To put a message in or to take one out
+//! touches no other message. Contracts see the list.
+#![tactic(auto)]
+
+mod gathered;
+mod line;
+mod queues;
+
+pub use queues::Queues;

@@ -1,0 +1,54 @@
+ghost use Rattle.std.specs.Prelude.{◌≡◌, ◌++◌, ◌∷◌, [], drop, slice_get, OnOk};
+
+use ic_base::NoMemory;
+use std::alloc::Global;
+use std::collections::VecDeque;
+use std::marker::Model;
+
+/// The numbers of the messages that wait in one queue, the first one first. Contracts see the list.
+#[derive(Debug, Drop)]
+pub struct Line {
+    numbers: VecDeque<u64>,
+}
+
+impl Model for Line {
+    ghost use Rattle.std.specs.Prelude.{ℕ, List};
+
+    ghost Value = { List ℕ };
+
+    ghost view = { λ l. l.numbers.items };
+}
+
+impl Line {
+    /// No number.
+    pub fn new(alloc: Global) -> Line
+        ensures { result ≡ [] }
+    {
+        Line {
+            numbers: VecDeque::new(alloc),
+        }
+    }
+
+    /// Puts a number behind the others.
+    pub fn push(&mut self, number: u64) -> Result<(), NoMemory>
+        ensures { OnOk result (self.new ≡ self.old ++ number ∷ []) }
+    {
+        self.numbers.push_back(number)?;
+        Ok(())
+    }
+
+    /// Takes the first number.
+    pub fn pop(&mut self) -> Option<u64>
+        ensures first { result ≡ slice_get self.old 0 }
+        ensures rest { self.new ≡ drop 1 self.old }
+    {
+        self.numbers.pop_front()
+    }
+
+    /// The numbers.
+    pub fn open(self) -> VecDeque<u64>
+        ensures { result.items ≡ self }
+    {
+        self.numbers
+    }
+}
