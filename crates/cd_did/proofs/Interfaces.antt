@@ -35,7 +35,7 @@ use Rattle.cd_did.proofs.Tables.{Whole, made_table, target_inside, all_wider}
 abbrev Row : Type 0
 Row = List ℕ × Part
 
-known : (file : File) (ends : List ℕ) → HasEnded file ends → Known file.definitions ends
+pub known : (file : File) (ends : List ℕ) → HasEnded file ends → Known file.definitions ends
 known file ends has = record { apart = apart file.definitions has.0.0.0.1; bound = all_bound file has.0.0.1; has = has.1; none = has.2 }
 
 -- ---- three tests are one
@@ -66,7 +66,7 @@ definitions_fine file (d ∷ defs) a b c =
     rw (x.0, y.0, z.0, definitions_fine file defs x.1 y.1 z.1) refl
 
 -- the tests of all parts of a file
-parts_of_all : (test : Part → Bool) (file : File) → all_parts test file ≡ true → (list_all (λ w. list_all test (parts_of w)) file.types ≡ true) × (list_all (λ d. test d.1) file.definitions ≡ true) × (all_in_main test file.main ≡ true)
+pub parts_of_all : (test : Part → Bool) (file : File) → all_parts test file ≡ true → (list_all (λ w. list_all test (parts_of w)) file.types ≡ true) × (list_all (λ d. test d.1) file.definitions ≡ true) × (all_in_main test file.main ≡ true)
 parts_of_all test file e =
     let x = both_true (list_all (λ w. list_all test (parts_of w)) file.types) (list_all (λ (d : Row). test d.1) file.definitions && all_in_main test file.main) e in
     let y = both_true (list_all (λ (d : Row). test d.1) file.definitions) (all_in_main test file.main) x.1 in
@@ -142,7 +142,7 @@ one_formed file ends known (Var cases) bound shaped = shaped
 one_formed file ends known (Func args results notes) bound shaped = tt
 one_formed file ends known (Service methods) bound shaped = (shaped.0, are_methods file ends known methods bound shaped.1)
 
-bound_at : (file : File) → HasTypes file → (i : ℕ) (w : Written) → slice_get file.types i ≡ Some w → list_all (is_bound file.definitions) (parts_of w) ≡ true
+pub bound_at : (file : File) → HasTypes file → (i : ℕ) (w : Written) → slice_get file.types i ≡ Some w → list_all (is_bound file.definitions) (parts_of w) ≡ true
 bound_at file has i w at = test_at (λ x. list_all (is_bound file.definitions) (parts_of x)) file.types i w (parts_of_all (is_bound file.definitions) file has.0.1).0 at
 
 pub all_formed : (file : File) (ends : List ℕ) → HasEnded file ends → AreShaped file → AllFormed file ends
@@ -162,7 +162,7 @@ main_served file ends known (Some main) bound e = decided_is is_service file end
 pub all_served : (file : File) (ends : List ℕ) → HasEnded file ends → AreShaped file → is_served file ends file.main ≡ true
 all_served file ends has shaped = served_main file ends (known file ends has) file.main (parts_of_all (is_bound file.definitions) file has.0.0.1).2 shaped.1
 
-all_shaped : (file : File) (ends : List ℕ) → HasEnded file ends → AllFormed file ends → is_served file ends file.main ≡ true → AreShaped file
+pub all_shaped : (file : File) (ends : List ℕ) → HasEnded file ends → AllFormed file ends → is_served file ends file.main ≡ true → AreShaped file
 all_shaped file ends has formed served = (
   there_each (IsShaped file) file.types (λ i w at. one_shaped file ends (known file ends has) w (bound_at file has.0 i w at) (formed i w at)),
   main_served file ends (known file ends has) file.main (parts_of_all (is_bound file.definitions) file has.0.0.1).2 served,

@@ -9,3 +9,7 @@ pub mod SettledLemmas
 pub mod Tables
 pub mod MadeLemmas
 pub mod Interfaces
+pub mod InOrder
+pub mod RowOrder
+pub mod Decided
+pub mod Said

@@ -57,14 +57,14 @@ flips x y = elim (true_or_false (bytes_eq x y)) [
 
 -- ---- names that rise differ
 
-abbrev Behind : List ℕ → List (List ℕ) → Type 0
+abbrev pub Behind : List ℕ → List (List ℕ) → Type 0
 Behind x ys = AllByRecursion (λ y. cmp x y ≡ Less) ys
 
 behind_more : (x y : List ℕ) (ys : List (List ℕ)) → cmp x y ≡ Less → Behind y ys → Behind x ys
 behind_more x y [] less behind = tt
 behind_more x y (z ∷ ys) less behind = (nat_list_cmp_total.trans x y z less behind.0, behind_more x y ys less behind.1)
 
-rise_behind : (last : List ℕ) (ys : List (List ℕ)) → names_rise_after last ys ≡ true → Behind last ys
+pub rise_behind : (last : List ℕ) (ys : List (List ℕ)) → names_rise_after last ys ≡ true → Behind last ys
 rise_behind last [] e = tt
 rise_behind last (y ∷ ys) e =
     let parts = both_true (is_lt (cmp last y) && is_utf8 y) (names_rise_after y ys) e in

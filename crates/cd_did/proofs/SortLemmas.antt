@@ -23,14 +23,14 @@ abbrev ids : List Row → List ℕ
 ids rows = map (λ (r : Row). r.0) rows
 
 -- each is at least so large
-abbrev Above : ℕ → List ℕ → Type 0
+abbrev pub Above : ℕ → List ℕ → Type 0
 Above least xs = AllByRecursion (λ x. least ≤ x) xs
 
 above_less : (less least : ℕ) (xs : List ℕ) → less ≤ least → Above least xs → Above less xs
 above_less less least [] le above = tt
 above_less less least (x ∷ xs) le above = (omega (arith, le, above.0), above_less less least xs le above.1)
 
-rise_above : (least : ℕ) (xs : List ℕ) → ids_rise_from least xs ≡ true → Above least xs
+pub rise_above : (least : ℕ) (xs : List ℕ) → ids_rise_from least xs ≡ true → Above least xs
 rise_above least [] e = tt
 rise_above least (x ∷ xs) e =
     let parts = both_true (nat_le least x && nat_lt x (2 ^ 32)) (ids_rise_from (suc x) xs) e in
@@ -60,7 +60,7 @@ pub sorted_distinct : (rows sorted : List (ℕ × TyRef)) → AreSorted rows sor
 sorted_distinct rows sorted are =
     IsDistinct-IsPermutation nat_eq flips (ids sorted) (ids rows) (IsPermutation-sym (ids rows) (ids sorted) (IsPermutation-map (λ (r : Row). r.0) rows sorted are.0)) (rise_distinct 0 (ids sorted) are.1)
 
-head_apart : (x : ℕ) (xs : List ℕ) → IsDistinct nat_eq (x ∷ xs) → AllByRecursion (λ y. nat_eq x y ≡ false) xs × IsDistinct nat_eq xs
+pub head_apart : (x : ℕ) (xs : List ℕ) → IsDistinct nat_eq (x ∷ xs) → AllByRecursion (λ y. nat_eq x y ≡ false) xs × IsDistinct nat_eq xs
 unfolding IsDistinct
 head_apart x xs d = d
 

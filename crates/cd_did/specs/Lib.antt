@@ -10,3 +10,4 @@ pub mod Sorted
 pub mod Entries
 pub mod Formed
 pub mod Interfaces
+pub mod InterfaceOf

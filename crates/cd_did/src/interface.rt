@@ -4,6 +4,7 @@ ghost use Rattle.cd_grammar.specs.Grammar.{IsFile};
 ghost use Rattle.cd_did.specs.Answers.{Answers, TellsOfAFile};
 ghost use Rattle.cd_grammar.specs.Fits.{FitsFile};
 ghost use Rattle.cd_did.specs.Interfaces.{HasEnded, service_at, IsTabled, IsWithin};
+ghost use Rattle.cd_did.specs.InterfaceOf.{interface_of as made_of, interface_in, IsAnswer};
 
 use crate::entries::{entries_of, is_served};
 use crate::fault::{DidFault, Interface};
@@ -47,6 +48,7 @@ fn interface_with(
     requires ended { HasEnded file.now ends.now }
     requires fits { FitsFile file.now }
     ensures answers { Answers file.now result }
+    ensures made { IfOk result (λ interface. interface ≡ made_of file.now) }
     ensures within { IfOk result IsWithin }
 {
     if !is_served(file, names, ends) {
@@ -65,6 +67,7 @@ fn interface_named(alloc: Global, file: &File, names: &Names<'_>) -> Result<Inte
     requires few { length file.now.definitions < 2 ^ 32 }
     requires fits { FitsFile file.now }
     ensures answers { Answers file.now result }
+    ensures made { IfOk result (λ interface. interface ≡ made_of file.now) }
     ensures within { IfOk result IsWithin }
 {
     match settled(alloc, file, names) {
@@ -78,6 +81,7 @@ fn interface_of(alloc: Global, file: &File) -> Result<Interface, DidFault>
     requires few { length file.now.definitions < 2 ^ 32 }
     requires fits { FitsFile file.now }
     ensures answers { Answers file.now result }
+    ensures made { IfOk result (λ interface. interface ≡ made_of file.now) }
     ensures within { IfOk result IsWithin }
 {
     match Names::of(alloc, &file.definitions) {
@@ -95,6 +99,7 @@ pub fn read_interface(alloc: Global, text: &[u8]) -> Result<Interface, DidFault>
     ensures answers { (file : files.File) → IsFile file text.now → Answers file result }
     // The text is a file, but where the answer is that it is none, or memory ran out.
     ensures file { TellsOfAFile result ((file : files.File) × IsFile file text.now) }
+    ensures said { IsAnswer result (interface_in text.now) }
     ensures within { IfOk result IsWithin }
 {
     match file_of(alloc, text) {

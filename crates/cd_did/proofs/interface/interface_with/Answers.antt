@@ -5,6 +5,7 @@ use Rattle.cd_did.specs.Formed.{AllFormed}
 use Rattle.cd_did.specs.Sorted.{Refuses}
 use Rattle.cd_did.specs.Interfaces.{IsTabled}
 use Rattle.cd_did.proofs.Interfaces.{all_formed, all_served, answered}
+use Rattle.cd_did.proofs.Said.{interface_is}
 use Rattle.cd_did.proofs.interface.interface_with.Goals as goal
 
 pub returns-then-not-is_served-clause-answers : goal.returns-then-not-is_served-clause-answers
@@ -19,6 +20,11 @@ pub returns-in-Ok-clause-answers : goal.returns-in-Ok-clause-answers
 returns-in-Ok-clause-answers c =
     let tabled = subst (λ (s : Option TyRef). IsTabled c.in-Ok.entries.items s c.tabled.result) c.service_of.ensures c.tabled.ensures in
     (answered c.args.file.now c.args.ends.now c.in-Ok.entries.items c.tabled.result c.requires.ended c.requires.fits c.in-Ok.ensures.ok (sym c.is_served.ensures ∙ c.if-not-is_served.false) tabled).0
+
+pub returns-in-Ok-clause-made : goal.returns-in-Ok-clause-made
+returns-in-Ok-clause-made c =
+    let tabled = subst (λ (s : Option TyRef). IsTabled c.in-Ok.entries.items s c.tabled.result) c.service_of.ensures c.tabled.ensures in
+    interface_is c.args.file.now c.args.ends.now c.in-Ok.entries.items c.tabled.result c.requires.ended c.in-Ok.ensures.ok.0 tabled
 
 pub returns-in-Ok-clause-within : goal.returns-in-Ok-clause-within
 returns-in-Ok-clause-within c =
