@@ -8,10 +8,6 @@ mod Runs
 mod Unprinted
 mod PieceBounds
 mod Streams
-mod ExpectedTypes
-mod Refused
-mod DecodePrints
-mod Encodings
 mod Keeps
 mod Traces
 mod Promises

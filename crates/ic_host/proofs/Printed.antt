@@ -5,7 +5,7 @@ use Rattle.ic_behaviour.specs.declared.request.Request.{Request}
 use Rattle.ic_host.specs.EndPart.{answers_from}
 use Rattle.ic_host.specs.Sending.{Taken, Sent, Interrupts, Gathers}
 use Rattle.ic_host.specs.declared.status.Status.{Status}
-use Rattle.ic_host.specs.Texts.{answer_text}
+use Rattle.ic_printed.specs.Texts.{answer_text}
 use Rattle.ic_host.proofs.SendLaws.{Sent-nil, Sent-append, Interrupts-after, Interrupts-more}
 
 -- the answers before a number were sent behind what was gathered at first, but for what is gathered now

@@ -6,11 +6,11 @@ use Rattle.ic_outside.specs.Limits.{Limits, Excess, LongLine, LongScript, script
 use Rattle.ic_outside.specs.Pieces.{pieces, line_of}
 use Rattle.ic_script.specs.Line.{command_of}
 use Rattle.ic_script.specs.declared.Command.{Command}
-use Rattle.ic_script.specs.declared.Command.TheVariants.{Nothing, Call, Query, Run, Drain, Time, Decode, Show, Encode}
+use Rattle.ic_script.specs.declared.Command.TheVariants.{Nothing, Call, Query, Run, Drain, Time, Decode, Show, Encode, Upgradable, Witness, Pick}
 use Rattle.ic_script.specs.declared.Command.TheVariants as kind
 use Rattle.ic_script.specs.declared.LineCause.{LineCause}
 use Rattle.ic_script.specs.declared.LineCause.TheVariants.{Back, Calls}
-use Rattle.ic_script.proofs.Times.{time_of_line}
+use Rattle.ic_script.proofs.Ranges.{time_of_line}
 use Rattle.ic_behaviour.specs.State.{State}
 use Rattle.ic_behaviour.specs.Sound.{Sound}
 use Rattle.ic_behaviour.specs.Submitted.{empty}
@@ -50,6 +50,9 @@ command_allowed options s kind.State sound within now = tt
 command_allowed options s (Decode expected bytes) sound within now = tt
 command_allowed options s (Show expected bytes) sound within now = tt
 command_allowed options s (Encode expected text) sound within now = tt
+command_allowed options s (Upgradable from to) sound within now = tt
+command_allowed options s (Witness paths) sound within now = tt
+command_allowed options s (Pick place) sound within now = tt
 command_allowed options s (Call ask) sound within now = by (accepts_now options s ask) where
   by : (b : Bool) → AreAllowed IsEligible (rules_of options) s (cond b (Submits ask.sender ask.callee ask.method ask.arg ∷ []) [])
   by true = (

@@ -16,7 +16,7 @@ use Rattle.ic_host.specs.EndPart.{end_part}
 use Rattle.ic_host.specs.Out.{Output}
 use Rattle.ic_host.specs.Sending.{Taken, Sent, Interrupts}
 use Rattle.ic_behaviour.specs.State.{State}
-use Rattle.ic_host.specs.Texts.{bad_text}
+use Rattle.ic_printed.specs.Texts.{bad_text}
 use Rattle.ic_host.specs.Walk.{Bad}
 
 -- a step gives what was said, unless memory was wanting

@@ -4,10 +4,10 @@ use Rattle.std.specs.List.{concat}
 use Rattle.std.specs.Map.{lookup}
 use Rattle.ic_script.specs.declared.Ask.{Ask}
 use Rattle.ic_script.specs.declared.Command.{Command}
-use Rattle.ic_script.specs.declared.Command.TheVariants.{Nothing, Call, Query, Run, Drain, Time, Decode, Show, Encode}
+use Rattle.ic_script.specs.declared.Command.TheVariants.{Nothing, Call, Query, Run, Drain, Time, Decode, Show, Encode, Upgradable, Witness, Pick}
 use Rattle.ic_script.specs.declared.Command.TheVariants as kind
 use Rattle.ic_script.specs.declared.LineCause.{LineCause}
-use Rattle.ic_script.specs.declared.LineCause.TheVariants.{Back, Calls}
+use Rattle.ic_script.specs.declared.LineCause.TheVariants.{Form, Back, Calls}
 use Rattle.ic_behaviour.specs.declared.call.Response.{Response}
 use Rattle.ic_behaviour.specs.State.{at, Canister, State}
 use Rattle.ic_behaviour.specs.Counted.{counted}
@@ -19,9 +19,10 @@ use Rattle.ic_exec.specs.Query.{query_response}
 use Rattle.ic_exec.specs.Inspection.{is_accepted}
 use Rattle.ic_options.specs.declared.Options.{Options}
 use Rattle.ic_host.specs.Options.{rules_of}
-use Rattle.ic_host.specs.Texts.{accepted_text, call_refused_text, query_text, ran_text, state_line}
-use Rattle.ic_host.specs.Decoding.{decode_text, show_text}
-use Rattle.ic_host.specs.Encoding.{encode_text}
+use Rattle.ic_printed.specs.Texts.{accepted_text, call_refused_text, query_text, ran_text, state_line}
+use Rattle.ic_candid_lines.specs.Decoding.{decode_text, show_text}
+use Rattle.ic_candid_lines.specs.Encoding.{encode_text}
+use Rattle.ic_candid_lines.specs.Upgrading.{upgrade_text}
 
 -- ---- rounds
 
@@ -74,6 +75,9 @@ acts_of options s kind.State = []
 acts_of options s (Decode expected bytes) = []
 acts_of options s (Show expected bytes) = []
 acts_of options s (Encode expected text) = []
+acts_of options s (Upgradable from to) = []
+acts_of options s (Witness paths) = []
+acts_of options s (Pick place) = []
 
 -- what a command prints
 abbrev pub text_of : Options → State → Command → List ℕ
@@ -87,8 +91,11 @@ text_of options s kind.State = state_line s
 text_of options s (Decode expected bytes) = decode_text expected bytes
 text_of options s (Show expected bytes) = show_text expected bytes
 text_of options s (Encode expected text) = encode_text expected text
+text_of options s (Upgradable from to) = upgrade_text from to
+text_of options s (Witness paths) = []
+text_of options s (Pick place) = []
 
--- why a command may not come now: 2^20 calls were submitted, or the time would go back
+-- why a command may not come now: 2^20 calls were submitted, or the time would go back; witnesses and picks are not made yet
 abbrev pub fault_of : State → Command → Option LineCause
 fault_of s Nothing = None
 fault_of s (Call ask) = if nat_lt (length s.requests) 1048576 then None else Some Calls
@@ -100,6 +107,9 @@ fault_of s kind.State = None
 fault_of s (Decode expected bytes) = None
 fault_of s (Show expected bytes) = None
 fault_of s (Encode expected text) = None
+fault_of s (Upgradable from to) = None
+fault_of s (Witness paths) = Some Form
+fault_of s (Pick place) = Some Form
 
 abbrev pub unless : {T : Type 0} → Option LineCause → T → Result T LineCause
 unless None done = Ok done

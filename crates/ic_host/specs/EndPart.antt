@@ -4,7 +4,7 @@ use Rattle.ic_behaviour.specs.declared.request.Request.{Request}
 use Rattle.ic_behaviour.specs.State.{State}
 use Rattle.ic_options.specs.declared.Options.{Options}
 use Rattle.ic_host.specs.AfterCommand.{after_rounds}
-use Rattle.ic_host.specs.Texts.{answer_text, calls_line, root_line, state_line}
+use Rattle.ic_printed.specs.Texts.{answer_text, calls_line, closing}
 
 -- the answers to requests, the first of which has this number
 unfoldable pub answers_from : ℕ → List Request → List ℕ
@@ -14,10 +14,6 @@ answers_from number (request ∷ requests) = answer_text number request.answer +
 -- the state after the rounds that are made at the end
 abbrev pub end_state : Options → State → State
 end_state options state = after_rounds options options.rounds state
-
--- what is printed last: the state, and the root hash of its tree
-abbrev pub closing : State → List ℕ
-closing state = state_line state ++ root_line state
 
 -- rounds are made, and then each call's answer is printed, in order, and the state
 abbrev pub end_part : Options → State → List ℕ

@@ -1,8 +1,5 @@
 pub mod Status
 pub mod Options
-pub mod Texts
-pub mod Decoding
-pub mod Encoding
 pub mod AfterCommand
 pub mod AfterLine
 pub mod Walk

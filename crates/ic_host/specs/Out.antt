@@ -7,7 +7,7 @@ use Rattle.ic_host.specs.EndPart.{end_part, short_end_part}
 use Rattle.ic_options.specs.Options.{options_of, usage_text}
 use Rattle.ic_host.specs.Script.{script_for, walk_of}
 use Rattle.ic_behaviour.specs.State.{State}
-use Rattle.ic_host.specs.Texts.{bad_text}
+use Rattle.ic_printed.specs.Texts.{bad_text}
 use Rattle.ic_host.specs.Walk.{Bad, Walk}
 
 -- what is printed, and the status

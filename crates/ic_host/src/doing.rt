@@ -1,4 +1,4 @@
-ghost use Rattle.std.specs.Prelude.{◌≡◌, ◌<◌, ◌≤◌, ℕ, [], length, Ok, IfOk};
+ghost use Rattle.std.specs.Prelude.{◌≡◌, ◌<◌, ◌≤◌, ℕ, List, [], length, Ok, IfOk};
 ghost use Rattle.ic_behaviour.specs.Submitted.{submitted, timed};
 ghost use Rattle.ic_runs.specs.Round.{rounds};
 ghost use Rattle.ic_behaviour.specs.Entry.{enters_by};
@@ -10,22 +10,21 @@ ghost use Rattle.ic_state.specs.Seen.{seen, state_of};
 ghost use Rattle.ic_host.specs.Acts.{Acts};
 ghost use Rattle.ic_host.specs.AfterLine.{after_line};
 ghost use Rattle.ic_host.specs.AfterCommand.{after_command, after_rounds, text_of_rounds, answer_now, accepts_now, fault_of, unless};
-ghost use Rattle.ic_host.specs.Decoding.{decode_text, show_text};
-ghost use Rattle.ic_host.specs.Encoding.{encode_text};
+ghost use Rattle.ic_candid_lines.specs.Decoding.{decode_text, show_text};
+ghost use Rattle.ic_candid_lines.specs.Encoding.{encode_text};
+ghost use Rattle.ic_candid_lines.specs.Upgrading.{upgrade_text};
 ghost use Rattle.ic_host.specs.Options.{rules_of};
 ghost use Rattle.ic_options.specs.Options.{HasBounds};
-ghost use Rattle.ic_host.specs.Texts.{accepted_text, query_text, call_refused_text, state_line};
+ghost use Rattle.ic_printed.specs.Texts.{accepted_text, query_text, call_refused_text, state_line};
 
-use crate::closing::state_line;
-use crate::decoding::{decode_text, show_text};
-use crate::encoding::encode_text;
-use crate::texts::{accepted_text, call_refused_text, query_text, ran_text};
 use ic_base::NoMemory as WantOfMemory;
 use ic_calls::no_canister;
+use ic_candid_lines::{decode_text, encode_text, show_text, upgrade_text};
 use ic_exec::{inspect, inspects, query};
 use ic_options::Options;
 use ic_outside::Gate;
 use ic_principal::Bytes;
+use ic_printed::{accepted_text, call_refused_text, query_text, ran_text, state_line};
 use ic_round::run_rounds;
 use ic_script::{Ask, Command, LineCause, LineError, parse_line};
 use ic_state::{Canister, Env, Parts, Response, World};
@@ -102,6 +101,8 @@ fn do_command<G: Gate + Sync>(
 ) -> Result<(World, Bytes), NotDone>
     requires within { HasBounds options.now }
     requires time { (time : ℕ) → command ≡ Command.Time time → time ≤ 9223372036854775807 }
+    requires size { (from to : List ℕ) → command ≡ Command.Upgradable from to
+        → (length from ≤ 2097152) × (length to ≤ 2097152) }
     ensures { Acts (after_command options.now world command) result }
 {
     match command {
@@ -120,6 +121,9 @@ fn do_command<G: Gate + Sync>(
         Command::Decode { expected, bytes } => decode(alloc, world, &expected, &bytes),
         Command::Show { expected, bytes } => show(alloc, world, &expected, &bytes),
         Command::Encode { expected, text } => encode(alloc, world, &expected, &text),
+        Command::Upgradable { from, to } => upgrade(alloc, world, &from, &to),
+        Command::Witness(_) => Err(NotDone::Bad(LineCause::Form)),
+        Command::Pick(_) => Err(NotDone::Bad(LineCause::Form)),
     }
 }
 
@@ -377,6 +381,17 @@ fn encode(
 {
     match encode_text(alloc, &expected.items, &text.items) {
         Ok(printed) => Ok((world, printed)),
+        Err(_) => Err(NotDone::NoMemory),
+    }
+}
+
+fn upgrade(alloc: Global, world: World, from: &Bytes, to: &Bytes) -> Result<(World, Bytes), NotDone>
+    requires from { length from.now ≤ 2097152 }
+    requires to { length to.now ≤ 2097152 }
+    ensures { Acts (Ok (world, upgrade_text from.now to.now)) result }
+{
+    match upgrade_text(alloc, &from.items, &to.items) {
+        Ok(text) => Ok((world, text)),
         Err(_) => Err(NotDone::NoMemory),
     }
 }

@@ -1,20 +1,19 @@
 ghost use Rattle.std.specs.Prelude.{◌≡◌, ◌++◌, IfOk};
 ghost use Rattle.ic_behaviour.specs.declared.request.Request.{Request as SomeRequest};
 ghost use Rattle.ic_host.specs.Acts.{Concludes, behind_gathered, end_output};
-ghost use Rattle.ic_host.specs.EndPart.{answers_from, closing, end_state, short_end_part};
+ghost use Rattle.ic_host.specs.EndPart.{answers_from, end_state, short_end_part};
 ghost use Rattle.ic_host.specs.Sending.{Gathers, sink_at};
-ghost use Rattle.ic_host.specs.Texts.{calls_line};
+ghost use Rattle.ic_printed.specs.Texts.{calls_line, closing};
 ghost use Rattle.ic_options.specs.Options.{HasBounds};
 
-use crate::closing::{closing, summary};
 use crate::doing::run_rounds_by;
 use crate::gathered::Gathered;
 use crate::printing::print_last;
 use crate::status::Status;
-use crate::texts::answer_text;
 use ic_base::NoMemory;
 use ic_options::Options;
 use ic_outside::{Gate, Sink};
+use ic_printed::{answer_text, closing, summary};
 use ic_state::{Request, World};
 use std::alloc::Global;
 

@@ -8,18 +8,14 @@
 //! (`specs/Headline.antt`).
 #![tactic(auto)]
 
-mod closing;
-mod decoding;
 mod doing;
-mod encoding;
 mod ending;
 mod gathered;
 mod generated;
-pub mod laws;
 mod printing;
 mod status;
-mod texts;
 mod top;
 
+pub use ic_candid_lines::laws;
 pub use status::Status;
 pub use top::replica;

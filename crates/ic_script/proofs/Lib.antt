@@ -1,3 +1,4 @@
 mod Text
 mod Numbers
-pub mod Times
+mod Each
+pub mod Ranges

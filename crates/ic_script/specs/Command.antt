@@ -6,16 +6,12 @@ use Rattle.ic_principal.specs.Text.{principal_of}
 use Rattle.hex.specs.Hex.{decode_of}
 use Rattle.ic_script.specs.declared.command.Ask.{Ask}
 use Rattle.ic_script.specs.declared.command.Command.{Command}
-use Rattle.ic_script.specs.declared.command.Command.TheVariants.{Call, Query, Run, Drain, Time, State, Decode, Show, Encode}
+use Rattle.ic_script.specs.declared.command.Command.TheVariants.{Call, Query, Run, Drain, Time, State, Decode, Show, Encode, Upgradable, Witness, Pick}
 use Rattle.ic_script.specs.declared.line_cause.LineCause.{LineCause}
 use Rattle.ic_script.specs.declared.line_cause.LineCause.TheVariants.{Form, Principal, Hex, Number, Size}
+use Rattle.ic_script.specs.Steps.{◌>>=◌}
 use Rattle.ic_script.specs.Words.{is_numeral}
-
--- the second step, where the first has no cause
-infixl 10 ◌>>=◌
-abbrev pub ◌>>=◌ : {A B : Type 0} → Result A LineCause → (A → Result B LineCause) → Result B LineCause
-Ok value >>= step = step value
-Err cause >>= step = Err cause
+use Rattle.ic_script.specs.Paths.{are_few, paths_word}
 
 -- the principal that a word names
 abbrev pub principal_word : List ℕ → Result (List ℕ) LineCause
@@ -43,16 +39,26 @@ ask_of (sender ∷ callee ∷ method ∷ arg ∷ []) =
     Ok (record { sender = from; callee = to; method = method; arg = bytes }))
 ask_of _ = Err Form
 
--- what is read at expected types, in two words: what gives the types, and what is read
-unfoldable pub typed_bytes : List (List ℕ) → Result (List ℕ × List ℕ) LineCause
-typed_bytes (expected ∷ read ∷ []) =
-    bytes_word expected >>= λ types. bytes_word read >>= λ bytes. Ok (types, bytes)
-typed_bytes _ = Err Form
+-- bytes in two words
+unfoldable pub bytes_pair : List (List ℕ) → Result (List ℕ × List ℕ) LineCause
+bytes_pair (first ∷ second ∷ []) =
+    bytes_word first >>= λ one. bytes_word second >>= λ other. Ok (one, other)
+bytes_pair _ = Err Form
 
 -- up to so many rounds
 unfoldable pub run_command : List (List ℕ) → Result Command LineCause
 run_command (count ∷ []) = number_word 1000000 count >>= λ n. Ok (Run n)
 run_command _ = Err Form
+
+-- the delivery of the message at a place
+unfoldable pub pick_command : List (List ℕ) → Result Command LineCause
+pick_command (place ∷ []) = number_word 1000000 place >>= λ n. Ok (Pick n)
+pick_command _ = Err Form
+
+-- what proves the state at some paths: not too many, which is looked at before their digits are
+unfoldable pub witness_command : List (List ℕ) → Result Command LineCause
+witness_command (paths ∷ []) = if are_few paths then (paths_word paths >>= λ ps. Ok (Witness ps)) else Err Form
+witness_command _ = Err Form
 
 -- a command without further words
 abbrev pub alone : Command → List (List ℕ) → Result Command LineCause
@@ -74,7 +80,10 @@ command_of_words (verb ∷ words) =
     else if bytes_eq verb (codes "drain") then alone Drain words
     else if bytes_eq verb (codes "time") then time_command words
     else if bytes_eq verb (codes "state") then alone State words
-    else if bytes_eq verb (codes "decode") then (typed_bytes words >>= λ x. Ok (Decode x.0 x.1))
-    else if bytes_eq verb (codes "show") then (typed_bytes words >>= λ x. Ok (Show x.0 x.1))
-    else if bytes_eq verb (codes "encode") then (typed_bytes words >>= λ x. Ok (Encode x.0 x.1))
+    else if bytes_eq verb (codes "decode") then (bytes_pair words >>= λ x. Ok (Decode x.0 x.1))
+    else if bytes_eq verb (codes "show") then (bytes_pair words >>= λ x. Ok (Show x.0 x.1))
+    else if bytes_eq verb (codes "encode") then (bytes_pair words >>= λ x. Ok (Encode x.0 x.1))
+    else if bytes_eq verb (codes "upgradable") then (bytes_pair words >>= λ x. Ok (Upgradable x.0 x.1))
+    else if bytes_eq verb (codes "witness") then witness_command words
+    else if bytes_eq verb (codes "pick") then pick_command words
     else Err Form

@@ -1,4 +1,6 @@
+use ic_path::Path;
 use ic_principal::{Bytes, Principal, Text};
+use std::marker::Model;
 
 /// A request to a canister, as a line spells it.
 #[derive(Debug, Drop)]
@@ -12,6 +14,21 @@ pub struct Ask {
     pub method: Text,
     /// The argument's bytes, which nothing here reads.
     pub arg: Bytes,
+}
+
+/// Paths into a state tree. In a line of a script there are 1 to 64, of 1 to 8 labels each, none of
+/// which is empty. Contracts see the list.
+#[derive(Debug, Drop)]
+pub struct Paths {
+    pub items: Vec<Path>,
+}
+
+impl Model for Paths {
+    ghost use Rattle.std.specs.Prelude.{List, ℕ};
+
+    ghost Value = { List (List (List ℕ)) };
+
+    ghost view = { λ p. p.items.items };
 }
 
 /// What a line asks for.
@@ -39,4 +56,11 @@ pub enum Command {
     /// The text of Candid values that is read at once, and what is to be the header of its
     /// expected types. Neither is looked at yet.
     Encode { expected: Bytes, text: Bytes },
+    /// Whether a canister may be upgraded from one interface to another: two interface files of
+    /// Candid. Neither is looked at yet.
+    Upgradable { from: Bytes, to: Bytes },
+    /// The part of the state tree that proves what stands at these paths.
+    Witness(Paths),
+    /// The delivery of the message at this place of the list, from 0, at most 1,000,000.
+    Pick(u32),
 }

@@ -9,9 +9,10 @@
 mod command;
 mod line_cause;
 mod parse;
+mod paths;
 mod words;
 
-pub use command::{Ask, Command};
+pub use command::{Ask, Command, Paths};
 pub use line_cause::{LineCause, LineError};
 pub use parse::parse_line;
 pub use words::hex_word;

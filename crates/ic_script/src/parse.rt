@@ -1,10 +1,11 @@
-ghost use Rattle.std.specs.Prelude.{◌≡◌, ◌≢◌, ◌≤◌, ◌<◌, ◌^◌, ℕ, Ok, Err, option_copied};
+ghost use Rattle.std.specs.Prelude.{◌≡◌, ◌≢◌, ◌≤◌, ◌<◌, ◌^◌, ℕ, List, length, Ok, Err, option_copied};
 ghost use Rattle.ic_script.specs.Line.{Agrees, command_of, says_nothing};
 ghost use Rattle.ic_script.specs.Words.{words_left};
-ghost use Rattle.ic_script.specs.Command.{ask_of, run_command, alone, time_command, typed_bytes, principal_word, bytes_word, number_word};
+ghost use Rattle.ic_script.specs.Command.{ask_of, run_command, pick_command, alone, time_command, bytes_pair, witness_command, principal_word, bytes_word, number_word};
 
 use crate::command::{Ask, Command};
 use crate::line_cause::LineError;
+use crate::paths::{are_few, paths};
 use crate::words::{first_word, four_words, is_numeral, one_word, two_words, well_formed};
 use hex::FromHexError;
 use ic_principal::{Bytes, Principal, Text};
@@ -16,6 +17,8 @@ const MOST_BYTES: usize = 2_097_152;
 
 const MOST_ROUNDS: u64 = 1_000_000;
 
+const LARGEST_PLACE: u64 = 1_000_000;
+
 const LATEST_TIME: u64 = 9_223_372_036_854_775_807;
 
 /// The command that a line spells, or why it spells none. `bytes` is the line without its line
@@ -24,6 +27,8 @@ const LATEST_TIME: u64 = 9_223_372_036_854_775_807;
 pub fn parse_line(alloc: Global, bytes: &[u8]) -> Result<Command, LineError>
     ensures line { Agrees result (command_of bytes.now) }
     ensures time { (time : ℕ) → command_of bytes.now ≡ Ok (Command.Time time) → time ≤ 9223372036854775807 }
+    ensures size { (from to : List ℕ) → command_of bytes.now ≡ Ok (Command.Upgradable from to)
+        → (length from ≤ 2097152) × (length to ≤ 2097152) }
 {
     if says_nothing(bytes) {
         return Ok(Command::Nothing);
@@ -40,17 +45,23 @@ pub fn parse_line(alloc: Global, bytes: &[u8]) -> Result<Command, LineError>
         "time" => parse_time(operands),
         "state" => parse_alone(operands, Command::State),
         "decode" => {
-            let (expected, bytes) = parse_typed(alloc, operands)?;
+            let (expected, bytes) = parse_pair(alloc, operands)?;
             Ok(Command::Decode { expected, bytes })
         }
         "show" => {
-            let (expected, bytes) = parse_typed(alloc, operands)?;
+            let (expected, bytes) = parse_pair(alloc, operands)?;
             Ok(Command::Show { expected, bytes })
         }
         "encode" => {
-            let (expected, text) = parse_typed(alloc, operands)?;
+            let (expected, text) = parse_pair(alloc, operands)?;
             Ok(Command::Encode { expected, text })
         }
+        "upgradable" => {
+            let (from, to) = parse_pair(alloc, operands)?;
+            Ok(Command::Upgradable { from, to })
+        }
+        "witness" => parse_witness(alloc, operands),
+        "pick" => parse_pick(operands),
         _ => Err(LineError::Form),
     }
 }
@@ -101,6 +112,31 @@ fn parse_run(operands: Option<&str>) -> Result<Command, LineError>
     Ok(Command::Run(number(count, MOST_ROUNDS)? as u32))
 }
 
+/// A place of the list of messages in one word.
+#[tactic(auto, unfolding(crate::specs::Command::pick_command))]
+fn parse_pick(operands: Option<&str>) -> Result<Command, LineError>
+    ensures { Agrees result (pick_command (words_left (option_copied operands.entry))) }
+{
+    let Some(place) = one_word(operands) else {
+        return Err(LineError::Form);
+    };
+    Ok(Command::Pick(number(place, LARGEST_PLACE)? as u32))
+}
+
+/// Paths in one word.
+#[tactic(auto, unfolding(crate::specs::Command::witness_command))]
+fn parse_witness(alloc: Global, operands: Option<&str>) -> Result<Command, LineError>
+    ensures { Agrees result (witness_command (words_left (option_copied operands.entry))) }
+{
+    let Some(word) = one_word(operands) else {
+        return Err(LineError::Form);
+    };
+    if !are_few(word) {
+        return Err(LineError::Form);
+    }
+    Ok(Command::Witness(paths(alloc, word)?))
+}
+
 /// A command without further words.
 fn parse_alone(operands: Option<&str>, command: Command) -> Result<Command, LineError>
     ensures { Agrees result (alone command (words_left (option_copied operands.entry))) }
@@ -122,17 +158,17 @@ fn parse_time(operands: Option<&str>) -> Result<Command, LineError>
     Ok(Command::Time(number(time, LATEST_TIME)?))
 }
 
-/// What gives expected types, and what is read at them, in two words.
-#[tactic(auto, unfolding(crate::specs::Command::typed_bytes))]
-fn parse_typed(alloc: Global, operands: Option<&str>) -> Result<(Bytes, Bytes), LineError>
-    ensures { Agrees result (typed_bytes (words_left (option_copied operands.entry))) }
+/// Bytes in two words.
+#[tactic(auto, unfolding(crate::specs::Command::bytes_pair))]
+fn parse_pair(alloc: Global, operands: Option<&str>) -> Result<(Bytes, Bytes), LineError>
+    ensures { Agrees result (bytes_pair (words_left (option_copied operands.entry))) }
 {
-    let Some((expected, bytes)) = two_words(operands) else {
+    let Some((first, second)) = two_words(operands) else {
         return Err(LineError::Form);
     };
-    let expected = hex_bytes(alloc, expected)?;
-    let bytes = hex_bytes(alloc, bytes)?;
-    Ok((expected, bytes))
+    let first = hex_bytes(alloc, first)?;
+    let second = hex_bytes(alloc, second)?;
+    Ok((first, second))
 }
 
 /// The principal that a word names.

@@ -1,6 +1,6 @@
 use Rattle.std.proofs.Common.{◌≡◌, sym}
 use Rattle.ic_host.specs.Sending.{sink_at}
-use Rattle.ic_host.specs.Texts.{answer_text}
+use Rattle.ic_printed.specs.Texts.{answer_text}
 use Rattle.ic_host.proofs.Printed.{Printed-none, Printed-wanting, Printed-more, Printed-interrupted, Printed-all}
 use Rattle.ic_host.proofs.ending.print_answers.Goals as goal
 

@@ -2,7 +2,8 @@ use Rattle.std.proofs.Common.{◌≡◌, ◌++◌, List, subst, rules}
 use Rattle.ic_behaviour.specs.declared.request.Request.{Request}
 use Rattle.ic_host.specs.declared.status.Status.TheVariants.{Done}
 use Rattle.ic_host.specs.Acts.{Concludes}
-use Rattle.ic_host.specs.EndPart.{answers_from, closing}
+use Rattle.ic_host.specs.EndPart.{answers_from}
+use Rattle.ic_printed.specs.Texts.{closing}
 use Rattle.ic_host.specs.Sending.{sink_at}
 use Rattle.ic_host.proofs.Gathering.{Concludes-behind, Concludes-never}
 use Rattle.ic_host.proofs.ending.print_end.Goals as goal

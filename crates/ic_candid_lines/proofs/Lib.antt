@@ -1,0 +1,5 @@
+mod ExpectedTypes
+mod Refused
+mod DecodePrints
+mod Encodings
+mod Verdicts

@@ -1,0 +1,8 @@
+-- The same step from each, one after the other.
+use Rattle.std.proofs.Common.{List, ◌++◌, Result, Ok}
+use Rattle.ic_script.specs.declared.line_cause.LineCause.{LineCause}
+use Rattle.ic_script.specs.Steps.{◌>>=◌}
+
+-- what was made before, and the rest
+abbrev pub behind : {B : Type 0} → List B → Result (List B) LineCause → Result (List B) LineCause
+behind made rest = rest >>= λ ys. Ok (made ++ ys)
