@@ -1,0 +1,5 @@
+pub mod Eligibles
+pub mod Chains
+mod Puts
+mod Ready
+mod Handings
