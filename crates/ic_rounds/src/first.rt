@@ -5,7 +5,7 @@ ghost use Rattle.ic_runs.specs.Round.{first_phase};
 ghost use Rattle.ic_accounting.specs.System.{system_rules};
 
 use crate::dealt::deal_out;
-use crate::settled::settled;
+use crate::settling::settled;
 use crate::taken::taken_out;
 use ic_base::NoMemory;
 use ic_outside::Gate;

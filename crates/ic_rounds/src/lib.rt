@@ -7,8 +7,11 @@
 
 mod dealt;
 mod first;
-mod settled;
+mod settling;
 mod slot;
 mod taken;
 
+pub use dealt::{Dealt, deal_out};
 pub use first::canister_turns;
+pub use settling::settled;
+pub use slot::Slot;

@@ -5,7 +5,7 @@ use Rattle.std.proofs.lemmas.Iterator.Consumers.{YieldsList-so_far, YieldsList-t
 use Rattle.std.proofs.lemmas.Iterator.Adapters.{YieldsList-from_vec}
 use Rattle.ic_rounds.specs.Settling.{Stored, stored_of, slot_of, ran, settle, IsReady}
 use Rattle.ic_rounds.proofs.Settles.{ready_turn}
-use Rattle.ic_rounds.proofs.settled.settled.Goals as goal
+use Rattle.ic_rounds.proofs.settling.settled.Goals as goal
 
 turn : (c : goal.In-Some)
     → IsReady c.in-Some.slot

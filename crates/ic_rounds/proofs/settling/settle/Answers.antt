@@ -4,7 +4,7 @@ use Rattle.ic_behaviour.specs.Closing.{Handled}
 use Rattle.ic_calls.specs.Sent.{sent_from}
 use Rattle.ic_rounds.specs.Settling.{slot_of, ran}
 use Rattle.ic_rounds.proofs.Settles.{put-is, keep-is}
-use Rattle.ic_rounds.proofs.settled.settle.Goals as goal
+use Rattle.ic_rounds.proofs.settling.settle.Goals as goal
 
 pub returns-clause-stored : goal.returns-clause-stored
 returns-clause-stored c =
