@@ -14,4 +14,6 @@ mod second;
 mod sweep;
 
 pub use managed::manage;
+pub use outside::handle;
+pub use parts::{put_together, taken_apart};
 pub use second::outside_turns;
