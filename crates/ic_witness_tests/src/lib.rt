@@ -1,0 +1,7 @@
+//! Tests of witnesses, beside their crate: a crate with tests of its own is proved twice.
+#![tactic(auto)]
+
+#[cfg(test)]
+mod bytes;
+#[cfg(test)]
+mod trees;
