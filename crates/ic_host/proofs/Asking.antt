@@ -5,7 +5,6 @@ use Rattle.std.specs.List.{AllByRecursion}
 use Rattle.std.specs.Map.{lookup}
 use Rattle.std.specs.BTreeMap.{BTreeMap}
 use Rattle.ic_script.specs.declared.Ask.{Ask}
-use Rattle.ic_behaviour.specs.declared.call.Response.{Response}
 use Rattle.ic_behaviour.specs.State.{at, State}
 use Rattle.ic_behaviour.specs.Counted.{CountedCanister, counted, dropped}
 use Rattle.ic_behaviour.specs.Texts.{no_canister}

@@ -13,3 +13,4 @@ mod Traces
 mod Promises
 mod Asking
 mod Gathering
+mod PickLaws

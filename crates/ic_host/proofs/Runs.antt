@@ -17,7 +17,7 @@ use Rattle.ic_script.specs.declared.LineCause.{LineCause}
 use Rattle.ic_script.specs.declared.LineCause.TheVariants.{LineTooLong, ScriptTooLong}
 use Rattle.ic_options.specs.declared.Options.{Options}
 use Rattle.ic_host.specs.declared.status.Status.{Status}
-use Rattle.ic_host.specs.declared.status.Status.TheVariants.{Done, BadLine, ReadFault, NoMemory}
+use Rattle.ic_host.specs.declared.status.Status.TheVariants.{Done, BadLine, ReadFault}
 use Rattle.ic_host.specs.Acts.{Concludes, Turns, Stops, bad_output, end_output, behind_gathered}
 use Rattle.ic_host.specs.AfterLine.{after_line}
 use Rattle.ic_host.specs.Body.{body, whole_lines}

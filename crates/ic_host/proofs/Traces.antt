@@ -17,8 +17,10 @@ use Rattle.ic_behaviour.specs.Submitted.{empty}
 use Rattle.ic_behaviour.proofs.Ties.{sound as sound_from}
 use Rattle.ic_behaviour.proofs.Changes.{empty_tallied}
 use Rattle.ic_runs.specs.Steps.{IsEligible}
-use Rattle.ic_runs.specs.Runs.{Act, Submits, after, AreAllowed, IsRun}
+use Rattle.ic_runs.specs.Runs.{Delivers, Submits, after, AreAllowed, IsRun}
 use Rattle.ic_runs.proofs.RunLaws.{delivers_allowed, allowed-append}
+use Rattle.ic_schedule.specs.Picks.{is_eligible}
+use Rattle.ic_schedule.proofs.Eligibles.{is-eligible}
 use Rattle.ic_options.specs.declared.Options.{Options}
 use Rattle.ic_host.specs.Options.{rules_of, default_options}
 use Rattle.ic_options.specs.Options.{options_of}
@@ -52,7 +54,10 @@ command_allowed options s (Show expected bytes) sound within now = tt
 command_allowed options s (Encode expected text) sound within now = tt
 command_allowed options s (Upgradable from to) sound within now = tt
 command_allowed options s (Witness paths) sound within now = tt
-command_allowed options s (Pick place) sound within now = tt
+command_allowed options s (Pick place) sound within now = by (is_eligible s place) refl where
+  by : (b : Bool) → is_eligible s place ≡ b → AreAllowed IsEligible (rules_of options) s (cond b (Delivers place ∷ []) [])
+  by true goes = (is-eligible s place goes, tt)
+  by false stays = tt
 command_allowed options s (Call ask) sound within now = by (accepts_now options s ask) where
   by : (b : Bool) → AreAllowed IsEligible (rules_of options) s (cond b (Submits ask.sender ask.callee ask.method ask.arg ∷ []) [])
   by true = (

@@ -6,7 +6,6 @@ use Rattle.ic_outside.specs.Limits.{LongLine, LongScript, script_limits}
 use Rattle.ic_outside.specs.declared.Line.{Line}
 use Rattle.ic_outside.specs.declared.LineFault.{LineFault}
 use Rattle.ic_outside.specs.declared.LineFault.TheVariants as fault
-use Rattle.ic_script.specs.declared.LineCause.{LineCause}
 use Rattle.ic_script.specs.declared.LineCause.TheVariants.{LineTooLong, ScriptTooLong}
 use Rattle.ic_options.specs.declared.Options.{Options}
 use Rattle.ic_behaviour.specs.State.{State}
@@ -17,7 +16,7 @@ use Rattle.ic_host.specs.Acts.{Does, Ends, status_of}
 use Rattle.ic_host.specs.AfterLine.{after_line}
 use Rattle.ic_host.specs.Script.{walk_of}
 use Rattle.ic_host.specs.Sending.{Taken}
-use Rattle.ic_host.specs.Walk.{Bad, Walk}
+use Rattle.ic_host.specs.Walk.{Walk}
 use Rattle.ic_host.proofs.Runs.{Runs, Runs-more, Runs-start, further, nothing_left, script_is, way-bad, way-end, way-excess}
 use Rattle.ic_host.proofs.SendLaws.{Sent-nil}
 

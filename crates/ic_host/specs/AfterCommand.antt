@@ -7,7 +7,7 @@ use Rattle.ic_script.specs.declared.Command.{Command}
 use Rattle.ic_script.specs.declared.Command.TheVariants.{Nothing, Call, Query, Run, Drain, Time, Decode, Show, Encode, Upgradable, Witness, Pick}
 use Rattle.ic_script.specs.declared.Command.TheVariants as kind
 use Rattle.ic_script.specs.declared.LineCause.{LineCause}
-use Rattle.ic_script.specs.declared.LineCause.TheVariants.{Form, Back, Calls}
+use Rattle.ic_script.specs.declared.LineCause.TheVariants.{Back, Calls}
 use Rattle.ic_behaviour.specs.declared.call.Response.{Response}
 use Rattle.ic_behaviour.specs.State.{at, Canister, State}
 use Rattle.ic_behaviour.specs.Counted.{counted}
@@ -17,9 +17,10 @@ use Rattle.ic_runs.specs.Round.{rounds}
 use Rattle.ic_runs.specs.Runs.{Act, Delivers, Submits, SetsTime, after}
 use Rattle.ic_exec.specs.Query.{query_response}
 use Rattle.ic_exec.specs.Inspection.{is_accepted}
+use Rattle.ic_schedule.specs.Picks.{is_eligible}
 use Rattle.ic_options.specs.declared.Options.{Options}
 use Rattle.ic_host.specs.Options.{rules_of}
-use Rattle.ic_printed.specs.Texts.{accepted_text, call_refused_text, query_text, ran_text, state_line}
+use Rattle.ic_printed.specs.Texts.{accepted_text, call_refused_text, query_text, ran_text, pick_text, state_line, witness_text}
 use Rattle.ic_candid_lines.specs.Decoding.{decode_text, show_text}
 use Rattle.ic_candid_lines.specs.Encoding.{encode_text}
 use Rattle.ic_candid_lines.specs.Upgrading.{upgrade_text}
@@ -77,7 +78,7 @@ acts_of options s (Show expected bytes) = []
 acts_of options s (Encode expected text) = []
 acts_of options s (Upgradable from to) = []
 acts_of options s (Witness paths) = []
-acts_of options s (Pick place) = []
+acts_of options s (Pick place) = cond (is_eligible s place) (Delivers place ∷ []) []
 
 -- what a command prints
 abbrev pub text_of : Options → State → Command → List ℕ
@@ -92,10 +93,10 @@ text_of options s (Decode expected bytes) = decode_text expected bytes
 text_of options s (Show expected bytes) = show_text expected bytes
 text_of options s (Encode expected text) = encode_text expected text
 text_of options s (Upgradable from to) = upgrade_text from to
-text_of options s (Witness paths) = []
-text_of options s (Pick place) = []
+text_of options s (Witness paths) = witness_text s paths
+text_of options s (Pick place) = pick_text (is_eligible s place)
 
--- why a command may not come now: 2^20 calls were submitted, or the time would go back; witnesses and picks are not made yet
+-- why a command may not come now: 2^20 calls were submitted, or the time would go back
 abbrev pub fault_of : State → Command → Option LineCause
 fault_of s Nothing = None
 fault_of s (Call ask) = if nat_lt (length s.requests) 1048576 then None else Some Calls
@@ -108,8 +109,8 @@ fault_of s (Decode expected bytes) = None
 fault_of s (Show expected bytes) = None
 fault_of s (Encode expected text) = None
 fault_of s (Upgradable from to) = None
-fault_of s (Witness paths) = Some Form
-fault_of s (Pick place) = Some Form
+fault_of s (Witness paths) = None
+fault_of s (Pick place) = None
 
 abbrev pub unless : {T : Type 0} → Option LineCause → T → Result T LineCause
 unless None done = Ok done

@@ -15,8 +15,9 @@ ghost use Rattle.ic_candid_lines.specs.Encoding.{encode_text};
 ghost use Rattle.ic_candid_lines.specs.Upgrading.{upgrade_text};
 ghost use Rattle.ic_host.specs.Options.{rules_of};
 ghost use Rattle.ic_options.specs.Options.{HasBounds};
-ghost use Rattle.ic_printed.specs.Texts.{accepted_text, query_text, call_refused_text, state_line};
+ghost use Rattle.ic_printed.specs.Texts.{accepted_text, query_text, call_refused_text, state_line, witness_text};
 
+use crate::picking::picked;
 use ic_base::NoMemory as WantOfMemory;
 use ic_calls::no_canister;
 use ic_candid_lines::{decode_text, encode_text, show_text, upgrade_text};
@@ -24,9 +25,11 @@ use ic_exec::{inspect, inspects, query};
 use ic_options::Options;
 use ic_outside::Gate;
 use ic_principal::Bytes;
-use ic_printed::{accepted_text, call_refused_text, query_text, ran_text, state_line};
+use ic_printed::{
+    accepted_text, call_refused_text, pick_text, query_text, ran_text, state_line, witness_line,
+};
 use ic_round::run_rounds;
-use ic_script::{Ask, Command, LineCause, LineError, parse_line};
+use ic_script::{Ask, Command, LineCause, LineError, Paths, parse_line};
 use ic_state::{Canister, Env, Parts, Response, World};
 use std::alloc::Global;
 
@@ -122,8 +125,8 @@ fn do_command<G: Gate + Sync>(
         Command::Show { expected, bytes } => show(alloc, world, &expected, &bytes),
         Command::Encode { expected, text } => encode(alloc, world, &expected, &text),
         Command::Upgradable { from, to } => upgrade(alloc, world, &from, &to),
-        Command::Witness(_) => Err(NotDone::Bad(LineCause::Form)),
-        Command::Pick(_) => Err(NotDone::Bad(LineCause::Form)),
+        Command::Witness(paths) => show_witness(alloc, world, &paths),
+        Command::Pick(place) => pick(alloc, options, world, place),
     }
 }
 
@@ -338,6 +341,35 @@ fn show_state(alloc: Global, world: World) -> Result<(World, Bytes), NotDone>
     ensures { Acts (Ok (world, state_line world)) result }
 {
     match state_line(alloc, &world) {
+        Ok(text) => Ok((world, text)),
+        Err(_) => Err(NotDone::NoMemory),
+    }
+}
+
+// The world stays as it is.
+fn show_witness(alloc: Global, world: World, paths: &Paths) -> Result<(World, Bytes), NotDone>
+    ensures { Acts (Ok (world, witness_text world paths.now)) result }
+{
+    match witness_line(alloc, &world, &paths.items) {
+        Ok(text) => Ok((world, text)),
+        Err(_) => Err(NotDone::NoMemory),
+    }
+}
+
+#[tactic(auto, unfolding(crate::specs::AfterCommand::after_command))]
+fn pick(
+    alloc: Global,
+    options: &Options,
+    world: World,
+    place: u32,
+) -> Result<(World, Bytes), NotDone>
+    requires { HasBounds options.now }
+    ensures { Acts (after_command options.now world (Command.Pick place)) result }
+{
+    let Ok((world, was_eligible)) = picked(alloc, options, world, place) else {
+        return Err(NotDone::NoMemory);
+    };
+    match pick_text(alloc, was_eligible) {
         Ok(text) => Ok((world, text)),
         Err(_) => Err(NotDone::NoMemory),
     }

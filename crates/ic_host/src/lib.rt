@@ -12,6 +12,8 @@ mod doing;
 mod ending;
 mod gathered;
 mod generated;
+mod managing;
+mod picking;
 mod printing;
 mod status;
 mod top;

@@ -12,6 +12,7 @@ use Rattle.ic_behaviour.specs.State.{State}
 use Rattle.ic_summary.specs.StateLine.{state_text}
 use Rattle.ic_tree.specs.HashTree.{root_hash}
 use Rattle.ic_tree.specs.StateTree.{state_tree_of}
+use Rattle.ic_witness.specs.Witness.{state_witness}
 
 -- what ends a printed line
 abbrev pub newline : List ℕ
@@ -43,6 +44,11 @@ answer_text number (Some response) = codes "answer " ++ (decimal number ++ (code
 unfoldable pub ran_text : (made left : ℕ) → List ℕ
 ran_text made left = codes "ran " ++ (decimal made ++ (codes " left " ++ (decimal left ++ newline)))
 
+-- for a pick, by whether the place was eligible
+unfoldable pub pick_text : Bool → List ℕ
+pick_text true = codes "picked" ++ newline
+pick_text false = codes "not eligible" ++ newline
+
 -- for a bad line, by its number from 1
 unfoldable pub bad_text : ℕ → LineCause → List ℕ
 bad_text line cause = codes "line " ++ decimal line ++ codes ": " ++ cause_text cause ++ newline
@@ -56,6 +62,10 @@ state_line state = state_text state ++ newline
 -- the root hash of the tree of a state
 unfoldable pub root_line : State → List ℕ
 root_line state = codes "root " ++ (encode_lower (root_hash (state_tree_of state)) ++ newline)
+
+-- the witness of a state for paths
+unfoldable pub witness_text : State → List (List (List ℕ)) → List ℕ
+witness_text state paths = codes "witness " ++ (encode_lower (state_witness state paths) ++ newline)
 
 -- what is printed last: the state, and the root hash of its tree
 abbrev pub closing : State → List ℕ

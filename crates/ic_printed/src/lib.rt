@@ -6,5 +6,7 @@
 mod states;
 mod texts;
 
-pub use states::{closing, state_line, summary};
-pub use texts::{accepted_text, answer_text, bad_text, call_refused_text, query_text, ran_text};
+pub use states::{closing, state_line, summary, witness_line};
+pub use texts::{
+    accepted_text, answer_text, bad_text, call_refused_text, pick_text, query_text, ran_text,
+};

@@ -2,12 +2,13 @@ ghost use Rattle.std.specs.Prelude.{◌≡◌, ◌++◌, IfOk, count_by, is_none
 ghost use Rattle.ic_behaviour.specs.declared.request.Request.{Request as Asked};
 ghost use Rattle.ic_tree.specs.HashTree.{root_hash};
 ghost use Rattle.ic_tree.specs.StateTree.{state_tree_of};
-ghost use Rattle.ic_printed.specs.Texts.{calls_line, closing, is_rejected, is_replied, root_line, state_line};
+ghost use Rattle.ic_printed.specs.Texts.{calls_line, closing, is_rejected, is_replied, root_line, state_line, witness_text};
 
 use ic_base::NoMemory;
 use ic_principal::Bytes;
 use ic_state::{Request, Response, World};
 use ic_tree::{root, state_tree};
+use ic_witness::{Path, state_witness};
 use std::alloc::Global;
 
 /// The line that shows a state.
@@ -29,6 +30,18 @@ fn root_line(alloc: Global, world: &World) -> Result<Bytes, NoMemory>
     let digits = hex::encode(alloc, hash.as_slice())?;
     Ok(Bytes {
         items: format!(in alloc; "root {digits}\n")?.into_bytes(),
+    })
+}
+
+/// The witness of a state for paths.
+#[tactic(auto, unfolding(crate::specs::Texts::witness_text))]
+pub fn witness_line(alloc: Global, world: &World, paths: &[Path]) -> Result<Bytes, NoMemory>
+    ensures { IfOk result (λ line. line ≡ witness_text world.now paths.now) }
+{
+    let bytes = state_witness(alloc, world, paths)?;
+    let digits = hex::encode(alloc, &bytes.items)?;
+    Ok(Bytes {
+        items: format!(in alloc; "witness {digits}\n")?.into_bytes(),
     })
 }
 

@@ -1,6 +1,6 @@
 ghost use Rattle.std.specs.Prelude.{◌≡◌, IfOk, codes, string_bytes};
 ghost use Rattle.json.specs.Print.{quoted};
-ghost use Rattle.ic_printed.specs.Texts.{accepted_text, call_refused_text, query_text, answer_text, ran_text, response_text, bad_text};
+ghost use Rattle.ic_printed.specs.Texts.{accepted_text, call_refused_text, query_text, answer_text, ran_text, pick_text, response_text, bad_text};
 
 use ic_base::NoMemory;
 use ic_principal::Bytes;
@@ -74,6 +74,21 @@ pub fn ran_text(alloc: Global, made: u32, left: usize) -> Result<Bytes, NoMemory
 {
     Ok(Bytes {
         items: format!(in alloc; "ran {made} left {left}\n")?.into_bytes(),
+    })
+}
+
+/// For a pick, by whether the place was eligible.
+#[tactic(auto, unfolding(crate::specs::Texts::pick_text))]
+pub fn pick_text(alloc: Global, was_eligible: bool) -> Result<Bytes, NoMemory>
+    ensures { IfOk result (λ text. text ≡ pick_text was_eligible) }
+{
+    let text = if was_eligible {
+        String::from_str(alloc, "picked\n")?
+    } else {
+        String::from_str(alloc, "not eligible\n")?
+    };
+    Ok(Bytes {
+        items: text.into_bytes(),
     })
 }
 

@@ -1,4 +1,4 @@
-use Rattle.std.proofs.Common.{◌≡◌, sym, ap, ◌∙◌, Some}
+use Rattle.std.proofs.Common.{sym, ap, ◌∙◌, Some}
 use Rattle.std.proofs.lemmas.Map.Steps.{set_value_same}
 use Rattle.ic_behaviour.specs.State.{at}
 use Rattle.ic_state.specs.declared.canister.Canister.{Canister}

@@ -1,4 +1,4 @@
-use Rattle.std.proofs.Common.{◌≡◌, sym, subst, ap, arith, Err}
+use Rattle.std.proofs.Common.{sym, subst, ap, arith, Err}
 use Rattle.ic_outside.specs.declared.LineFault.{LineFault}
 use Rattle.ic_host.specs.Acts.{Ends}
 use Rattle.ic_host.specs.Script.{walk_of}

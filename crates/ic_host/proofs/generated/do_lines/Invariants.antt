@@ -1,4 +1,4 @@
-use Rattle.std.proofs.Common.{◌≡◌, ◌-◌, [], None}
+use Rattle.std.proofs.Common.{◌≡◌, ◌-◌, []}
 use Rattle.ic_host.proofs.Unprinted.{Walks}
 use Rattle.ic_host.proofs.generated.do_lines.Given as goal
 

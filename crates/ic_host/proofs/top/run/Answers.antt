@@ -1,4 +1,4 @@
-use Rattle.std.proofs.Common.{map, string_bytes, sym}
+use Rattle.std.proofs.Common.{sym}
 use Rattle.ic_host.specs.Sending.{sink_at}
 use Rattle.ic_host.proofs.Exits.{explain-at_once, explain-generated, explain-refused}
 use Rattle.ic_host.proofs.top.run.Goals as goal
