@@ -1,0 +1,6 @@
+pub mod Methods
+pub mod Steady
+pub mod Draws
+pub mod Fronts
+pub mod Passes
+pub mod Ends

@@ -1,0 +1,6 @@
+use Rattle.ic_management.specs.Managed.{managed_rules}
+use Rattle.ic_round.proofs.Roundings.{Rounding}
+use Rattle.ic_queue_rounds.proofs.rounds.short_rounds.Given as goal
+
+abbrev pub invariant-loop-made : goal.invariant-loop-made
+invariant-loop-made g l = Rounding (managed_rules l.limit l.price) l.count l.made l.fn.world l.world

@@ -1,0 +1,3 @@
+pub mod InQueues
+pub mod Drawing
+pub mod Passing

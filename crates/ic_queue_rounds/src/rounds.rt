@@ -1,0 +1,163 @@
+ghost use Rattle.std.specs.Prelude.{◌≡◌, ◌+◌, ◌-◌, ◌<◌, ◌≤◌, true, length, IfOk};
+ghost use Rattle.std.specs.List.{concat};
+ghost use Rattle.ic_runs.specs.Steps.{along};
+ghost use Rattle.ic_runs.specs.Round.{round, rounds};
+ghost use Rattle.ic_management.specs.Managed.{managed_rules};
+
+use crate::first::canister_turns;
+use crate::queued::QueuedWorld;
+use crate::second::outside_turns;
+use ic_base::NoMemory;
+use ic_outside::Gate;
+use ic_round::{round as round_over_list, run_rounds as rounds_over_list};
+use ic_state::World;
+use std::alloc::Global;
+
+/// Fewer rounds cost less over the list than it costs to put its messages into queues and to give the
+/// list back: a script that makes a round or two a line would else pay for all messages at each line.
+const FEW: u32 = 8;
+
+/// A list of at most so many messages is gone through sooner than the queues of 64 canisters are looked
+/// at: a script that drains after each line would else make queues at each line.
+const SHORT: usize = 64;
+
+/// A round over queues.
+pub fn round<G: Gate + Sync>(
+    alloc: Global,
+    world: QueuedWorld,
+    workers: u32,
+    limit: u64,
+    price: u64,
+    gate: &G,
+) -> Result<QueuedWorld, NoMemory>
+    requires workers { workers ≡ 1 }
+    requires limit { limit ≤ 1000000000000 }
+    ensures { IfOk result (λ w. w
+        ≡ along (managed_rules limit price) world
+        (round (managed_rules limit price) world)) }
+{
+    let world = canister_turns(alloc, world, workers, limit, price, gate)?;
+    outside_turns(alloc, world, limit)
+}
+
+// Up to `count` rounds over queues.
+fn queued_rounds<G: Gate + Sync>(
+    alloc: Global,
+    world: QueuedWorld,
+    count: u32,
+    workers: u32,
+    limit: u64,
+    price: u64,
+    gate: &G,
+) -> Result<(QueuedWorld, u32), NoMemory>
+    requires workers { workers ≡ 1 }
+    requires limit { limit ≤ 1000000000000 }
+    ensures state { IfOk result (λ r. r.0
+        ≡ along (managed_rules limit price) world
+        (concat (rounds (managed_rules limit price) count world))) }
+    ensures made { IfOk result (λ r. r.1
+        ≡ length (rounds (managed_rules limit price) count world)) }
+    ensures few { IfOk result (λ r. r.1 ≤ count) }
+{
+    let mut world = world;
+    for made in 0..count {
+        if world.is_empty() {
+            return Ok((world, made));
+        }
+        world = round(alloc, world, workers, limit, price, gate)?;
+    }
+    Ok((world, count))
+}
+
+// Whether messages are under way, but few.
+fn has_few_messages(world: &World) -> bool
+    ensures { result ≡ true → 0 < length world.now.messages }
+{
+    let messages = world.parts().messages.items.len();
+    0 < messages && messages <= SHORT
+}
+
+// Rounds over the list, as long as it is short: at most `count`, and what is left to do leads to the end
+// of `count` rounds.
+fn short_rounds<G: Gate + Sync>(
+    alloc: Global,
+    world: World,
+    count: u32,
+    workers: u32,
+    limit: u64,
+    price: u64,
+    gate: &G,
+) -> Result<(World, u32), NoMemory>
+    requires workers { workers ≡ 1 }
+    requires limit { limit ≤ 1000000000000 }
+    ensures state { IfOk result (λ r.
+        along (managed_rules limit price) r.0 (concat (rounds (managed_rules limit price) (count - r.1) r.0))
+        ≡ along (managed_rules limit price) world (concat (rounds (managed_rules limit price) count world))) }
+    ensures made { IfOk result (λ r.
+        r.1 + length (rounds (managed_rules limit price) (count - r.1) r.0)
+        ≡ length (rounds (managed_rules limit price) count world)) }
+    ensures few { IfOk result (λ r. r.1 ≤ count) }
+{
+    let mut world = world;
+    for made in 0..count {
+        if !has_few_messages(&world) {
+            return Ok((world, made));
+        }
+        let (next, _) = round_over_list(alloc, world, workers, limit, price, gate)?;
+        world = next;
+    }
+    Ok((world, count))
+}
+
+// Up to `count` rounds over queues, whose messages are put into them first and given back at the end.
+fn long_rounds<G: Gate + Sync>(
+    alloc: Global,
+    world: World,
+    count: u32,
+    workers: u32,
+    limit: u64,
+    price: u64,
+    gate: &G,
+) -> Result<(World, u32), NoMemory>
+    requires workers { workers ≡ 1 }
+    requires limit { limit ≤ 1000000000000 }
+    ensures state { IfOk result (λ r. r.0
+        ≡ along (managed_rules limit price) world
+        (concat (rounds (managed_rules limit price) count world))) }
+    ensures made { IfOk result (λ r. r.1
+        ≡ length (rounds (managed_rules limit price) count world)) }
+    ensures few { IfOk result (λ r. r.1 ≤ count) }
+{
+    if world.parts().messages.is_empty() {
+        return Ok((world, 0));
+    }
+    let world = QueuedWorld::new(alloc, world)?;
+    let (world, made) = queued_rounds(alloc, world, count, workers, limit, price, gate)?;
+    Ok((world.into_world(alloc)?, made))
+}
+
+/// Up to `count` rounds, until no message is under way. Gives how many were made.
+pub fn run_rounds<G: Gate + Sync>(
+    alloc: Global,
+    world: World,
+    count: u32,
+    workers: u32,
+    limit: u64,
+    price: u64,
+    gate: &G,
+) -> Result<(World, u32), NoMemory>
+    requires workers { workers ≡ 1 }
+    requires limit { limit ≤ 1000000000000 }
+    ensures state { IfOk result (λ r. r.0
+        ≡ along (managed_rules limit price) world
+        (concat (rounds (managed_rules limit price) count world))) }
+    ensures made { IfOk result (λ r. r.1
+        ≡ length (rounds (managed_rules limit price) count world)) }
+{
+    if count < FEW {
+        return rounds_over_list(alloc, world, count, workers, limit, price, gate);
+    }
+    let (world, made) = short_rounds(alloc, world, count, workers, limit, price, gate)?;
+    let (world, more) = long_rounds(alloc, world, count - made, workers, limit, price, gate)?;
+    Ok((world, made + more))
+}

@@ -1,0 +1,73 @@
+ghost use Rattle.std.specs.Prelude.{◌≡◌, ◌≤◌, ℕ, List, [], true, IfOk};
+ghost use Rattle.std.specs.List.{AllByRecursion};
+ghost use Rattle.ic_behaviour.specs.declared.call.Message.{Message as AMessage};
+ghost use Rattle.ic_state.specs.declared.world.Parts.{Parts as TheParts};
+ghost use Rattle.ic_runs.specs.Steps.{along};
+ghost use Rattle.ic_runs.specs.Round.{second_phase};
+ghost use Rattle.ic_management.specs.Managed.{managed_rules};
+ghost use Rattle.ic_queues.specs.Queued.{is_steady};
+ghost use Rattle.ic_queue_rounds.specs.Passing.{Passing, IsPassing};
+
+use crate::queued::QueuedWorld;
+use ic_base::NoMemory;
+use ic_mgmt::{handle, outside_turns as turns_over_list, taken_apart};
+use ic_state::{Message, Parts};
+use std::alloc::Global;
+
+// Handles messages to no canister, in their order; what they send comes into the list of the parts.
+fn all_handled(
+    alloc: Global,
+    rest: Parts,
+    outs: Vec<Message>,
+    limit: u64,
+) -> Result<Parts, NoMemory>
+    requires limit { limit ≤ 1000000000000 }
+    requires passing { IsPassing limit outs.items rest }
+    ensures { IfOk result (λ q. (start : TheParts) (inside : List AMessage)
+        → Passing limit start inside outs.items rest → Passing limit start inside [] q) }
+{
+    let mut rest = rest;
+    for message in outs {
+        rest = handle(alloc, rest, message, limit)?;
+    }
+    Ok(rest)
+}
+
+// The second phase where no canister is made or deleted.
+fn steady_turns(alloc: Global, world: QueuedWorld, limit: u64) -> Result<QueuedWorld, NoMemory>
+    requires limit { limit ≤ 1000000000000 }
+    requires steady { AllByRecursion (λ m. is_steady m ≡ true) world.messages }
+    ensures { IfOk result (λ w. (price : ℕ)
+        → w ≡ along (managed_rules limit price) world (second_phase (managed_rules limit price) world)) }
+{
+    let (rest, queues) = world.open();
+    let (queues, outs) = queues.take_outside(alloc)?;
+    let rest = all_handled(alloc, rest, outs.items, limit)?;
+    let (rest, sent) = taken_apart(alloc, rest);
+    let queues = queues.append(sent)?;
+    Ok(QueuedWorld::seal(rest, queues))
+}
+
+// The second phase by the list.
+fn listed_turns(alloc: Global, world: QueuedWorld, limit: u64) -> Result<QueuedWorld, NoMemory>
+    requires limit { limit ≤ 1000000000000 }
+    ensures { IfOk result (λ w. (price : ℕ)
+        → w ≡ along (managed_rules limit price) world (second_phase (managed_rules limit price) world)) }
+{
+    let (world, _) = turns_over_list(alloc, world.into_world(alloc)?, limit)?;
+    QueuedWorld::new(alloc, world)
+}
+
+/// The second phase of a round, as that of `ic_mgmt`: no message is touched but those to no canister,
+/// unless one of these may make or delete a canister.
+pub fn outside_turns(alloc: Global, world: QueuedWorld, limit: u64) -> Result<QueuedWorld, NoMemory>
+    requires limit { limit ≤ 1000000000000 }
+    ensures { IfOk result (λ w. (price : ℕ)
+        → w ≡ along (managed_rules limit price) world (second_phase (managed_rules limit price) world)) }
+{
+    if world.is_steady() {
+        steady_turns(alloc, world, limit)
+    } else {
+        listed_turns(alloc, world, limit)
+    }
+}
