@@ -1,4 +1,4 @@
-ghost use Rattle.std.specs.Prelude.{◌≡◌, ◌<◌, ◌≤◌, ◌^◌, None, Some, true, false, is_some, get_or, set, length, map, IfSome, MatchOption, List, ◌-◌, ◌&&◌, nat_le, option_map};
+ghost use Rattle.std.specs.Prelude.{◌≡◌, ◌<◌, ◌≤◌, ◌^◌, None, Some, true, false, is_some, get_or, set, length, map, IfSome, MatchOption, List, ◌-◌, ◌&&◌, nat_le};
 ghost use Rattle.std.specs.Option.{option_or};
 ghost use Rattle.ic_base.specs.Gives.{Gives};
 ghost use Rattle.cd_types.specs.IsOrdered.{ids_rise_from};
@@ -12,39 +12,18 @@ use cd_types::{TyRef, TypeTable};
 use ic_base::ReadError;
 use std::alloc::Global;
 
-/// The field with an id: the id, and its type.
-pub(crate) fn field_with(fields: &[(u32, TyRef)], id: u64) -> Option<(u32, TyRef)>
-    ensures { result ≡ option_map (λ ty. (id, ty)) (type_of fields.now id) }
+/// The place of the field or case with an id, and the field; time grows with the logarithm of their
+/// number.
+pub(crate) fn find(fields: &[(u32, TyRef)], id: u64) -> Option<(usize, (u32, TyRef))>
+    requires { ids_rise_from 0 (map (λ f. f.0) fields.now) ≡ true }
+    ensures place { MatchOption result (place_of fields.now id ≡ None) (λ f. place_of fields.now id ≡ Some f.0) }
+    ensures field { MatchOption result (type_of fields.now id ≡ None) (λ f. (type_of fields.now id ≡ Some f.1.1) × (f.1.0 ≡ id)) }
+    ensures bound { IfSome result (λ f. f.0 < length fields.now) }
+    ensures small { IfSome result (λ f. f.0 < 2 ^ 32) }
 {
-    for field in fields {
-        if u64::from(field.0) == id {
-            return Some(*field);
-        }
-    }
-    None
-}
-
-// The place of the field with an id.
-fn place_of(fields: &[(u32, TyRef)], id: u32) -> Option<usize>
-    ensures value { result ≡ place_of fields.now id }
-    ensures bound { IfSome result (λ k. k < length fields.now) }
-{
-    for (place, field) in fields.iter().enumerate() {
-        if field.0 == id {
-            return Some(place);
-        }
-    }
-    None
-}
-
-/// The place of the case with an id, and its type.
-pub(crate) fn case_with(cases: &[(u32, TyRef)], id: u32) -> Option<(u32, TyRef)>
-    requires { length cases.now ≤ 2 ^ 32 }
-    ensures { MatchOption result (place_of cases.now id ≡ None) (λ case. (place_of cases.now id ≡ Some case.0) × (type_of cases.now id ≡ Some case.1)) }
-{
-    match place_of(cases, id) {
-        None => None,
-        Some(place) => Some((place as u32, cases[place].1)),
+    match fields.binary_search_by_key(&id, |field| u64::from(field.0)) {
+        Ok(place) => Some((place, fields[place])),
+        Err(_) => None,
     }
 }
 
@@ -76,9 +55,9 @@ fn slots_of(
         slots.push(None)?;
     }
     while let Some((id, value)) = said.pop() {
-        match place_of(fields, id) {
+        match find(fields, u64::from(id)) {
             None => return Err(ReadError::Refused),
-            Some(place) => {
+            Some((place, _)) => {
                 if !put(&mut slots, place, value) {
                     return Err(ReadError::Refused);
                 }

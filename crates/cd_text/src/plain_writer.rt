@@ -68,30 +68,13 @@ fn write_escape(byte: u8, out: &mut Vec<u8>) -> Result<(), NoMemory>
     Ok(())
 }
 
-// The bytes as hex.
-fn write_hex(bytes: &[u8], out: &mut Vec<u8>) -> Result<(), NoMemory>
-    ensures { OnOk result (out.new.items ≡ out.old.items ++ flat_map hex_escape bytes.now) }
-{
-    for byte in bytes {
-        write_hex_escape(*byte, out)?;
-    }
-    Ok(())
-}
-
-fn write_escaped(bytes: &[u8], out: &mut Vec<u8>) -> Result<(), NoMemory>
-    ensures { OnOk result (out.new.items ≡ out.old.items ++ flat_map escape bytes.now) }
-{
-    for byte in bytes {
-        write_escape(*byte, out)?;
-    }
-    Ok(())
-}
-
 pub(crate) fn write_blob(bytes: &[u8], out: &mut Vec<u8>) -> Result<(), NoMemory>
     ensures { OnOk result (out.new.items ≡ out.old.items ++ (codes "blob " ++ (34 ∷ (flat_map hex_escape bytes.now ++ 34 ∷ [])))) }
 {
     out.extend_from_slice(b"blob \"")?;
-    write_hex(bytes, out)?;
+    for byte in bytes {
+        write_hex_escape(*byte, out)?;
+    }
     out.push(b'"')?;
     Ok(())
 }
@@ -100,7 +83,9 @@ pub(crate) fn write_text(text: &Text, out: &mut Vec<u8>) -> Result<(), NoMemory>
     ensures { OnOk result (out.new.items ≡ out.old.items ++ quoted text.now) }
 {
     out.push(b'"')?;
-    write_escaped(text.items.as_bytes(), out)?;
+    for byte in text.items.as_bytes() {
+        write_escape(*byte, out)?;
+    }
     out.push(b'"')?;
     Ok(())
 }

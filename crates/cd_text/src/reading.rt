@@ -10,7 +10,7 @@ ghost use Rattle.cd_text.specs.Words.{name_of};
 ghost use Rattle.cd_text.specs.ReadPlain.{is_mark, is_word, starts, behind_word, principal_text_at};
 ghost use Rattle.cd_text.specs.ReadSaid.{alone, past_annotation, annotated_at, braces_at, item_at, no_place_of, after_field, opt_at, list_at, byte_at, blob_at, typed_at, field_at, record_at, case_at, null_at, variant_ended, chosen_at, labelled_at, variant_at, entry_at, value_at};
 
-use crate::fields::{case_with, field_with, record_made};
+use crate::fields::{find, record_made};
 use crate::plain_reader::{func_of, natural_below, primitive_of, principal_behind, string_of};
 use crate::tokens::{rest_of, starts_mark, starts_word};
 use cd_codec::Value;
@@ -89,12 +89,6 @@ fn past_variant<'t, 'a>(tokens: &'t [Token<'a>]) -> Result<&'t [Token<'a>], Read
     } else {
         Err(ReadError::Refused)
     }
-}
-
-fn place_after(id: u32) -> u64
-    ensures { result ≡ suc id }
-{
-    u64::from(id) + 1
 }
 
 // What is left of the number of values behind a null that is not written.
@@ -409,6 +403,7 @@ fn fields_of<'t, 'a>(
     most: usize,
     tokens: &'t [Token<'a>],
 ) -> Result<(Vec<(u32, Value)>, u32, &'t [Token<'a>]), ReadError>
+    requires { ids_rise_from 0 (map (λ f. f.0) fields.now) ≡ true }
     ensures { Gives (λ x. (views_of_fields x.0.items, x.1, token_views x.2.now)) result (braces_at (field_at (value_at table.now depth) fields.now) after_field most left (token_views tokens.now)) }
 {
     let mut said = Vec::new(alloc);
@@ -428,7 +423,7 @@ fn fields_of<'t, 'a>(
         if !starts_mark(after, b';') {
             return Err(ReadError::Refused);
         }
-        next = place_after(id);
+        next = u64::from(id) + 1;
         unread = left;
         rest = rest_of(after);
     }
@@ -446,6 +441,7 @@ fn field_of<'t, 'a>(
     left: u32,
     tokens: &'t [Token<'a>],
 ) -> Result<((u32, Value), u32, &'t [Token<'a>]), ReadError>
+    requires { ids_rise_from 0 (map (λ f. f.0) fields.now) ≡ true }
     ensures { Gives (λ x. ((x.0.0, view x.0.1), x.1, token_views x.2.now)) result (field_at (value_at table.now depth) fields.now next left (token_views tokens.now)) }
 {
     match tokens {
@@ -479,11 +475,12 @@ fn typed_of<'t, 'a>(
     left: u32,
     tokens: &'t [Token<'a>],
 ) -> Result<((u32, Value), u32, &'t [Token<'a>]), ReadError>
+    requires { ids_rise_from 0 (map (λ f. f.0) fields.now) ≡ true }
     ensures { Gives (λ x. ((x.0.0, view x.0.1), x.1, token_views x.2.now)) result (typed_at (value_at table.now depth) fields.now id left (token_views tokens.now)) }
 {
-    match field_with(fields, id) {
+    match find(fields, id) {
         None => Err(ReadError::Refused),
-        Some((id, ty)) => {
+        Some((_, (id, ty))) => {
             let (value, left, rest) = annotated_of(alloc, table, ty, depth, left, tokens)?;
             Ok(((id, value), left, rest))
         }
@@ -499,7 +496,7 @@ fn variant_of<'t, 'a>(
     left: u32,
     tokens: &'t [Token<'a>],
 ) -> Result<(Value, u32, &'t [Token<'a>]), ReadError>
-    requires { length cases.now ≤ 2 ^ 32 }
+    requires { ids_rise_from 0 (map (λ f. f.0) cases.now) ≡ true }
     ensures { Gives (λ x. (view x.0, x.1, token_views x.2.now)) result (variant_at (value_at table.now depth) depth table.now cases.now left (token_views tokens.now)) }
 {
     if !starts_braces(tokens, b"variant") {
@@ -525,15 +522,15 @@ fn chosen_of<'t, 'a>(
     left: u32,
     tokens: &'t [Token<'a>],
 ) -> Result<(Value, u32, &'t [Token<'a>]), ReadError>
-    requires { length cases.now ≤ 2 ^ 32 }
+    requires { ids_rise_from 0 (map (λ f. f.0) cases.now) ≡ true }
     ensures { Gives (λ x. (view x.0, x.1, token_views x.2.now)) result (chosen_at (value_at table.now depth) depth table.now cases.now id left (token_views tokens.now)) }
 {
-    match case_with(cases, id) {
+    match find(cases, u64::from(id)) {
         None => Err(ReadError::Refused),
-        Some((place, ty)) => {
+        Some((place, (_, ty))) => {
             let (part, left, rest) = case_of(alloc, table, ty, depth, left, tokens)?;
             let rest = past_variant(rest)?;
-            let value = Value::of_case(alloc, place, part)?;
+            let value = Value::of_case(alloc, place as u32, part)?;
             Ok((value, left, rest))
         }
     }

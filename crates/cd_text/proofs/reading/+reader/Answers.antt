@@ -1,11 +1,12 @@
-use Rattle.std.proofs.Common.{◌≡◌, ◌++◌, ◌∷◌, [], true, false, refl, sym, subst, ◌∙◌, arith}
+use Rattle.std.proofs.Common.{◌≡◌, ◌+◌, suc, ap, ◌++◌, ◌∷◌, [], true, false, refl, sym, subst, ◌∙◌, arith}
 use Rattle.std.proofs.lemmas.Result.{err_from_is_err_and}
 use Rattle.std.proofs.lemmas.List.{map_push}
 use Rattle.cd_types.specs.IsOrdered.{is_ordered}
-use Rattle.cd_types.proofs.EntryLemmas.{few_ids, entry_ordered}
+use Rattle.cd_types.proofs.EntryLemmas.{entry_ordered}
 use Rattle.cd_codec.specs.View.{view, views, views_of_fields}
 use Rattle.cd_codec.proofs.Views.{view-Null}
 use Rattle.cd_text.specs.ReadPlain.{is_mark, starts}
+use Rattle.cd_text.specs.Said.{type_of, place_of}
 use Rattle.cd_text.proofs.Narrow.{entry_value, not_ended, has_ended}
 use Rattle.cd_tokens.specs.View.{token_views}
 use Rattle.cd_text.specs.ReadSaid.{item_at, no_place_of, field_at, after_field, value_at}
@@ -59,7 +60,8 @@ fields_of-returns-then-not-starts_mark t c =
 pub fields_of-loop-preserved : goal.fields_of-loop-preserved
 fields_of-loop-preserved t c =
     let more : views_of_fields c.push.new.self.items ≡ views_of_fields c.loop.said.items ++ (c.in_ok-field.field.0, view c.in_ok-field.field.1) ∷ [] = rw c.in_ok-push.ensures.items (map_push _ c.loop.said.items c.in_ok-field.field) in
-    rw (c.rest_of-rest.ensures, more, c.place_after-next.ensures) (part_read 59 125 (field_at (value_at c.args.table.now c.args.depth) c.args.fields.now) after_field (views_of_fields c.loop.said.items) c.args.most c.loop.counter c.loop.next c.loop.unread (token_views c.loop.rest.now) _ (c.in_ok-field.field.0, view c.in_ok-field.field.1) c.in_ok-field.left (token_views c.in_ok-field.after.now) c.loop-test.true (sym c.starts_mark.ensures ∙ c.if-starts_mark.false) c.in_ok-field.ensures (sym c.starts_mark-in-loop.ensures ∙ c.if-starts_mark-2.false) (sym c.starts_mark-in-loop-2.ensures ∙ c.if-not-starts_mark.false) c.loop.invariant)
+    let next : c.from-next.result + 1 ≡ suc c.in_ok-field.field.0 = omega (arith, c.from-next.ensures) in
+    rw (c.rest_of-rest.ensures, more, next) (part_read 59 125 (field_at (value_at c.args.table.now c.args.depth) c.args.fields.now) after_field (views_of_fields c.loop.said.items) c.args.most c.loop.counter c.loop.next c.loop.unread (token_views c.loop.rest.now) _ (c.in_ok-field.field.0, view c.in_ok-field.field.1) c.in_ok-field.left (token_views c.in_ok-field.after.now) c.loop-test.true (sym c.starts_mark.ensures ∙ c.if-starts_mark.false) c.in_ok-field.ensures (sym c.starts_mark-in-loop.ensures ∙ c.if-starts_mark-2.false) (sym c.starts_mark-in-loop-2.ensures ∙ c.if-not-starts_mark.false) c.loop.invariant)
 
 pub fields_of-returns : goal.fields_of-returns
 fields_of-returns t c = no_fuel 59 125 (field_at (value_at c.args.table.now c.args.depth) c.args.fields.now) after_field (views_of_fields c.loop.said.items) c.args.most c.loop.counter c.loop.next c.loop.unread (token_views c.loop.rest.now) _ c.loop-test.false c.loop.invariant
@@ -74,8 +76,7 @@ value_of-returns-in-Some t c =
 pub entry_of-variant_of-requires : goal.entry_of-variant_of-requires
 entry_of-variant_of-requires t c = (
   omega arith,
-  few_ids c.deref-in-Var.result.now
-      (let is_cases : c.deref-in-Var.result.now ≡ c.in-Var.cases = c.deref-in-Var.ensures.value ∙ c.cases.view_is in
+  (let is_cases : c.deref-in-Var.result.now ≡ c.in-Var.cases = c.deref-in-Var.ensures.value ∙ c.cases.view_is in
       rw is_cases (subst (λ e. is_ordered e ≡ true) c.in-Var.is c.requires.0)),
 )
 
@@ -87,8 +88,8 @@ case_of-returns t c =
 pub chosen_of-returns-in_err-rest-in-Some : goal.chosen_of-returns-in_err-rest-in-Some
 chosen_of-returns-in_err-rest-in-Some t c =
     let p = err_from_is_err_and c.from_residual-in_err-rest-in-Some.result c.from_residual-in_err-rest-in-Some.ensures.1 in
-    rw p.1 (not_ended p.0 (value_at c.args.table.now c.args.depth) c.args.depth c.args.table.now c.args.cases.now c.args.id _ _ c.args.left (token_views c.args.tokens.now) _ _ _ c.in-Some.ensures.0 c.in-Some.ensures.1 c.in_ok-part-in-Some.ensures (rw p.2 (c.in_err-rest-in-Some.ensures _ _)))
+    rw p.1 (not_ended p.0 (value_at c.args.table.now c.args.depth) c.args.depth c.args.table.now c.args.cases.now c.args.id _ _ c.args.left (token_views c.args.tokens.now) _ _ _ (sym (ap (place_of c.args.cases.now) c.from.ensures) ∙ c.in-Some.ensures.place) (sym (ap (type_of c.args.cases.now) c.from.ensures) ∙ c.in-Some.ensures.field.0) c.in_ok-part-in-Some.ensures (rw p.2 (c.in_err-rest-in-Some.ensures _ _)))
 
 pub chosen_of-returns-in_ok-value-in-Some : goal.chosen_of-returns-in_ok-value-in-Some
 chosen_of-returns-in_ok-value-in-Some t c =
-    rw c.in_ok-value-in-Some.ensures (has_ended (value_at c.args.table.now c.args.depth) c.args.depth c.args.table.now c.args.cases.now c.args.id _ _ c.args.left (token_views c.args.tokens.now) _ _ _ _ c.in-Some.ensures.0 c.in-Some.ensures.1 c.in_ok-part-in-Some.ensures (c.in_ok-rest-in-Some.ensures _ _))
+    rw c.in_ok-value-in-Some.ensures (has_ended (value_at c.args.table.now c.args.depth) c.args.depth c.args.table.now c.args.cases.now c.args.id _ _ c.args.left (token_views c.args.tokens.now) _ _ _ _ (sym (ap (place_of c.args.cases.now) c.from.ensures) ∙ c.in-Some.ensures.place) (sym (ap (type_of c.args.cases.now) c.from.ensures) ∙ c.in-Some.ensures.field.0) c.in_ok-part-in-Some.ensures (c.in_ok-rest-in-Some.ensures _ _))
