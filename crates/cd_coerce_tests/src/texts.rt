@@ -30,7 +30,19 @@ const NULLS: &[u8] = b"DIDL\x01\x6d\x7f\x01\x00";
 
 const PLAIN: &[u8] = b"DIDL\x00\x03\x77\x7e\x70";
 
-static ROWS: [Row; 95] = [
+const INT: &[u8] = b"DIDL\x00\x01\x7c";
+
+const WIDTHS: &[u8] = b"DIDL\x00\x08\x7b\x7a\x79\x78\x77\x76\x75\x74";
+
+const NOTHING: &[u8] = b"DIDL\x00\x00";
+
+const OPT_OPT: &[u8] = b"DIDL\x02\x6e\x01\x6e\x7d\x01\x00";
+
+const KEYWORD: &[u8] = b"DIDL\x01\x6c\x01\xb3\xb8\xd2\x02\x7d\x01\x00";
+
+const LAST: &[u8] = b"DIDL\x01\x6c\x02\xfe\xff\xff\xff\x0f\x7d\xff\xff\xff\xff\x0f\x7d\x01\x00";
+
+static ROWS: [Row; 185] = [
     // Numbers, blanks, annotations and parentheses.
     (NAT, b"(42)", Some(b"(42)")),
     (NAT, b"( 42 , )", Some(b"(42)")),
@@ -195,6 +207,172 @@ static ROWS: [Row; 95] = [
     (PLAIN, b"(128, true, null)", None),
     (PLAIN, b"(1, yes, null)", None),
     (PLAIN, b"(1, true)", None),
+    // A sign stands at its digits, and the ranges of int.
+    (INT, b"(-42)", Some(b"(-42)")),
+    (INT, b"(- 42)", None),
+    (INT, b"(+ 42)", None),
+    (INT, b"(-)", None),
+    (INT, b"(--42)", None),
+    (INT, b"(-_1)", None),
+    (INT, b"(-0)", Some(b"(0)")),
+    (NAT, b"(-0)", None),
+    (INT, b"(-0x2_A)", Some(b"(-42)")),
+    (
+        INT,
+        b"(170141183460469231731687303715884105727)",
+        Some(b"(170141183460469231731687303715884105727)"),
+    ),
+    (INT, b"(170141183460469231731687303715884105728)", None),
+    (
+        INT,
+        b"(-170141183460469231731687303715884105728)",
+        Some(b"(-170141183460469231731687303715884105728)"),
+    ),
+    (INT, b"(-170141183460469231731687303715884105729)", None),
+    // The ranges of numbers of fixed width.
+    (
+        WIDTHS,
+        b"(255, 65535, 4294967295, 18446744073709551615, 127, 32767, 2147483647, 9223372036854775807)",
+        Some(
+            b"(255, 65535, 4294967295, 18446744073709551615, 127, 32767, 2147483647, 9223372036854775807)",
+        ),
+    ),
+    (
+        WIDTHS,
+        b"(0, 0, 0, 0, -128, -32768, -2147483648, -9223372036854775808)",
+        Some(b"(0, 0, 0, 0, -128, -32768, -2147483648, -9223372036854775808)"),
+    ),
+    (WIDTHS, b"(256, 0, 0, 0, 0, 0, 0, 0)", None),
+    (WIDTHS, b"(0, 65536, 0, 0, 0, 0, 0, 0)", None),
+    (WIDTHS, b"(0, 0, 4294967296, 0, 0, 0, 0, 0)", None),
+    (WIDTHS, b"(0, 0, 0, 18446744073709551616, 0, 0, 0, 0)", None),
+    (WIDTHS, b"(0, 0, 0, 0, 128, 0, 0, 0)", None),
+    (WIDTHS, b"(0, 0, 0, 0, -129, 0, 0, 0)", None),
+    (WIDTHS, b"(0, 0, 0, 0, 0, 32768, 0, 0)", None),
+    (WIDTHS, b"(0, 0, 0, 0, 0, -32769, 0, 0)", None),
+    (WIDTHS, b"(0, 0, 0, 0, 0, 0, 2147483648, 0)", None),
+    (WIDTHS, b"(0, 0, 0, 0, 0, 0, -2147483649, 0)", None),
+    (WIDTHS, b"(0, 0, 0, 0, 0, 0, 0, 9223372036854775808)", None),
+    (WIDTHS, b"(0, 0, 0, 0, 0, 0, 0, -9223372036854775809)", None),
+    // No values.
+    (NOTHING, b"()", Some(b"()")),
+    (NOTHING, b" ( ) ", Some(b"()")),
+    (NOTHING, b"(,)", None),
+    (NOTHING, b"", None),
+    // Blanks, and what is none.
+    (NAT, b"(\t42\r\n)", Some(b"(42)")),
+    (NAT, b"(\x0b42)", None),
+    (NAT, b"(42 /* c */)", None),
+    (NAT, b"(42) // c", None),
+    (NAT, b"(4.2)", None),
+    // Words end where no letter, digit or _ follows.
+    (OPT_NAT, b"(opt(5))", Some(b"(opt 5)")),
+    (BLOB, b"(vec{0;97})", Some(b"(blob \"\\00\\61\")")),
+    (BLOB, b"(vec { 0 97 })", None),
+    (BLOB, b"(blob\"a\")", Some(b"(blob \"\\61\")")),
+    (BLOB, b"(blobs \"a\")", None),
+    (PLAIN, b"(1,true,null)", Some(b"(1, true, null)")),
+    (PLAIN, b"(1, true_, null)", None),
+    (PLAIN, b"(1, truefalse, null)", None),
+    (PLAIN, b"(1, True, null)", None),
+    // Escapes, surrogates, and bytes that are no UTF-8.
+    (TEXT, b"(\"\\r\\'\")", Some(b"(\"\\0d'\")")),
+    (
+        TEXT,
+        b"(\"\\u{d7ff}\\u{e000}\")",
+        Some(b"(\"\xed\x9f\xbf\xee\x80\x80\")"),
+    ),
+    (TEXT, b"(\"\\u{dfff}\")", None),
+    (TEXT, b"(\"\\u{41\")", None),
+    (TEXT, b"(\"\\u{4_1}\")", None),
+    (TEXT, b"(\"\\u41\")", None),
+    (TEXT, b"(\"\\c3\")", None),
+    (BLOB, b"(blob \"\\c3\")", Some(b"(blob \"\\c3\")")),
+    (BLOB, b"(blob \"\xff\")", None),
+    (BLOB, b"(blob \"\\u{d800}\")", None),
+    (BLOB, b"(blob \"\\5\")", None),
+    (TEXT, b"(\"\t\")", None),
+    (TEXT, b"(\"\\\"\\\\\")", Some(b"(\"\\\"\\\\\")")),
+    (TEXT, b"(hi)", None),
+    // Labels: a string as it reads, a word of the grammar, the greatest numbers.
+    (
+        RECORD,
+        b"(record { \"\\69d\" = 1 })",
+        Some(b"(record { 23515 = 1 })"),
+    ),
+    (RECORD, b"(record { Id = 1 })", None),
+    (RECORD, b"(record { id 1 })", None),
+    (
+        KEYWORD,
+        b"(record { opt = 1 })",
+        Some(b"(record { 5545011 = 1 })"),
+    ),
+    (
+        LAST,
+        b"(record { 4294967294 = 1; 2 })",
+        Some(b"(record { 4294967294 = 1; 4294967295 = 2 })"),
+    ),
+    (LAST, b"(record { 4294967294 = 1; 2; 3 })", None),
+    (LAST, b"(record { 4294967294 = 1; 4294967296 = 2 })", None),
+    (LAST, b"(record { 4294967295 = 1; 2 })", None),
+    (
+        WITH_OPT,
+        b"(record { 0 = 1; opt 2 })",
+        Some(b"(record { 0 = 1; 1 = opt 2 })"),
+    ),
+    (WITH_OPT, b"(record { 1 = opt 2; 1 })", None),
+    (WITH_OPT, b"(record { 0 = 1, 1 = opt 2 })", None),
+    // Annotations.
+    (
+        PLAIN,
+        b"(1 : int8, true : bool, null : reserved)",
+        Some(b"(1, true, null)"),
+    ),
+    (PLAIN, b"(1, true, null : null)", None),
+    (NAT, b"(42 : nat8)", None),
+    (NAT, b"(42 : blob)", None),
+    (OPT_NAT, b"(opt 5 : nat)", None),
+    (BLOB, b"(vec { 0 : nat8 })", Some(b"(blob \"\\00\")")),
+    (BLOB, b"(vec { 0 : nat })", None),
+    (BLOB, b"(blob \"a\" : blob)", None),
+    (
+        VARIANT,
+        b"(variant { 1 = 5 : nat })",
+        Some(b"(variant { 1 = 5 })"),
+    ),
+    (VARIANT, b"(variant { 1 = 5 : int })", None),
+    (VARIANT, b"(variant { 0;; })", None),
+    // An opt of opts has a level more.
+    (OPT_OPT, b"(opt null)", Some(b"(opt null)")),
+    (OPT_OPT, b"(null)", Some(b"(null)")),
+    (OPT_OPT, b"(opt opt 5)", Some(b"(opt opt 5)")),
+    (OPT_OPT, b"(opt 5)", None),
+    // References.
+    (
+        REFERENCES,
+        b"(principal \"aaaaa-aa\", service \"aaaaa-aa\", func \"aaaaa-aa\" . \"a b\")",
+        Some(b"(principal \"aaaaa-aa\", service \"aaaaa-aa\", func \"aaaaa-aa\".\"a b\")"),
+    ),
+    (
+        REFERENCES,
+        b"(principal \"aaaaa-aa\", service \"aaaaa-aa\", func \"aaaaa-aa\".5)",
+        None,
+    ),
+    (
+        REFERENCES,
+        b"(principal \"aaaaa-aa\", service \"aaaaa-aa\", func \"aaaaa-aa\" m)",
+        None,
+    ),
+    (
+        REFERENCES,
+        b"(principal \"AAAAA-AA\", service \"aaaaa-aa\", func \"aaaaa-aa\".m)",
+        None,
+    ),
+    (
+        REFERENCES,
+        b"(principal aaaaa-aa, service \"aaaaa-aa\", func \"aaaaa-aa\".m)",
+        None,
+    ),
 ];
 
 fn rows() -> &'static [Row] {
