@@ -1,12 +1,12 @@
 #!/usr/bin/env python3
-"""Writes a WebAssembly module of at most 2,097,152 bytes, which is meant to be costly to validate, to
-standard output; KIND is one of the names below."""
+"""Writes a WebAssembly module of at most BYTES, or 2,097,152, bytes, which is meant to be costly to validate, to
+standard output: KIND [BYTES], KIND one of the names below."""
 import itertools
 import sys
 
 from leb128 import unsigned
 
-LIMIT = 2097152
+LIMIT = int(sys.argv[2]) if len(sys.argv) > 2 else 2097152
 PROCEDURE = b"\x60\x00\x00"
 # a table without entries
 TABLE = (4, b"\x01\x70\x00\x00")
