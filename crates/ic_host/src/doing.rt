@@ -28,7 +28,7 @@ use ic_principal::Bytes;
 use ic_printed::{
     accepted_text, call_refused_text, pick_text, query_text, ran_text, state_line, witness_line,
 };
-use ic_round::run_rounds;
+use ic_queue_rounds::run_rounds;
 use ic_script::{Ask, Command, LineCause, LineError, Paths, parse_line};
 use ic_state::{Canister, Env, Parts, Response, World};
 use std::alloc::Global;
