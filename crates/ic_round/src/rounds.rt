@@ -1,4 +1,4 @@
-ghost use Rattle.std.specs.Prelude.{◌≡◌, ◌≤◌, length, IfOk};
+ghost use Rattle.std.specs.Prelude.{◌≡◌, ◌<◌, ◌≤◌, length, IfOk};
 ghost use Rattle.std.specs.List.{concat};
 ghost use Rattle.ic_runs.specs.Steps.{along};
 ghost use Rattle.ic_runs.specs.Round.{round, rounds};
@@ -10,21 +10,24 @@ use ic_outside::Gate;
 use ic_rounds::canister_turns;
 use ic_state::World;
 use std::alloc::Global;
+use std::thread::Threads;
 
 /// A round: each canister that has a message handles its first one, in rising id, and then messages
 /// to no canister, the management canister among these, are handled down the list. Gives the number of
-/// messages that were handled, at least one where a message is under way. `limit` is the most
-/// instructions that one execution or installation may use, and `price` the cycles that an instruction
-/// of an execution costs.
-pub fn round<G: Gate + Sync>(
+/// messages that were handled, at least one where a message is under way. Canisters are worked on by up
+/// to `workers` workers, which pass the gate as `canister_turns` says. `limit` is the most instructions
+/// that one execution or installation may use, and `price` the cycles that an instruction of an execution
+/// costs.
+pub fn round<R: Threads + Sync, G: Gate + Sync>(
     alloc: Global,
+    rt: &R,
     world: World,
     workers: u32,
     limit: u64,
     price: u64,
     gate: &G,
 ) -> Result<(World, u64), NoMemory>
-    requires workers { workers ≡ 1 }
+    requires workers { (0 < workers) × (workers ≤ 64) }
     requires limit { limit ≤ 1000000000000 }
     ensures state { IfOk result (λ r. r.0
         ≡ along (managed_rules limit price) world
@@ -32,14 +35,15 @@ pub fn round<G: Gate + Sync>(
     ensures handled { IfOk result (λ r. r.1
         ≡ length (round (managed_rules limit price) world)) }
 {
-    let (world, first) = canister_turns(alloc, world, workers, limit, price, gate)?;
+    let (world, first) = canister_turns(alloc, rt, world, workers, limit, price, gate)?;
     let (world, second) = outside_turns(alloc, world, limit)?;
     Ok((world, first + second))
 }
 
 /// Up to `count` rounds, until no message is under way. Gives how many were made.
-pub fn run_rounds<G: Gate + Sync>(
+pub fn run_rounds<R: Threads + Sync, G: Gate + Sync>(
     alloc: Global,
+    rt: &R,
     world: World,
     count: u32,
     workers: u32,
@@ -47,7 +51,7 @@ pub fn run_rounds<G: Gate + Sync>(
     price: u64,
     gate: &G,
 ) -> Result<(World, u32), NoMemory>
-    requires workers { workers ≡ 1 }
+    requires workers { (0 < workers) × (workers ≤ 64) }
     requires limit { limit ≤ 1000000000000 }
     ensures state { IfOk result (λ r. r.0
         ≡ along (managed_rules limit price) world
@@ -60,7 +64,7 @@ pub fn run_rounds<G: Gate + Sync>(
         if world.parts().messages.is_empty() {
             return Ok((world, made));
         }
-        let (next, _) = round(alloc, world, workers, limit, price, gate)?;
+        let (next, _) = round(alloc, rt, world, workers, limit, price, gate)?;
         world = next;
     }
     Ok((world, count))

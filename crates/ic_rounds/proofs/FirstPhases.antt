@@ -1,8 +1,8 @@
 -- The code's first phase is the definition's.
-use Rattle.std.proofs.Common.{◌≡◌, ℕ, suc, Bool, true, false, cond, List, [], ◌∷◌, length, map, Option, Some, None, inl, inr, refl, sym, ap, ◌∙◌, subst}
+use Rattle.std.proofs.Common.{◌≡◌, ◌≤◌, ℕ, suc, Bool, true, false, cond, List, [], ◌∷◌, length, map, Option, Some, None, inl, inr, refl, sym, ap, ◌∙◌, subst, arith}
 use Rattle.std.specs.Prelude.{is_some}
 use Rattle.std.specs.Option.{option_map}
-use Rattle.std.specs.List.{list_any, find, fold, AllByRecursion}
+use Rattle.std.specs.List.{list_any, find, filter, fold, AllByRecursion}
 use Rattle.std.specs.Map.{lookup, keys_of, remove_entry}
 use Rattle.std.specs.Ordering.{nat_cmp}
 use Rattle.std.specs.Cmp.Lexicographic.{slice_cmp}
@@ -19,7 +19,7 @@ use Rattle.ic_behaviour.proofs.Ties.{tallied}
 use Rattle.ic_behaviour.proofs.Weights.{at-is}
 use Rattle.ic_accounting.proofs.Delivers.{deliver_sound, as_absent_keeps}
 use Rattle.ic_runs.specs.Steps.{Rules, step, along}
-use Rattle.ic_runs.specs.Round.{turns, busy, first_for, first_phase}
+use Rattle.ic_runs.specs.Round.{turns, busy, first_for, first_phase, has_message}
 use Rattle.ic_state.specs.declared.canister.Canister.{Canister as StoredCanister}
 use Rattle.ic_state.specs.declared.world.Parts.{Parts}
 use Rattle.ic_state.specs.Seen.{seen, state_of}
@@ -212,11 +212,21 @@ module _ (p : Parts) (is : IsWorld p) where
       ∙ sym (batch outside limit price s slots is.sound distinct all_slots)
       ∙ ap (λ ks. counted_state (along (system_rules outside limit price) s (turns (system_rules outside limit price) s ks))) (keys_are ∙ busy_is)
 
+  many_slots : length D.slots ≡ length (busy s)
+  many_slots = sym (length-map D.slots (λ (slot : StoredSlot). (slot.key, slot.message))) ∙ ap length pairs ∙ sym (length-map T.firsts (λ e. e.0)) ∙ ap length busy_is
+
   pub many : (outside : Outside) (limit price : ℕ) → length D.slots ≡ length (first_phase (system_rules outside limit price) s)
   unfolding first_phase
-  many outside limit price =
-      sym (length-map D.slots (λ (slot : StoredSlot). (slot.key, slot.message))) ∙ ap length pairs ∙ sym (length-map T.firsts (λ e. e.0))
-      ∙ ap length busy_is ∙ sym (length-turns (system_rules outside limit price) s (busy s))
+  many outside limit price = many_slots ∙ sym (length-turns (system_rules outside limit price) s (busy s))
+
+  fewer : (test : List ℕ → Bool) (keys : List (List ℕ)) → length (filter test keys) ≤ length keys
+  fewer test [] = omega arith
+  fewer test (key ∷ keys) = elim (cases_Bool (test key)) [ inl here ↦ rw here (omega (arith, fewer test keys)) | inr there ↦ rw there (omega (arith, fewer test keys)) ]
+
+  pub few : length D.slots ≤ 64
+  few =
+      let keys : length (keys_of s.canisters) ≡ length s.canisters = length-map s.canisters (λ e. e.0) in
+      omega (arith, many_slots, fewer (has_message s.messages) (keys_of s.canisters), keys, is.sound.sizes.canisters)
 
   -- what the slots come to is a world, and the state after the first phase
   pub phase_ends : (limit price : ℕ) (after : Parts) → AreCanisters after

@@ -1,5 +1,9 @@
 pub mod Slots
 pub mod Takes
+pub mod Elements
+pub mod Crossings
+pub mod Works
+pub mod Files
 pub mod Settles
 pub mod Batches
 pub mod PutBacks

@@ -1,7 +1,7 @@
 -- Slots that are handled one after another.
 use Rattle.std.proofs.Common.{◌≡◌, ℕ, ◌+◌, ◌-◌, ◌<◌, ◌≤◌, ◌^◌, List, [], ◌∷◌, ◌++◌, map, length, take, refl, sym, ap, ◌∙◌, subst, arith, not-suc-le-zero}
 use Rattle.std.specs.Prelude.{get_or}
-use Rattle.std.specs.List.{fold, flat_map, AllByRecursion}
+use Rattle.std.specs.List.{fold, flat_map, AllByRecursion, AllZip}
 use Rattle.std.specs.BTreeMap.{insert_entry}
 use Rattle.std.specs.declared.cmp.Ordering.{Ordering}
 use Rattle.std.specs.declared.cmp.Ordering.TheVariants.{Less, Equal, Greater}
@@ -18,6 +18,8 @@ use Rattle.ic_state.specs.Seen.{seen}
 use Rattle.ic_state.specs.IsCanister.{IsCanister}
 use Rattle.ic_calls.specs.Sent.{sent_from}
 use Rattle.ic_rounds.specs.declared.slot.Slot.{Slot as StoredSlot}
+use Rattle.ic_rounds.specs.declared.turn.Turn.{Turn}
+use Rattle.ic_rounds.specs.Turns.{IsTurn, put_turn}
 use Rattle.ic_rounds.specs.Settling.{Stored, seen_entry, stored_of, slot_of, ran, put, settle, IsReady, AreReady, AreCanisters, IsBack}
 
 -- ---- the map of canisters
@@ -76,14 +78,33 @@ keep-is before back after key c calls answers burned keeps all back_is after_is 
 
 -- ---- slots in their turn
 
-pub ready_turn : (env : Env) (w : Stored) (slots front : List StoredSlot) (slot : StoredSlot) → AreReady env w slots → length front < length slots → slot ≡ get_or slots (length front) slot
-    → front ≡ take (length front) slots
-    → IsReady slot × ((fold (settle env) w (map slot_of front)).burned + (ran env (slot_of slot)).burned ≤ 2 ^ 127 - 1)
-ready_turn env w [] front slot ready inside is so_far = absurd (not-suc-le-zero inside)
-ready_turn env w (x ∷ slots) [] slot ready inside is so_far =
-    subst (λ (y : StoredSlot). IsReady y × (w.burned + (ran env (slot_of y)).burned ≤ 2 ^ 127 - 1)) (sym is) (ready.0, ready.1)
-ready_turn env w (x ∷ slots) (y ∷ front) slot ready inside is so_far =
-    let first : y ≡ x = cc in
-    let rest : front ≡ take (length front) slots = cc in
-    let more = ready_turn env (settle env w (slot_of x)) slots front slot ready.2 (omega (arith, inside)) is rest in
-    subst (λ (z : StoredSlot). IsReady slot × ((fold (settle env) (settle env w (slot_of z)) (map slot_of front)).burned + (ran env (slot_of slot)).burned ≤ 2 ^ 127 - 1)) (sym first) more
+pub all-ready : (env : Env) (w : Stored) (slots : List StoredSlot) → AreReady env w slots → AllByRecursion IsReady slots
+all-ready env w [] ready = tt
+all-ready env w (slot ∷ slots) ready = (ready.0, all-ready env (settle env w (slot_of slot)) slots ready.2)
+
+-- what came of a slot is put as the slot's message says
+put-same : (env : Env) (w : Stored) (slot : StoredSlot) (x : Turn) → IsTurn env slot x → put_turn w x ≡ settle env w (slot_of slot)
+put-same env w slot x is = let key = is.key in let handled = is.handled in λ i. put w (key i) (handled i)
+
+pub turn_fits : (env : Env) (w : Stored) (slots : List StoredSlot) (all front : List Turn) (x : Turn) → AreReady env w slots → AllZip (IsTurn env) slots all
+    → length front < length all → x ≡ get_or all (length front) x → front ≡ take (length front) all
+    → IsCanister x.executed.canister × ((fold put_turn w front).burned + x.executed.burned ≤ 2 ^ 127 - 1)
+turn_fits env w [] [] front x ready zip inside is so_far = absurd (not-suc-le-zero inside)
+turn_fits env w [] (y ∷ all) front x ready zip inside is so_far = absurd zip
+turn_fits env w (slot ∷ slots) [] front x ready zip inside is so_far = absurd zip
+turn_fits env w (slot ∷ slots) (y ∷ all) [] x ready zip inside is so_far =
+    let burned : y.executed.burned ≡ (ran env (slot_of slot)).burned = ap (λ (h : Handled). h.burned) zip.0.handled in
+    subst (λ (z : Turn). IsCanister z.executed.canister × (w.burned + z.executed.burned ≤ 2 ^ 127 - 1)) (sym is) (zip.0.keeps, omega (arith, ready.1, burned))
+turn_fits env w (slot ∷ slots) (y ∷ all) (z ∷ front) x ready zip inside is so_far =
+    let first : z ≡ y = cc in
+    let rest : front ≡ take (length front) all = cc in
+    let more = turn_fits env (settle env w (slot_of slot)) slots all front x ready.2 zip.1 (omega (arith, inside)) is rest in
+    let same : put_turn w z ≡ settle env w (slot_of slot) = ap (put_turn w) first ∙ put-same env w slot y zip.0 in
+    subst (λ (v : Stored). IsCanister x.executed.canister × ((fold put_turn v front).burned + x.executed.burned ≤ 2 ^ 127 - 1)) (sym same) more
+
+pub turns_all : (env : Env) (w : Stored) (slots : List StoredSlot) (all : List Turn) → AllZip (IsTurn env) slots all → fold put_turn w all ≡ fold (settle env) w (map slot_of slots)
+turns_all env w [] [] zip = refl
+turns_all env w [] (y ∷ all) zip = absurd zip
+turns_all env w (slot ∷ slots) [] zip = absurd zip
+turns_all env w (slot ∷ slots) (y ∷ all) zip =
+    ap (λ (v : Stored). fold put_turn v all) (put-same env w slot y zip.0) ∙ turns_all env (settle env w (slot_of slot)) slots all zip.1

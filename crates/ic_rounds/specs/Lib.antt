@@ -1,3 +1,5 @@
 pub mod Taking
 pub mod Dealing
 pub mod Settling
+pub mod Turns
+pub mod Workers

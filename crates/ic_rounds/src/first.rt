@@ -11,20 +11,23 @@ use ic_base::NoMemory;
 use ic_outside::Gate;
 use ic_state::{Env, Parts, World};
 use std::alloc::Global;
+use std::thread::Threads;
 
 /// The first phase of a round: in rising id, each canister that had a message at the round's start
-/// handles the first one. Gives the number of messages that were handled. One worker runs, and passes
-/// no gate. `limit` is the most instructions that one execution may use, and `price` the cycles that
-/// an instruction costs. Whatever delivers calls to the management canister, none is delivered here.
-pub fn canister_turns<G: Gate + Sync>(
+/// handles the first one. Gives the number of messages that were handled. Up to `workers` workers share
+/// them out by tickets, and each passes the gate, with its own number and the slot's, before each message
+/// that it handles. `limit` is the most instructions that one execution may use, and `price` the cycles
+/// that an instruction costs. Whatever delivers calls to the management canister, none is delivered here.
+pub fn canister_turns<R: Threads + Sync, G: Gate + Sync>(
     alloc: Global,
+    rt: &R,
     world: World,
     workers: u32,
     limit: u64,
     price: u64,
     gate: &G,
 ) -> Result<(World, u64), NoMemory>
-    requires workers { workers ≡ 1 }
+    requires workers { (0 < workers) × (workers ≤ 64) }
     requires limit { limit ≤ 1000000000000 }
     ensures state { IfOk result (λ r. (outside : Outside)
         → r.0 ≡ along (system_rules outside limit price) world
@@ -33,8 +36,6 @@ pub fn canister_turns<G: Gate + Sync>(
         → r.1 ≡ length (first_phase (system_rules outside limit price) world)) }
     ensures few { IfOk result (λ r. r.1 < 2 ^ 63) }
 {
-    let _workers = workers;
-    let _gate = gate;
     let Parts {
         canisters,
         messages,
@@ -56,6 +57,14 @@ pub fn canister_turns<G: Gate + Sync>(
         burned,
         next_canister,
     };
-    let parts = settled(alloc, parts, slots, Env { time, limit, price })?;
+    let parts = settled(
+        alloc,
+        rt,
+        parts,
+        slots,
+        workers,
+        Env { time, limit, price },
+        gate,
+    )?;
     Ok((World::seal(parts), handled))
 }

@@ -1,16 +1,21 @@
-ghost use Rattle.std.specs.Prelude.{◌≡◌, ◌+◌, ◌-◌, ◌≤◌, ◌^◌, ℕ, List, map, IfOk};
+ghost use Rattle.std.specs.Prelude.{◌≡◌, ◌+◌, ◌-◌, ◌<◌, ◌≤◌, ◌^◌, ℕ, List, map, IfOk, vec_len};
 ghost use Rattle.std.specs.List.{fold, AllByRecursion};
 ghost use Rattle.ic_state.specs.declared.canister.Canister.{Canister as ACanister};
 ghost use Rattle.ic_state.specs.IsCanister.{IsCanister};
-ghost use Rattle.ic_rounds.specs.Settling.{stored_of, slot_of, ran, settle, IsReady, AreReady, AreCanisters, IsBack};
+ghost use Rattle.ic_rounds.specs.Settling.{stored_of, slot_of, settle, AreReady, AreCanisters, IsBack};
+ghost use Rattle.ic_rounds.specs.Turns.{put_turn};
 
+use crate::phase::turns_of;
 use crate::slot::Slot;
+use crate::turn::Turn;
 use ic_base::NoMemory;
 use ic_calls::route;
-use ic_exec::{Executed, execute};
+use ic_exec::Executed;
+use ic_outside::Gate;
 use ic_principal::Principal;
 use ic_state::{Canister, Env, Parts};
 use std::alloc::Global;
+use std::thread::Threads;
 
 // Puts a canister into the map; what it burned was burned.
 fn put_back(
@@ -43,33 +48,39 @@ fn put_back(
     })
 }
 
-// Handles the message of a slot, and puts its canister back.
-fn settle(alloc: Global, parts: Parts, slot: Slot, env: Env) -> Result<Parts, NoMemory>
-    requires ready { IsReady slot }
-    requires limit { env.limit ≤ 1000000000000 }
-    requires room { parts.burned + (ran env (slot_of slot)).burned ≤ 2 ^ 127 - 1 }
+// Puts what came of a slot where it belongs: its canister goes back, and what it sends goes on.
+fn settle(parts: Parts, turn: Turn) -> Result<Parts, NoMemory>
+    requires keeps { IsCanister turn.executed.canister }
+    requires room { parts.burned + turn.executed.burned ≤ 2 ^ 127 - 1 }
     requires keep { AreCanisters parts }
-    ensures stored { IfOk result (λ p. stored_of p ≡ settle env (stored_of parts) (slot_of slot)) }
+    ensures stored { IfOk result (λ p. stored_of p ≡ put_turn (stored_of parts) turn) }
     ensures keep { IfOk result AreCanisters }
 {
-    let Slot {
-        key,
-        canister,
-        message,
-    } = slot;
+    let Turn { key, executed } = turn;
     let Executed {
         canister,
         calls,
         answers,
         burned,
         ..
-    } = execute(alloc, canister, message, env)?;
+    } = executed;
     let parts = put_back(parts, key, canister, burned)?;
     route(parts, &key, calls, answers)
 }
 
-/// Handles the messages of slots, in their order, and puts their canisters back.
-pub fn settled(alloc: Global, parts: Parts, slots: Vec<Slot>, env: Env) -> Result<Parts, NoMemory>
+/// Handles the messages of slots on up to `workers` workers, and puts back their canisters, in the
+/// order of the slots.
+pub fn settled<R: Threads + Sync, G: Gate + Sync>(
+    alloc: Global,
+    rt: &R,
+    parts: Parts,
+    slots: Vec<Slot>,
+    workers: u32,
+    env: Env,
+    gate: &G,
+) -> Result<Parts, NoMemory>
+    requires workers { (0 < workers) × (workers ≤ 64) }
+    requires few { vec_len slots ≤ 64 }
     requires ready { AreReady env (stored_of parts) slots.items }
     requires limit { env.limit ≤ 1000000000000 }
     requires keep { AreCanisters parts }
@@ -77,9 +88,10 @@ pub fn settled(alloc: Global, parts: Parts, slots: Vec<Slot>, env: Env) -> Resul
         ≡ fold (settle env) (stored_of parts) (map slot_of slots.items)) }
     ensures keep { IfOk result AreCanisters }
 {
+    let turns = turns_of(alloc, rt, slots, workers, env, gate)?;
     let mut parts = parts;
-    for slot in slots {
-        parts = settle(alloc, parts, slot, env)?;
+    for turn in turns {
+        parts = settle(parts, turn)?;
     }
     Ok(parts)
 }

@@ -1,4 +1,4 @@
-use Rattle.std.proofs.Common.{ℕ, List, length, refl, sym, ap, ◌∙◌, subst}
+use Rattle.std.proofs.Common.{ℕ, List, length, refl, sym, ap, ◌∙◌, subst, arith}
 use Rattle.std.specs.List.{AllByRecursion}
 use Rattle.ic_behaviour.specs.State.{State}
 use Rattle.ic_behaviour.specs.Deliver.{env_at}
@@ -8,19 +8,27 @@ use Rattle.ic_runs.specs.Steps.{along}
 use Rattle.ic_runs.specs.Round.{first_phase}
 use Rattle.ic_accounting.specs.System.{system_rules}
 use Rattle.ic_rounds.specs.Settling.{AreReady}
-use Rattle.ic_rounds.proofs.FirstPhases.{passed, code_ends, all_ready, idle_keep, many}
+use Rattle.ic_rounds.proofs.FirstPhases.{passed, code_ends, all_ready, idle_keep, few, many}
 use Rattle.ic_rounds.proofs.first.canister_turns.Goals as goal
 
 pub settled-requires-clause-ready : goal.settled-requires-clause-ready
-settled-requires-clause-ready g c =
+settled-requires-clause-ready g c κs within =
     let p = c.open-canisters.result in
     let is = c.open-canisters.ensures.keeps in
     let values = passed p is c.in_ok-taken_out.field-0 c.open-firsts.result.0.entries c.open-firsts.result.1 c.in_ok-deal_out.field-0 c.open-canisters-2.result.0.entries c.open-canisters-2.result.1.items
     c.in_ok-taken_out.ensures c.open-firsts.ensures.firsts c.open-firsts.ensures.left c.in_ok-deal_out.ensures c.open-canisters-2.ensures.canisters c.open-canisters-2.ensures.slots in
     subst (AreReady (env_at p.time c.args.limit c.args.price) _) (sym values.slots_are) (all_ready p is c.args.limit c.args.price _ refl)
 
+pub settled-requires-clause-few : goal.settled-requires-clause-few
+settled-requires-clause-few g c κs within =
+    let p = c.open-canisters.result in
+    let is = c.open-canisters.ensures.keeps in
+    let values = passed p is c.in_ok-taken_out.field-0 c.open-firsts.result.0.entries c.open-firsts.result.1 c.in_ok-deal_out.field-0 c.open-canisters-2.result.0.entries c.open-canisters-2.result.1.items
+    c.in_ok-taken_out.ensures c.open-firsts.ensures.firsts c.open-firsts.ensures.left c.in_ok-deal_out.ensures c.open-canisters-2.ensures.canisters c.open-canisters-2.ensures.slots in
+    omega (arith, c.open-canisters-2.result.1.ok.0, ap length values.slots_are, few p is)
+
 pub settled-requires-clause-keep : goal.settled-requires-clause-keep
-settled-requires-clause-keep g c =
+settled-requires-clause-keep g c κs within =
     let p = c.open-canisters.result in
     let is = c.open-canisters.ensures.keeps in
     let values = passed p is c.in_ok-taken_out.field-0 c.open-firsts.result.0.entries c.open-firsts.result.1 c.in_ok-deal_out.field-0 c.open-canisters-2.result.0.entries c.open-canisters-2.result.1.items

@@ -1,25 +1,42 @@
-use Rattle.std.proofs.Common.{◌+◌, ◌-◌, ◌≤◌, ◌^◌, ℕ, sym, ap, ◌∙◌, subst, map}
+use Rattle.std.proofs.Common.{◌+◌, ◌-◌, ◌≤◌, ◌^◌, ℕ, sym, ap, ◌∙◌, subst}
 use Rattle.std.specs.List.{fold}
 use Rattle.std.proofs.lemmas.List.{map-id}
-use Rattle.std.proofs.lemmas.Iterator.Consumers.{YieldsList-so_far, YieldsList-turn}
+use Rattle.std.proofs.lemmas.Iterator.Consumers.{YieldsList-so_far, YieldsList-turn, YieldsList-end}
 use Rattle.std.proofs.lemmas.Iterator.Adapters.{YieldsList-from_vec}
-use Rattle.ic_rounds.specs.Settling.{Stored, stored_of, slot_of, ran, settle, IsReady}
-use Rattle.ic_rounds.proofs.Settles.{ready_turn}
+use Rattle.ic_rounds.specs.Settling.{Stored, stored_of}
+use Rattle.ic_rounds.specs.Turns.{put_turn}
+use Rattle.ic_rounds.proofs.Settles.{all-ready, turn_fits, turns_all}
 use Rattle.ic_rounds.proofs.settling.settled.Goals as goal
 
-turn : (c : goal.In-Some)
-    → IsReady c.in-Some.slot
-    × ((fold (settle c.args.env) (stored_of c.args.parts) (map slot_of c.loop-slot.yielded)).burned + (ran c.args.env (slot_of c.in-Some.slot)).burned ≤ 2 ^ 127 - 1)
-turn c =
-    let gives = c.into_iter-slot-iterator.ensures.into_iter_gives in
-    let road = YieldsList-from_vec {s = c.into_iter-slot-iterator.result} c.args.slots.items gives.0 (gives.1 ∙ c.args.slots.ok.0) in
-    let here = YieldsList-turn road c.loop-slot.yielded c.loop-slot.slot-iterator c.loop-slot.yielded_by c.next.result c.next.new.self c.in-Some.slot c.in-Some.is c.next.ensures.steps in
-    let so_far = YieldsList-so_far road c.loop-slot.yielded c.loop-slot.slot-iterator c.loop-slot.yielded_by in
-    ready_turn c.args.env (stored_of c.args.parts) c.args.slots.items c.loop-slot.yielded c.in-Some.slot c.requires.ready here.0 here.1 (sym (map-id c.loop-slot.yielded) ∙ so_far)
+pub turns_of-requires-clause-ready : goal.turns_of-requires-clause-ready
+turns_of-requires-clause-ready g c κs within = all-ready c.args.env (stored_of c.args.parts) c.args.slots.items c.requires.ready
 
-pub settle-requires-clause-ready : goal.settle-requires-clause-ready
-settle-requires-clause-ready c = (turn c).0
+pub settle-requires-clause-keeps : goal.settle-requires-clause-keeps
+settle-requires-clause-keeps g c =
+    let gives = c.into_iter-turn-iterator.ensures.into_iter_gives in
+    let turns = c.in_ok-turns.turns in
+    let road = YieldsList-from_vec {s = c.into_iter-turn-iterator.result} turns.items gives.0 (gives.1 ∙ turns.ok.0) in
+    let here = YieldsList-turn road c.loop-turn.yielded c.loop-turn.turn-iterator c.loop-turn.yielded_by c.next.result c.next.new.self c.in-Some.turn c.in-Some.is c.next.ensures.steps in
+    let so_far = YieldsList-so_far road c.loop-turn.yielded c.loop-turn.turn-iterator c.loop-turn.yielded_by in
+    (turn_fits c.args.env (stored_of c.args.parts) c.args.slots.items turns.items c.loop-turn.yielded c.in-Some.turn c.requires.ready c.in_ok-turns.ensures here.0 here.1
+    (sym (map-id c.loop-turn.yielded) ∙ so_far)).0
 
 pub settle-requires-clause-room : goal.settle-requires-clause-room
-settle-requires-clause-room c =
-    subst (λ (n : ℕ). n + (ran c.args.env (slot_of c.in-Some.slot)).burned ≤ 2 ^ 127 - 1) (sym (ap (λ (w : Stored). w.burned) c.loop-slot.invariant.stored)) (turn c).1
+settle-requires-clause-room g c =
+    let gives = c.into_iter-turn-iterator.ensures.into_iter_gives in
+    let turns = c.in_ok-turns.turns in
+    let road = YieldsList-from_vec {s = c.into_iter-turn-iterator.result} turns.items gives.0 (gives.1 ∙ turns.ok.0) in
+    let here = YieldsList-turn road c.loop-turn.yielded c.loop-turn.turn-iterator c.loop-turn.yielded_by c.next.result c.next.new.self c.in-Some.turn c.in-Some.is c.next.ensures.steps in
+    let so_far = YieldsList-so_far road c.loop-turn.yielded c.loop-turn.turn-iterator c.loop-turn.yielded_by in
+    let fits = turn_fits c.args.env (stored_of c.args.parts) c.args.slots.items turns.items c.loop-turn.yielded c.in-Some.turn c.requires.ready c.in_ok-turns.ensures here.0 here.1
+    (sym (map-id c.loop-turn.yielded) ∙ so_far) in
+    subst (λ (n : ℕ). n + c.in-Some.turn.executed.burned ≤ 2 ^ 127 - 1) (sym (ap (λ (w : Stored). w.burned) c.loop-turn.invariant.stored)) fits.1
+
+pub returns-clause-stored : goal.returns-clause-stored
+returns-clause-stored g c =
+    let gives = c.into_iter-turn-iterator.ensures.into_iter_gives in
+    let turns = c.in_ok-turns.turns in
+    let road = YieldsList-from_vec {s = c.into_iter-turn-iterator.result} turns.items gives.0 (gives.1 ∙ turns.ok.0) in
+    let all = YieldsList-end road c.loop-turn.yielded c.loop-turn.turn-iterator c.loop-turn.yielded_by c.next.result c.next.new.self c.in-None.is c.next.ensures.steps in
+    c.loop-turn.invariant.stored ∙ ap (fold put_turn (stored_of c.args.parts)) (sym (map-id c.loop-turn.yielded) ∙ all.0)
+    ∙ turns_all c.args.env (stored_of c.args.parts) c.args.slots.items turns.items c.in_ok-turns.ensures

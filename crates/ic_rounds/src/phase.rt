@@ -1,0 +1,139 @@
+ghost use Rattle.std.specs.Prelude.{◌≡◌, ◌<◌, ◌≤◌, ℕ, [], length, IfOk, OnOk, vec_len, vec_capacity};
+ghost use Rattle.std.specs.List.{AllByRecursion, AllZip};
+ghost use Rattle.ic_tickets.specs.Tickets.{items_of, IsOf, IsFresh, HasEnded, times_drawn};
+ghost use Rattle.ic_rounds.specs.Settling.{IsReady};
+ghost use Rattle.ic_rounds.specs.Turns.{IsTurn};
+ghost use Rattle.ic_rounds.specs.Workers.{IsIdle, IsDone, IsFilled};
+
+use crate::crew::all_work;
+use crate::filing::{file, taken, vacant};
+use crate::slot::Slot;
+use crate::turn::Turn;
+use crate::worker::{Shop, Worker};
+use ic_base::NoMemory;
+use ic_outside::Gate;
+use ic_state::Env;
+use ic_tickets::{Pass, Tickets};
+use std::alloc::Global;
+use std::snapshot::Snapshot;
+use std::thread::Threads;
+
+// A worker for each pass. Its outbox has room for all slots.
+fn staffed(
+    alloc: Global,
+    tickets: &Tickets<Slot>,
+    env: Env,
+    count: usize,
+    passes: Vec<Pass<Slot>>,
+) -> Result<Vec<Worker>, NoMemory>
+    requires passes { AllByRecursion (λ p. IsOf tickets.now p × IsFresh p) passes.items }
+    requires ready { AllByRecursion IsReady (items_of tickets.now) }
+    requires limit { env.limit ≤ 1000000000000 }
+    requires count { length (items_of tickets.now) ≤ count }
+    requires few { vec_len passes ≤ 64 }
+    ensures workers { IfOk result (λ v. AllByRecursion (IsIdle tickets.now env) v.items) }
+    ensures len { IfOk result (λ v. vec_len v ≡ vec_len passes) }
+{
+    let _at_these = tickets;
+    let _under = env;
+    let mut workers = Vec::with_capacity(alloc, passes.len())?;
+    for pass in passes {
+        let number = workers.len() as u32;
+        let outbox = Vec::with_capacity(alloc, count)?;
+        workers.push_reserved(Worker {
+            number,
+            pass,
+            outbox,
+        });
+    }
+    Ok(workers)
+}
+
+// What workers did goes into the places of their slots, and their passes come back.
+fn gathered(
+    alloc: Global,
+    tickets: &Tickets<Slot>,
+    slots: &Snapshot<Vec<Slot>>,
+    env: Env,
+    places: &mut Vec<Option<Turn>>,
+    workers: Vec<Worker>,
+) -> Result<Vec<Pass<Slot>>, NoMemory>
+    requires slots { slots.now.value.items ≡ items_of tickets.now }
+    requires len { vec_len places.old ≡ vec_len slots.now.value }
+    requires workers { AllByRecursion (IsDone tickets.now env) workers.items }
+    ensures len { vec_len places.new ≡ vec_len places.old }
+    ensures many { IfOk result (λ v. vec_len v ≡ vec_len workers) }
+    ensures passes { IfOk result (λ v. AllByRecursion (λ p. IsOf tickets.now p × HasEnded p) v.items) }
+    ensures filled { IfOk result (λ v. (k : ℕ) → 0 < times_drawn k v.items → IsFilled slots.now.value.items env places.new.items k) }
+{
+    let _of_these = tickets;
+    let mut passes = Vec::with_capacity(alloc, workers.len())?;
+    for worker in workers {
+        let Worker { pass, outbox, .. } = worker;
+        file(slots, env, places, outbox)?;
+        passes.push_reserved(pass);
+    }
+    Ok(passes)
+}
+
+// Workers draw the slots, and what came of them is taken in their order.
+fn shared_out<R: Threads + Sync, G: Gate + Sync>(
+    alloc: Global,
+    rt: &R,
+    slots: Vec<Slot>,
+    crew: u32,
+    env: Env,
+    gate: &G,
+) -> Result<Vec<Turn>, NoMemory>
+    requires crew { (0 < crew) × (crew ≤ 64) }
+    requires few { vec_len slots ≤ 64 }
+    requires ready { AllByRecursion IsReady slots.items }
+    requires limit { env.limit ≤ 1000000000000 }
+    ensures { IfOk result (λ v. AllZip (IsTurn env) slots.items v.items) }
+{
+    let these = Snapshot::of(&slots);
+    let count = slots.len();
+    let mut places = vacant(alloc, count)?;
+    let (tickets, passes) = Tickets::new(alloc, slots, crew)?;
+    let mut workers = staffed(alloc, &tickets, env, count, passes)?;
+    let shop = Shop {
+        alloc,
+        tickets: &tickets,
+        env,
+        gate,
+    };
+    all_work(rt, &shop, workers.as_mut_slice());
+    let Shop {
+        alloc: _,
+        tickets: _,
+        env: _,
+        gate: _,
+    } = shop;
+    let passes = gathered(alloc, &tickets, &these, env, &mut places, workers)?;
+    tickets.close(passes);
+    taken(alloc, &these, env, places)
+}
+
+/// Handles the messages of slots on up to `workers` workers, and no more than there are slots. What came
+/// of them stands in the order of the slots. Before each message its worker passes the gate, with its own
+/// number, from 0, and the slot's.
+pub fn turns_of<R: Threads + Sync, G: Gate + Sync>(
+    alloc: Global,
+    rt: &R,
+    slots: Vec<Slot>,
+    workers: u32,
+    env: Env,
+    gate: &G,
+) -> Result<Vec<Turn>, NoMemory>
+    requires workers { (0 < workers) × (workers ≤ 64) }
+    requires few { vec_len slots ≤ 64 }
+    requires ready { AllByRecursion IsReady slots.items }
+    requires limit { env.limit ≤ 1000000000000 }
+    ensures { IfOk result (λ v. AllZip (IsTurn env) slots.items v.items) }
+{
+    let crew = workers.min(slots.len() as u32);
+    if crew == 0 {
+        return Ok(Vec::new(alloc));
+    }
+    shared_out(alloc, rt, slots, crew, env, gate)
+}
