@@ -1,5 +1,5 @@
 -- A first phase from the queues is the first phase over the list.
-use Rattle.std.proofs.Common.{◌≡◌, ℕ, List, [], ◌∷◌, ◌++◌, map, slice_get, Option, Some, None, refl, sym, ap, ap₂, ◌∙◌, subst, inl, inr, append_assoc, append-nil}
+use Rattle.std.proofs.Common.{◌≡◌, ◌≤◌, length, arith, ℕ, List, [], ◌∷◌, ◌++◌, map, slice_get, Option, Some, None, refl, sym, ap, ap₂, ◌∙◌, subst, inl, inr, append_assoc, append-nil}
 use Rattle.std.specs.List.{fold, flat_map, AllByRecursion}
 use Rattle.std.specs.Map.{lookup, keys_of}
 use Rattle.std.proofs.lemmas.Bool.{cases_Bool}
@@ -24,7 +24,7 @@ use Rattle.ic_rounds.specs.declared.slot.Slot.{Slot as StoredSlot}
 use Rattle.ic_rounds.specs.Dealing.{Dealing, deal, none_dealt}
 use Rattle.ic_rounds.specs.Settling.{Stored, Slot, seen_entry, stored_of, slot_of, ran, put, settle, AreReady, AreCanisters, entering}
 use Rattle.ic_rounds.proofs.PutBacks.{Rises}
-use Rattle.ic_rounds.proofs.FirstPhases.{T, Passed, passed, code_ends, all_ready, idle_keep}
+use Rattle.ic_rounds.proofs.FirstPhases.{T, Passed, passed, code_ends, all_ready, idle_keep, few}
 use Rattle.ic_queues.specs.Queued.{Queued}
 use Rattle.ic_queue_rounds.specs.InQueues.{with_messages, IsInQueues}
 use Rattle.ic_queue_rounds.specs.Drawing.{Drawing, none_drawn, draw}
@@ -98,6 +98,9 @@ module _ (rest : Parts) (w : Queued) (is : IsInQueues rest w) where
   module _ (limit price : ℕ) (idle : List (List ℕ × StoredCanister)) (slots : List StoredSlot) (left : Queued) (began : Began idle slots left) where
     pub slots_ready : (v : Stored) → v.burned ≡ rest.burned → AreReady (env_at rest.time limit price) v slots
     slots_ready v same = subst (AreReady (env_at rest.time limit price) v) (sym began.values.slots_are) (all_ready whole is.keeps limit price v same)
+
+    pub few_slots : length slots ≤ 64
+    few_slots = omega (arith, ap length began.values.slots_are, few whole is.keeps)
 
     pub rest_keep : AllByRecursion (λ (e : List ℕ × StoredCanister). IsCanister e.1) idle
     rest_keep = subst (AllByRecursion (λ (e : List ℕ × StoredCanister). IsCanister e.1)) (sym began.values.canisters_are) (idle_keep whole is.keeps)

@@ -1,4 +1,4 @@
-ghost use Rattle.std.specs.Prelude.{◌≡◌, ◌≤◌, IfOk};
+ghost use Rattle.std.specs.Prelude.{◌≡◌, ◌<◌, ◌≤◌, IfOk};
 ghost use Rattle.ic_behaviour.specs.Deliver.{Outside};
 ghost use Rattle.ic_runs.specs.Steps.{along};
 ghost use Rattle.ic_runs.specs.Round.{first_phase};
@@ -12,25 +12,25 @@ use ic_outside::Gate;
 use ic_rounds::{deal_out, settled};
 use ic_state::{Env, Parts};
 use std::alloc::Global;
+use std::thread::Threads;
 
 /// The first phase of a round, as that of `ic_rounds`: no message is touched but the first ones, and
 /// those that are made.
-pub fn canister_turns<G: Gate + Sync>(
+pub fn canister_turns<R: Threads + Sync, G: Gate + Sync>(
     alloc: Global,
+    rt: &R,
     world: QueuedWorld,
     workers: u32,
     limit: u64,
     price: u64,
     gate: &G,
 ) -> Result<QueuedWorld, NoMemory>
-    requires workers { workers ≡ 1 }
+    requires workers { (0 < workers) × (workers ≤ 64) }
     requires limit { limit ≤ 1000000000000 }
     ensures { IfOk result (λ w. (outside : Outside)
         → w ≡ along (system_rules outside limit price) world
         (first_phase (system_rules outside limit price) world)) }
 {
-    let _workers = workers;
-    let _gate = gate;
     let (rest, queues) = world.open();
     let keys = ids(alloc, &rest.canisters)?;
     let (firsts, queues) = draw_all(alloc, keys, queues)?.open();
@@ -53,7 +53,15 @@ pub fn canister_turns<G: Gate + Sync>(
         burned,
         next_canister,
     };
-    let parts = settled(alloc, parts, slots, Env { time, limit, price })?;
+    let parts = settled(
+        alloc,
+        rt,
+        parts,
+        slots,
+        workers,
+        Env { time, limit, price },
+        gate,
+    )?;
     let (rest, sent) = taken_apart(alloc, parts);
     let queues = queues.append(sent)?;
     Ok(QueuedWorld::seal(rest, queues))

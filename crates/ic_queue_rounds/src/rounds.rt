@@ -12,6 +12,7 @@ use ic_outside::Gate;
 use ic_round::{round as round_over_list, run_rounds as rounds_over_list};
 use ic_state::World;
 use std::alloc::Global;
+use std::thread::Threads;
 
 /// Fewer rounds cost less over the list than it costs to put its messages into queues and to give the
 /// list back: a script that makes a round or two a line would else pay for all messages at each line.
@@ -22,27 +23,29 @@ const FEW: u32 = 8;
 const SHORT: usize = 64;
 
 /// A round over queues.
-pub fn round<G: Gate + Sync>(
+pub fn round<R: Threads + Sync, G: Gate + Sync>(
     alloc: Global,
+    rt: &R,
     world: QueuedWorld,
     workers: u32,
     limit: u64,
     price: u64,
     gate: &G,
 ) -> Result<QueuedWorld, NoMemory>
-    requires workers { workers ≡ 1 }
+    requires workers { (0 < workers) × (workers ≤ 64) }
     requires limit { limit ≤ 1000000000000 }
     ensures { IfOk result (λ w. w
         ≡ along (managed_rules limit price) world
         (round (managed_rules limit price) world)) }
 {
-    let world = canister_turns(alloc, world, workers, limit, price, gate)?;
+    let world = canister_turns(alloc, rt, world, workers, limit, price, gate)?;
     outside_turns(alloc, world, limit)
 }
 
 // Up to `count` rounds over queues.
-fn queued_rounds<G: Gate + Sync>(
+fn queued_rounds<R: Threads + Sync, G: Gate + Sync>(
     alloc: Global,
+    rt: &R,
     world: QueuedWorld,
     count: u32,
     workers: u32,
@@ -50,7 +53,7 @@ fn queued_rounds<G: Gate + Sync>(
     price: u64,
     gate: &G,
 ) -> Result<(QueuedWorld, u32), NoMemory>
-    requires workers { workers ≡ 1 }
+    requires workers { (0 < workers) × (workers ≤ 64) }
     requires limit { limit ≤ 1000000000000 }
     ensures state { IfOk result (λ r. r.0
         ≡ along (managed_rules limit price) world
@@ -64,7 +67,7 @@ fn queued_rounds<G: Gate + Sync>(
         if world.is_empty() {
             return Ok((world, made));
         }
-        world = round(alloc, world, workers, limit, price, gate)?;
+        world = round(alloc, rt, world, workers, limit, price, gate)?;
     }
     Ok((world, count))
 }
@@ -79,8 +82,9 @@ fn has_few_messages(world: &World) -> bool
 
 // Rounds over the list, as long as it is short: at most `count`, and what is left to do leads to the end
 // of `count` rounds.
-fn short_rounds<G: Gate + Sync>(
+fn short_rounds<R: Threads + Sync, G: Gate + Sync>(
     alloc: Global,
+    rt: &R,
     world: World,
     count: u32,
     workers: u32,
@@ -88,7 +92,7 @@ fn short_rounds<G: Gate + Sync>(
     price: u64,
     gate: &G,
 ) -> Result<(World, u32), NoMemory>
-    requires workers { workers ≡ 1 }
+    requires workers { (0 < workers) × (workers ≤ 64) }
     requires limit { limit ≤ 1000000000000 }
     ensures state { IfOk result (λ r.
         along (managed_rules limit price) r.0 (concat (rounds (managed_rules limit price) (count - r.1) r.0))
@@ -103,15 +107,16 @@ fn short_rounds<G: Gate + Sync>(
         if !has_few_messages(&world) {
             return Ok((world, made));
         }
-        let (next, _) = round_over_list(alloc, world, workers, limit, price, gate)?;
+        let (next, _) = round_over_list(alloc, rt, world, workers, limit, price, gate)?;
         world = next;
     }
     Ok((world, count))
 }
 
 // Up to `count` rounds over queues, whose messages are put into them first and given back at the end.
-fn long_rounds<G: Gate + Sync>(
+fn long_rounds<R: Threads + Sync, G: Gate + Sync>(
     alloc: Global,
+    rt: &R,
     world: World,
     count: u32,
     workers: u32,
@@ -119,7 +124,7 @@ fn long_rounds<G: Gate + Sync>(
     price: u64,
     gate: &G,
 ) -> Result<(World, u32), NoMemory>
-    requires workers { workers ≡ 1 }
+    requires workers { (0 < workers) × (workers ≤ 64) }
     requires limit { limit ≤ 1000000000000 }
     ensures state { IfOk result (λ r. r.0
         ≡ along (managed_rules limit price) world
@@ -132,13 +137,14 @@ fn long_rounds<G: Gate + Sync>(
         return Ok((world, 0));
     }
     let world = QueuedWorld::new(alloc, world)?;
-    let (world, made) = queued_rounds(alloc, world, count, workers, limit, price, gate)?;
+    let (world, made) = queued_rounds(alloc, rt, world, count, workers, limit, price, gate)?;
     Ok((world.into_world(alloc)?, made))
 }
 
 /// Up to `count` rounds, until no message is under way. Gives how many were made.
-pub fn run_rounds<G: Gate + Sync>(
+pub fn run_rounds<R: Threads + Sync, G: Gate + Sync>(
     alloc: Global,
+    rt: &R,
     world: World,
     count: u32,
     workers: u32,
@@ -146,7 +152,7 @@ pub fn run_rounds<G: Gate + Sync>(
     price: u64,
     gate: &G,
 ) -> Result<(World, u32), NoMemory>
-    requires workers { workers ≡ 1 }
+    requires workers { (0 < workers) × (workers ≤ 64) }
     requires limit { limit ≤ 1000000000000 }
     ensures state { IfOk result (λ r. r.0
         ≡ along (managed_rules limit price) world
@@ -155,9 +161,9 @@ pub fn run_rounds<G: Gate + Sync>(
         ≡ length (rounds (managed_rules limit price) count world)) }
 {
     if count < FEW {
-        return rounds_over_list(alloc, world, count, workers, limit, price, gate);
+        return rounds_over_list(alloc, rt, world, count, workers, limit, price, gate);
     }
-    let (world, made) = short_rounds(alloc, world, count, workers, limit, price, gate)?;
-    let (world, more) = long_rounds(alloc, world, count - made, workers, limit, price, gate)?;
+    let (world, made) = short_rounds(alloc, rt, world, count, workers, limit, price, gate)?;
+    let (world, more) = long_rounds(alloc, rt, world, count - made, workers, limit, price, gate)?;
     Ok((world, made + more))
 }

@@ -1,20 +1,27 @@
-use Rattle.std.proofs.Common.{refl, ap, ◌∙◌}
+use Rattle.std.proofs.Common.{refl, ap, ◌∙◌, arith}
 use Rattle.ic_behaviour.specs.State.{State}
 use Rattle.ic_runs.specs.Steps.{along}
 use Rattle.ic_runs.specs.Round.{first_phase}
 use Rattle.ic_accounting.specs.System.{system_rules}
-use Rattle.ic_queue_rounds.proofs.Fronts.{begins, slots_ready, rest_keep, sealed}
+use Rattle.ic_queue_rounds.proofs.Fronts.{begins, slots_ready, few_slots, rest_keep, sealed}
 use Rattle.ic_queue_rounds.proofs.first.canister_turns.Goals as goal
 
 pub settled-requires-clause-ready : goal.settled-requires-clause-ready
-settled-requires-clause-ready g c =
+settled-requires-clause-ready g c κs within =
     let began = begins c.open-rest.result.0 c.open-rest.result.1 c.open-rest.ensures.keeps c.in_ok-keys.keys.items c.in_ok-draw_all.field-0 c.open-firsts.result.0.entries c.open-firsts.result.1
     c.in_ok-deal_out.field-0 c.open-canisters.result.0.entries c.open-canisters.result.1.items c.in_ok-keys.ensures c.in_ok-draw_all.ensures c.open-firsts.ensures.firsts c.open-firsts.ensures.queues
     c.in_ok-deal_out.ensures c.open-canisters.ensures.canisters c.open-canisters.ensures.slots in
     slots_ready c.open-rest.result.0 c.open-rest.result.1 c.open-rest.ensures.keeps c.args.limit c.args.price _ _ _ began _ refl
 
+pub settled-requires-clause-few : goal.settled-requires-clause-few
+settled-requires-clause-few g c κs within =
+    let began = begins c.open-rest.result.0 c.open-rest.result.1 c.open-rest.ensures.keeps c.in_ok-keys.keys.items c.in_ok-draw_all.field-0 c.open-firsts.result.0.entries c.open-firsts.result.1
+    c.in_ok-deal_out.field-0 c.open-canisters.result.0.entries c.open-canisters.result.1.items c.in_ok-keys.ensures c.in_ok-draw_all.ensures c.open-firsts.ensures.firsts c.open-firsts.ensures.queues
+    c.in_ok-deal_out.ensures c.open-canisters.ensures.canisters c.open-canisters.ensures.slots in
+    omega (arith, c.open-canisters.result.1.ok.0, few_slots c.open-rest.result.0 c.open-rest.result.1 c.open-rest.ensures.keeps c.args.limit c.args.price _ _ _ began)
+
 pub settled-requires-clause-keep : goal.settled-requires-clause-keep
-settled-requires-clause-keep g c =
+settled-requires-clause-keep g c κs within =
     let began = begins c.open-rest.result.0 c.open-rest.result.1 c.open-rest.ensures.keeps c.in_ok-keys.keys.items c.in_ok-draw_all.field-0 c.open-firsts.result.0.entries c.open-firsts.result.1
     c.in_ok-deal_out.field-0 c.open-canisters.result.0.entries c.open-canisters.result.1.items c.in_ok-keys.ensures c.in_ok-draw_all.ensures c.open-firsts.ensures.firsts c.open-firsts.ensures.queues
     c.in_ok-deal_out.ensures c.open-canisters.ensures.canisters c.open-canisters.ensures.slots in
