@@ -32,11 +32,9 @@ use ic_queue_rounds::run_rounds;
 use ic_script::{Ask, Command, LineCause, LineError, Paths, parse_line};
 use ic_state::{Canister, Env, Parts, Response, World};
 use std::alloc::Global;
+use std::thread::Threads;
 
 const MOST_CALLS: usize = 1_048_576;
-
-// One worker runs, whatever number is allowed.
-const WORKERS: u32 = 1;
 
 /// Why a line was not done.
 #[derive(Clone, Copy, Debug, PartialEq, Eq)]
@@ -78,8 +76,9 @@ impl From<LineError> for NotDone {
 
 /// Does a line: the world after it, and what it prints. On an error the world is dropped.
 #[tactic(auto, unfolding(crate::specs::AfterLine::after_line))]
-pub fn do_line<G: Gate + Sync>(
+pub fn do_line<R: Threads + Sync, G: Gate + Sync>(
     alloc: Global,
+    rt: &R,
     options: &Options,
     world: World,
     line: &[u8],
@@ -89,14 +88,15 @@ pub fn do_line<G: Gate + Sync>(
     ensures { Acts (after_line options.now world line.now) result }
 {
     match parse_line(alloc, line) {
-        Ok(command) => do_command(alloc, options, world, command, gate),
+        Ok(command) => do_command(alloc, rt, options, world, command, gate),
         Err(error) => Err(NotDone::from(error)),
     }
 }
 
 #[tactic(auto, unfolding(crate::specs::AfterCommand::after_command))]
-fn do_command<G: Gate + Sync>(
+fn do_command<R: Threads + Sync, G: Gate + Sync>(
     alloc: Global,
+    rt: &R,
     options: &Options,
     world: World,
     command: Command,
@@ -117,8 +117,8 @@ fn do_command<G: Gate + Sync>(
         )),
         Command::Call(ask) => submit(alloc, options, world, ask),
         Command::Query(ask) => answer(alloc, options, world, ask),
-        Command::Run(count) => make_rounds(alloc, options, world, count, gate),
-        Command::Drain => make_rounds(alloc, options, world, options.rounds, gate),
+        Command::Run(count) => make_rounds(alloc, rt, options, world, count, gate),
+        Command::Drain => make_rounds(alloc, rt, options, world, options.rounds, gate),
         Command::Time(time) => set_time(alloc, world, time),
         Command::State => show_state(alloc, world),
         Command::Decode { expected, bytes } => decode(alloc, world, &expected, &bytes),
@@ -274,8 +274,9 @@ fn answer_now(
     }
 }
 
-fn make_rounds<G: Gate + Sync>(
+fn make_rounds<R: Threads + Sync, G: Gate + Sync>(
     alloc: Global,
+    rt: &R,
     options: &Options,
     world: World,
     count: u32,
@@ -284,7 +285,7 @@ fn make_rounds<G: Gate + Sync>(
     requires { HasBounds options.now }
     ensures { Acts (Ok (after_rounds options.now count world, text_of_rounds options.now count world)) result }
 {
-    let Ok((world, made)) = run_rounds_by(alloc, options, world, count, gate) else {
+    let Ok((world, made)) = run_rounds_by(alloc, rt, options, world, count, gate) else {
         return Err(NotDone::NoMemory);
     };
     match ran_text(alloc, made, world.parts().messages.items.len()) {
@@ -295,8 +296,9 @@ fn make_rounds<G: Gate + Sync>(
 
 /// Makes up to so many rounds, as the options say: the world after them, and how many handled a
 /// message.
-pub fn run_rounds_by<G: Gate + Sync>(
+pub fn run_rounds_by<R: Threads + Sync, G: Gate + Sync>(
     alloc: Global,
+    rt: &R,
     options: &Options,
     world: World,
     count: u32,
@@ -308,9 +310,10 @@ pub fn run_rounds_by<G: Gate + Sync>(
 {
     match run_rounds(
         alloc,
+        rt,
         world,
         count,
-        WORKERS,
+        options.workers,
         options.limit,
         options.price,
         gate,

@@ -16,10 +16,12 @@ use ic_outside::{Gate, Sink};
 use ic_printed::{answer_text, closing, summary};
 use ic_state::{Request, World};
 use std::alloc::Global;
+use std::thread::Threads;
 
 /// Makes the rounds at the end of the script, and prints the answer to each call and the state.
-pub fn finish<K: Sink, G: Gate + Sync>(
+pub fn finish<R: Threads + Sync, K: Sink, G: Gate + Sync>(
     alloc: Global,
+    rt: &R,
     options: &Options,
     world: World,
     gathered: &mut Gathered,
@@ -30,15 +32,16 @@ pub fn finish<K: Sink, G: Gate + Sync>(
     ensures finished { Concludes (sink_at K.taken K.fits K.faults sink.old) (sink_at K.taken K.fits K.faults sink.new)
         (behind_gathered gathered.old (end_output options.now world)) result }
 {
-    match end_world(alloc, options, world, gate) {
+    match end_world(alloc, rt, options, world, gate) {
         Ok(world) => print_end(alloc, &world, gathered, sink),
         Err(_) => gathered.give_up(sink),
     }
 }
 
 // The world after the rounds at the end of the script.
-fn end_world<G: Gate + Sync>(
+fn end_world<R: Threads + Sync, G: Gate + Sync>(
     alloc: Global,
+    rt: &R,
     options: &Options,
     world: World,
     gate: &G,
@@ -46,7 +49,7 @@ fn end_world<G: Gate + Sync>(
     requires { HasBounds options.now }
     ensures { IfOk result (λ w. w ≡ end_state options.now world) }
 {
-    match run_rounds_by(alloc, options, world, options.rounds, gate) {
+    match run_rounds_by(alloc, rt, options, world, options.rounds, gate) {
         Ok((world, _)) => Ok(world),
         Err(error) => Err(error),
     }
@@ -98,8 +101,9 @@ fn print_state<K: Sink>(
 }
 
 /// The same at the end of a generated script, whose answers are only counted.
-pub fn finish_shortly<K: Sink, G: Gate + Sync>(
+pub fn finish_shortly<R: Threads + Sync, K: Sink, G: Gate + Sync>(
     alloc: Global,
+    rt: &R,
     options: &Options,
     world: World,
     sink: &mut K,
@@ -109,7 +113,7 @@ pub fn finish_shortly<K: Sink, G: Gate + Sync>(
     ensures { Concludes (sink_at K.taken K.fits K.faults sink.old) (sink_at K.taken K.fits K.faults sink.new)
         (record { bytes = short_end_part options.now world; status = Status.Done }) result }
 {
-    match end_world(alloc, options, world, gate) {
+    match end_world(alloc, rt, options, world, gate) {
         Ok(world) => print_summary(alloc, &world, sink),
         Err(_) => Status::NoMemory,
     }

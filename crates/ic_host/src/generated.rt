@@ -20,13 +20,15 @@ use ic_printed::bad_text;
 use ic_script::LineCause;
 use ic_state::World;
 use std::alloc::Global;
+use std::thread::Threads;
 
 // How many bytes of the script are read at once.
 const PIECE: usize = 65_536;
 
 /// Runs the script that a number stands for, and prints the short end part.
-pub fn run_generated<K: Sink, G: Gate + Sync>(
+pub fn run_generated<R: Threads + Sync, K: Sink, G: Gate + Sync>(
     alloc: Global,
+    rt: &R,
     options: &Options,
     number: u32,
     sink: &mut K,
@@ -40,16 +42,17 @@ pub fn run_generated<K: Sink, G: Gate + Sync>(
     let Ok(text) = generate(alloc, number) else {
         return Status::NoMemory;
     };
-    match do_lines(alloc, options, text, gate) {
-        Ok(world) => finish_shortly(alloc, options, world, sink, gate),
+    match do_lines(alloc, rt, options, text, gate) {
+        Ok(world) => finish_shortly(alloc, rt, options, world, sink, gate),
         Err(Status::BadLine { line, cause }) => report(alloc, line, cause, sink),
         Err(status) => status,
     }
 }
 
 // Does the lines of a script, of which nothing is printed: the world behind the last one.
-fn do_lines<G: Gate + Sync>(
+fn do_lines<R: Threads + Sync, G: Gate + Sync>(
     alloc: Global,
+    rt: &R,
     options: &Options,
     text: Bytes,
     gate: &G,
@@ -62,7 +65,7 @@ fn do_lines<G: Gate + Sync>(
     let mut world = World::new(alloc);
     loop {
         match lines.next(&mut source) {
-            Ok(Some(line)) => match turn(alloc, options, world, &line, gate) {
+            Ok(Some(line)) => match turn(alloc, rt, options, world, &line, gate) {
                 Ok(next) => world = next,
                 Err(status) => return Err(status),
             },
@@ -73,8 +76,9 @@ fn do_lines<G: Gate + Sync>(
 }
 
 // The world behind a line.
-fn turn<G: Gate + Sync>(
+fn turn<R: Threads + Sync, G: Gate + Sync>(
     alloc: Global,
+    rt: &R,
     options: &Options,
     world: World,
     line: &Line,
@@ -83,7 +87,7 @@ fn turn<G: Gate + Sync>(
     requires { HasBounds options.now }
     ensures { Does line.now.number (after_line options.now world line.now.bytes) result }
 {
-    match do_line(alloc, options, world, &line.bytes.items, gate) {
+    match do_line(alloc, rt, options, world, &line.bytes.items, gate) {
         Ok((next, _)) => Ok(next),
         Err(NotDone::Bad(cause)) => Err(Status::BadLine {
             line: line.number,

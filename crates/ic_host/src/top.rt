@@ -31,10 +31,11 @@ pub const LARGEST_LINE: usize = 8_388_608;
 pub const LARGEST_SCRIPT: u64 = 268_435_456;
 
 /// Runs the script that the source gives, as the words ask, and prints to the sink. The words begin
-/// with the program's name. The gate is passed as soon as rounds have several workers.
+/// with the program's name. Rounds are worked on by as many workers as the words say, and each passes the
+/// gate before each message that it handles.
 pub fn replica<R: Threads + Sync, S: Source, K: Sink, G: Gate + Sync>(
     alloc: Global,
-    _rt: &R,
+    rt: &R,
     words: &[String],
     source: &mut S,
     sink: &mut K,
@@ -92,11 +93,12 @@ pub fn replica<R: Threads + Sync, S: Source, K: Sink, G: Gate + Sync>(
         × (S.faults source.new ≡ S.faults source.old)
         × (K.faults sink.new ≡ K.faults sink.old))) }
 {
-    run(alloc, words, source, sink, gate)
+    run(alloc, rt, words, source, sink, gate)
 }
 
-fn run<S: Source, K: Sink, G: Gate + Sync>(
+fn run<R: Threads + Sync, S: Source, K: Sink, G: Gate + Sync>(
     alloc: Global,
+    rt: &R,
     words: &[String],
     source: &mut S,
     sink: &mut K,
@@ -116,8 +118,8 @@ fn run<S: Source, K: Sink, G: Gate + Sync>(
 {
     match Options::read(alloc, words) {
         Ok(Some(options)) => match options.generate {
-            Some(number) => run_generated(alloc, &options, number, sink, gate),
-            None => run_script(alloc, &options, source, sink, gate),
+            Some(number) => run_generated(alloc, rt, &options, number, sink, gate),
+            None => run_script(alloc, rt, &options, source, sink, gate),
         },
         Ok(None) => refuse(sink),
         Err(_) => Status::NoMemory,
@@ -132,8 +134,9 @@ fn refuse<K: Sink>(sink: &mut K) -> Status
     print_last(sink, usage().as_bytes(), Status::BadWords)
 }
 
-fn run_script<S: Source, K: Sink, G: Gate + Sync>(
+fn run_script<R: Threads + Sync, S: Source, K: Sink, G: Gate + Sync>(
     alloc: Global,
+    rt: &R,
     options: &Options,
     source: &mut S,
     sink: &mut K,
@@ -163,20 +166,21 @@ fn run_script<S: Source, K: Sink, G: Gate + Sync>(
         }
         match lines.next(source) {
             Ok(Some(line)) => {
-                match turn(alloc, options, world, &line, &mut gathered, sink, gate) {
+                match turn(alloc, rt, options, world, &line, &mut gathered, sink, gate) {
                     Ok(next) => world = next,
                     Err(status) => return status,
                 }
             }
-            Ok(None) => return finish(alloc, options, world, &mut gathered, sink, gate),
+            Ok(None) => return finish(alloc, rt, options, world, &mut gathered, sink, gate),
             Err(fault) => return stop(alloc, fault, &mut gathered, sink),
         }
     }
 }
 
 // Does a line and gathers what it prints, or reports that it is bad.
-fn turn<K: Sink, G: Gate + Sync>(
+fn turn<R: Threads + Sync, K: Sink, G: Gate + Sync>(
     alloc: Global,
+    rt: &R,
     options: &Options,
     world: World,
     line: &Line,
@@ -188,7 +192,7 @@ fn turn<K: Sink, G: Gate + Sync>(
     ensures turns { Turns (sink_at K.taken K.fits K.faults sink.old) (sink_at K.taken K.fits K.faults sink.new)
         gathered.old gathered.new line.now.number (after_line options.now world line.now.bytes) result }
 {
-    match do_line(alloc, options, world, &line.bytes.items, gate) {
+    match do_line(alloc, rt, options, world, &line.bytes.items, gate) {
         Ok((next, text)) => match gathered.put(sink, &text.items) {
             Ok(()) => Ok(next),
             Err(status) => Err(status),
