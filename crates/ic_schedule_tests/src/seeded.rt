@@ -10,6 +10,7 @@ use ic_state::{Canister, World};
 use std::alloc::Global;
 use std::process::Abort;
 use std::test::*;
+use std::thread::Threads;
 
 // One world in three copies: it goes on by single picks, by a list of picks, and by rounds.
 #[derive(Drop)]
@@ -117,12 +118,17 @@ fn second_phase(
 }
 
 // A round in each way; how many messages were delivered in the last two.
-fn next(alloc: Global, copies: Copies, price: u64) -> Result<(Copies, [u64; 2]), NoMemory> {
+fn next<R: Threads + Sync>(
+    alloc: Global,
+    rt: &R,
+    copies: Copies,
+    price: u64,
+) -> Result<(Copies, [u64; 2]), NoMemory> {
     let mut places = Vec::new(alloc);
     let single = first_phase(alloc, copies.single, &mut places, price)?;
     let single = second_phase(alloc, single, &mut places, price)?;
     let (listed, count) = picked(alloc, copies.listed, &places, price)?;
-    let (rounds, handled) = round(alloc, copies.rounds, 1, 50_000_000, price, &OpenGate)?;
+    let (rounds, handled) = round(alloc, rt, copies.rounds, 1, 50_000_000, price, &OpenGate)?;
     let copies = Copies {
         single,
         listed,
@@ -160,7 +166,11 @@ fn compare(rt: &impl Abort, alloc: Global, copies: &Copies) -> Result<(), NoMemo
 }
 
 // Five rounds of one world.
-fn check_seed(rt: &impl Abort, alloc: Global, seed: u64) -> Result<u64, NoMemory> {
+fn check_seed<R: Abort + Threads + Sync>(
+    rt: &R,
+    alloc: Global,
+    seed: u64,
+) -> Result<u64, NoMemory> {
     let mut copies = Copies {
         single: some_world(alloc, seed)?,
         listed: some_world(alloc, seed)?,
@@ -168,7 +178,7 @@ fn check_seed(rt: &impl Abort, alloc: Global, seed: u64) -> Result<u64, NoMemory
     };
     let mut all: u64 = 0;
     for _ in 0..5 {
-        let (after, counts) = next(alloc, copies, seed & 1)?;
+        let (after, counts) = next(alloc, rt, copies, seed & 1)?;
         assert_eq!(rt; counts[0], counts[1], "seed {seed}");
         compare(rt, alloc, &after)?;
         all = all.wrapping_add(counts[0]);
