@@ -45,7 +45,8 @@ pub fn run_generated<R: Threads + Sync, K: Sink, G: Gate + Sync>(
     match do_lines(alloc, rt, options, text, gate) {
         Ok(world) => finish_shortly(alloc, rt, options, world, sink, gate),
         Err(Status::BadLine { line, cause }) => report(alloc, line, cause, sink),
-        Err(status) => status,
+        // No other status comes of memory.
+        Err(_) => Status::NoMemory,
     }
 }
 
