@@ -1,7 +1,7 @@
 use crate::running::{Run, is_run, nothing};
 
-// Lines that read messages and texts of values, and what each prints.
-static READ: [(&str, &[u8]); 64] = [
+// Lines that are answered at once, and what each prints.
+static READ: [(&str, &[u8]); 80] = [
     // nat
     (
         "decode 4449444c00017d 4449444c00017d2a",
@@ -249,6 +249,76 @@ static READ: [(&str, &[u8]); 64] = [
     ("encode 4449444c00017d 282d3129", b"refused NotText\n"),
     ("encode 4449444c00017d -", b"refused NotText\n"),
     ("encode 4449444c000172 28343229", b"bad expected\n"),
+    // a method more, and one less
+    (
+        "upgradable 73657276696365203a207b20676574203a202829202d3e20286e617429207175657279207d 73657276696365203a207b20676574203a202829202d3e20286e6174292071756572793b20736574203a20286e617429202d3e202829207d",
+        b"upgradable yes\n",
+    ),
+    (
+        "upgradable 73657276696365203a207b20676574203a202829202d3e20286e6174292071756572793b20736574203a20286e617429202d3e202829207d 73657276696365203a207b20676574203a202829202d3e20286e617429207175657279207d",
+        b"upgradable no\n",
+    ),
+    // a list unrolled once
+    (
+        "upgradable 74797065204c203d206f7074207265636f7264207b206e61743b204c207d3b2073657276696365203a207b2066203a20284c29202d3e202829207d 74797065204c203d206f7074207265636f7264207b206e61743b206f7074207265636f7264207b206e61743b204c207d207d3b2073657276696365203a207b2066203a20284c29202d3e202829207d",
+        b"upgradable yes\n",
+    ),
+    // fields in another order
+    (
+        "upgradable 73657276696365203a207b2066203a20287265636f7264207b2062203a206e61743b2061203a2074657874207d29202d3e202829207d 73657276696365203a207b2066203a20287265636f7264207b2061203a20746578743b2062203a206e6174207d29202d3e202829207d",
+        b"upgradable yes\n",
+    ),
+    // a result that is no longer one
+    (
+        "upgradable 73657276696365203a207b2066203a202829202d3e2028696e7429207d 73657276696365203a207b2066203a202829202d3e20286e617429207d",
+        b"upgradable yes\n",
+    ),
+    (
+        "upgradable 73657276696365203a207b2066203a202829202d3e20286e617429207d 73657276696365203a207b2066203a202829202d3e2028696e7429207d",
+        b"upgradable no\n",
+    ),
+    // files at fault; the old one is looked at first
+    (
+        "upgradable 747970652041203d20423b20747970652042203d20413b2073657276696365203a207b7d 73657276696365203a207b7d",
+        b"bad interface old Vacuous\n",
+    ),
+    (
+        "upgradable 73657276696365203a207b2066203a2028666c6f6174363429202d3e202829207d 73657276696365203a207b7d",
+        b"bad interface old Float\n",
+    ),
+    (
+        "upgradable 747970652041203d206e61743b20747970652041203d20696e743b2073657276696365203a207b7d -",
+        b"bad interface old Repeated\n",
+    ),
+    (
+        "upgradable 73657276696365203a207b7d 73657276696365203a207b2066203a20284129202d3e202829207d",
+        b"bad interface new Unbound\n",
+    ),
+    (
+        "upgradable 73657276696365203a207b7d 747970652054203d206e61743b",
+        b"bad interface new NoService\n",
+    ),
+    (
+        "upgradable 73657276696365203a207b7d 73657276696365203a207b2061203a202829202d3e2028293b2061203a202829202d3e202829207d",
+        b"bad interface new Shape\n",
+    ),
+    (
+        "upgradable - 73657276696365203a207b7d",
+        b"bad interface old NoService\n",
+    ),
+    (
+        "upgradable 73657276696365203a207b7d 73657276696365",
+        b"bad interface new NotInterface\n",
+    ),
+    // a witness of the time, and of a label that is not there
+    (
+        "witness 74696d65",
+        b"witness d9d9f783018204582060be22c91565dc53fb7c1984bf98b156648b075c671298b506d4e73b2cc4b15183024474696d6582034100\n",
+    ),
+    (
+        "witness 78",
+        b"witness d9d9f783018204582060be22c91565dc53fb7c1984bf98b156648b075c671298b506d4e73b2cc4b15183024474696d658204582011da38ec7ff5f437609f2096d39a9a557cfe6c411f121fd5cb42296a44a33d83\n",
+    ),
 ];
 
 fn readings() -> &'static [(&'static str, &'static [u8])] {

@@ -1,10 +1,12 @@
 use crate::running::script_of;
+use ic_path::Path;
 use ic_principal::Principal;
-use ic_script::{Ask, Command, LineError, parse_line};
+use ic_script::{Ask, Command, LineError, Paths, parse_line};
 use std::alloc::Global;
 
 /// What a line is read as: nothing, a fault, a call or a query of `hello` at canister 0 by the
-/// anonymous principal with this argument, rounds, a time, the state, or the bytes of types and of a message.
+/// anonymous principal with this argument, rounds, a time, the state, the bytes of types and of a message, those of two
+/// interface files, paths, or a place.
 enum Reads {
     Nothing,
     Fault(LineError),
@@ -17,9 +19,12 @@ enum Reads {
     Decode(&'static [u8], &'static [u8]),
     Show(&'static [u8], &'static [u8]),
     Encode(&'static [u8], &'static [u8]),
+    Upgradable(&'static [u8], &'static [u8]),
+    Witness(&'static [&'static [&'static [u8]]]),
+    Pick(u32),
 }
 
-static LINES: [(&[u8], Reads); 80] = [
+static LINES: [(&[u8], Reads); 106] = [
     (b"", Reads::Nothing),
     (b"#", Reads::Nothing),
     (b"# call", Reads::Nothing),
@@ -202,6 +207,44 @@ static LINES: [(&[u8], Reads); 80] = [
     (b"show 00fF", Reads::Fault(LineError::Form)),
     (b"encode 00fF 07", Reads::Encode(&[0x00, 0xFF], &[0x07])),
     (b"encode 00fF 0", Reads::Fault(LineError::Hex)),
+    (
+        b"upgradable 00fF 07",
+        Reads::Upgradable(&[0x00, 0xFF], &[0x07]),
+    ),
+    (b"upgradable - -", Reads::Upgradable(b"", b"")),
+    (b"upgradable 00fF", Reads::Fault(LineError::Form)),
+    (b"upgradable - - -", Reads::Fault(LineError::Form)),
+    (b"upgradable - 0", Reads::Fault(LineError::Hex)),
+    (b"witness 61", Reads::Witness(&[&[b"a"]])),
+    (
+        b"witness 6162/00,fF",
+        Reads::Witness(&[&[b"ab", &[0x00]], &[&[0xFF]]]),
+    ),
+    (
+        b"witness 61/61/61/61/61/61/61/61",
+        Reads::Witness(&[&[b"a", b"a", b"a", b"a", b"a", b"a", b"a", b"a"]]),
+    ),
+    (
+        b"witness 61/61/61/61/61/61/61/61/61",
+        Reads::Fault(LineError::Form),
+    ),
+    (b"witness -////////", Reads::Fault(LineError::Form)),
+    (b"witness", Reads::Fault(LineError::Form)),
+    (b"witness 61 62", Reads::Fault(LineError::Form)),
+    (b"witness 6", Reads::Fault(LineError::Hex)),
+    (b"witness -", Reads::Fault(LineError::Hex)),
+    (b"witness 61/-", Reads::Fault(LineError::Hex)),
+    (b"witness 61,", Reads::Fault(LineError::Hex)),
+    (b"witness ,61", Reads::Fault(LineError::Hex)),
+    (b"witness 61//62", Reads::Fault(LineError::Hex)),
+    (b"witness /", Reads::Fault(LineError::Hex)),
+    (b"pick 0", Reads::Pick(0)),
+    (b"pick 1000000", Reads::Pick(1_000_000)),
+    (b"pick 1000001", Reads::Fault(LineError::Number)),
+    (b"pick 01", Reads::Fault(LineError::Number)),
+    (b"pick -", Reads::Fault(LineError::Number)),
+    (b"pick", Reads::Fault(LineError::Form)),
+    (b"pick 1 1", Reads::Fault(LineError::Form)),
 ];
 
 fn lines() -> &'static [(&'static [u8], Reads)] {
@@ -213,6 +256,30 @@ fn is_ask(ask: &Ask, arg: &[u8]) -> bool {
         && ask.callee == Principal::canister_id(0)
         && ask.method.items.as_str() == "hello"
         && ask.arg.items.as_slice() == arg
+}
+
+fn is_path(path: &Path, labels: &[&[u8]]) -> bool {
+    if path.labels.len() != labels.len() {
+        return false;
+    }
+    for (label, wanted) in path.labels.iter().zip(labels) {
+        if label.items.as_slice() != *wanted {
+            return false;
+        }
+    }
+    true
+}
+
+fn are_paths(paths: &Paths, wanted: &[&[&[u8]]]) -> bool {
+    if paths.items.len() != wanted.len() {
+        return false;
+    }
+    for (path, labels) in paths.items.iter().zip(wanted) {
+        if !is_path(path, labels) {
+            return false;
+        }
+    }
+    true
 }
 
 fn is_read_as(read: &Result<Command, LineError>, reads: &Reads) -> bool {
@@ -234,6 +301,11 @@ fn is_read_as(read: &Result<Command, LineError>, reads: &Reads) -> bool {
         (Reads::Encode(types, said), Ok(Command::Encode { expected, text })) => {
             expected.items.as_slice() == *types && text.items.as_slice() == *said
         }
+        (Reads::Upgradable(old, new), Ok(Command::Upgradable { from, to })) => {
+            from.items.as_slice() == *old && to.items.as_slice() == *new
+        }
+        (Reads::Witness(wanted), Ok(Command::Witness(paths))) => are_paths(paths, wanted),
+        (Reads::Pick(wanted), Ok(Command::Pick(place))) => place == wanted,
         _ => false,
     }
 }
@@ -284,8 +356,26 @@ fn is_command(alloc: Global, front: &str, digits: usize) -> bool {
 // A word spells 2,097,152 bytes at most.
 #[test]
 fn longest_word(rt: HostRuntime) {
-    for front in ["call 2vxsx-fae aaaaa-aa hello ", "decode - "] {
+    for front in [
+        "call 2vxsx-fae aaaaa-aa hello ",
+        "decode - ",
+        "upgradable - ",
+    ] {
         assert!(rt; is_command(rt.alloc(), front, 4_194_304));
         assert!(rt; is_size(rt.alloc(), front, 4_194_306));
     }
+}
+
+fn are_read(alloc: Global, more_paths: usize) -> bool {
+    match script_of(alloc, &[("witness 61", 1), (",61", more_paths)]) {
+        Ok(line) => parse_line(alloc, &line).is_ok(),
+        Err(_) => false,
+    }
+}
+
+// There are 64 paths at most.
+#[test]
+fn most_paths(rt: HostRuntime) {
+    assert!(rt; are_read(rt.alloc(), 63));
+    assert!(rt; !are_read(rt.alloc(), 64));
 }

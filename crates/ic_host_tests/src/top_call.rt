@@ -16,7 +16,7 @@ const BAD_PRINCIPAL: Status = Status::BadLine {
 
 const SIZES: [(usize, usize); 3] = [(1, 1), (7, 7), (65_536, 65_536)];
 
-static RUNS: [Run<'static>; 22] = [
+static RUNS: [Run<'static>; 23] = [
     Run {
         pieces: &SIZES,
         ..NOTHING
@@ -48,6 +48,16 @@ static RUNS: [Run<'static>; 22] = [
         pieces: &SIZES,
         printed: b"accepted 0\naccepted 1\nanswer 0 rejected 5 \"no such management method\"\nanswer 1 rejected 3 \"no canister 2vxsx-fae\"\n",
         end: b"{\"burned\":\"0\",\"canisters\":[],\"created\":\"0\",\"held\":\"0\",\"messages\":0,\"time\":\"0\"}\nroot 612ae6ba56e8689ed445e001f4aa96948891d3f11dd0e9fcfd6de9922eca71c7\n",
+        ..NOTHING
+    },
+    Run {
+        script: &[(
+            "call 2vxsx-fae rwlgt-iiaaa-aaaaa-aaaaa-cai hello -\ncall 2vxsx-fae rwlgt-iiaaa-aaaaa-aaaaa-cai hello -\npick 1\npick 0\npick 0\npick 0\n",
+            1,
+        )],
+        pieces: &SIZES,
+        printed: b"accepted 0\naccepted 1\nnot eligible\npicked\npicked\nnot eligible\nanswer 0 rejected 3 \"no canister rwlgt-iiaaa-aaaaa-aaaaa-cai\"\nanswer 1 rejected 3 \"no canister rwlgt-iiaaa-aaaaa-aaaaa-cai\"\n",
+        end: b"{\"burned\":\"0\",\"canisters\":[],\"created\":\"0\",\"held\":\"0\",\"messages\":0,\"time\":\"0\"}\nroot 764df0bc8fe4682191f89ecdced1bca25fe63503b306290bde7d21be60f563da\n",
         ..NOTHING
     },
     Run {
