@@ -50,7 +50,8 @@ fn placed(alloc: Global, number: u64, canister: Canister, valid: Valid) -> Optio
     }
 }
 
-fn empty_canister(alloc: Global, number: u64) -> Option<Canister>
+/// Without code.
+pub fn empty_canister(alloc: Global, number: u64) -> Option<Canister>
     ensures new { IfSome result (λ c. IsNew number (dropped (seen c))) }
     ensures keeps { IfSome result IsCanister }
     ensures empty { IfSome result (λ c. c.code ≡ None) }

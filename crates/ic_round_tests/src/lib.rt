@@ -11,3 +11,5 @@ mod relays;
 mod rows;
 #[cfg(test)]
 mod tests;
+#[cfg(test)]
+mod workers;

@@ -14,6 +14,7 @@ use ic_state::{Canister, Message, Response, World};
 use std::alloc::Global;
 use std::process::Abort;
 use std::test::*;
+use std::thread::Threads;
 
 // A user calls a method of the first canister.
 fn called(alloc: Global, world: World, method: &str, arg: &[u8]) -> Result<World, NoMemory>
@@ -100,14 +101,14 @@ fn check_seen(rt: &impl Abort, world: &World, wanted: &Seen) {
 }
 
 // A round; the world is owned here, and looked at elsewhere.
-fn after_round(
-    rt: &impl Abort,
+fn after_round<R: Abort + Threads + Sync>(
+    rt: &R,
     alloc: Global,
     world: World,
     price: u64,
     wanted: &Seen,
 ) -> Option<World> {
-    match round(alloc, world, 1, 5_000_000, price, &OpenGate) {
+    match round(alloc, rt, world, 1, 5_000_000, price, &OpenGate) {
         Ok((world, _)) => {
             check_seen(rt, &world, wanted);
             Some(world)
@@ -117,8 +118,8 @@ fn after_round(
 }
 
 // Three rounds, each looked at, and then all others.
-fn followed(
-    rt: &impl Abort,
+fn followed<R: Abort + Threads + Sync>(
+    rt: &R,
     alloc: Global,
     world: Option<World>,
     row: &Row,
@@ -127,7 +128,7 @@ fn followed(
     for wanted in &row.seen {
         world = after_round(rt, alloc, world, row.price, wanted)?;
     }
-    run_rounds(alloc, world, 1000, 1, 5_000_000, row.price, &OpenGate).ok()
+    run_rounds(alloc, rt, world, 1000, 1, 5_000_000, row.price, &OpenGate).ok()
 }
 
 fn compare(rt: &impl Abort, row: &Row, done: &Option<(World, u32)>) {
@@ -140,7 +141,7 @@ fn compare(rt: &impl Abort, row: &Row, done: &Option<(World, u32)>) {
     assert_eq!(rt; stored(world), row.stored);
 }
 
-fn check_row(rt: &impl Abort, alloc: Global, first: Option<Canister>, row: &Row)
+fn check_row<R: Abort + Threads + Sync>(rt: &R, alloc: Global, first: Option<Canister>, row: &Row)
     requires new { IfSome first (λ c. IsNew 0 (dropped (seen c))) }
     requires keeps { IfSome first IsCanister }
     requires balance { IfSome first (λ c. c.balance ≡ 1000000000000) }

@@ -45,11 +45,11 @@ fn two_rounds(rt: HostRuntime) -> Result<(), NoMemory> {
     let world = called(alloc, world, id)?;
     let world = called(alloc, world, id)?;
     let world = called(alloc, world, Principal::canister_id(7))?;
-    let (world, handled) = round(alloc, world, 1, 5_000_000, 1, &OpenGate)?;
+    let (world, handled) = round(alloc, &rt, world, 1, 5_000_000, 1, &OpenGate)?;
     assert_eq!(rt; handled, 2);
     assert_eq!(rt; world.parts().messages.items.len(), 1);
     assert_eq!(rt; world.parts().requests.len(), 3);
-    let (world, made) = run_rounds(alloc, world, 100, 1, 5_000_000, 1, &OpenGate)?;
+    let (world, made) = run_rounds(alloc, &rt, world, 100, 1, 5_000_000, 1, &OpenGate)?;
     assert_eq!(rt; made, 1);
     assert!(rt; world.drained());
     assert_eq!(rt; world.parts().requests.len(), 3);
