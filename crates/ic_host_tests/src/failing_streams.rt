@@ -105,7 +105,15 @@ const OUTPUT: &[u8] = b"\
 /// and the status. Before a read that fails the whole lines among 100 bytes a read were read. What the
 /// lines of a read print is sent before the next read, and what is printed at the end is sent together: a
 /// write for each 100 bytes.
-type Failing = (u64, u64, usize, Status);
+pub type Failing = (u64, u64, usize, Status);
+
+/// A script, what it prints in all, and how it ends as each read and each write fails.
+#[derive(Drop)]
+pub struct FailingStream<'a> {
+    pub script: &'a [(&'a str, usize)],
+    pub output: &'a [u8],
+    pub each: &'a [Failing],
+}
 
 // There is no eighth read, and no write after the last text.
 static EACH: [Failing; 17] = [
@@ -128,16 +136,24 @@ static EACH: [Failing; 17] = [
     (8, 10, 520, Status::Done),
 ];
 
-fn each() -> &'static [Failing] {
-    &EACH
+fn stream() -> FailingStream<'static> {
+    FailingStream {
+        script: &SCRIPT,
+        output: OUTPUT,
+        each: &EACH,
+    }
 }
 
-fn fails_so<R: Threads + Sync + AllocGlobal>(rt: &R, failing: &Failing) -> bool {
+fn fails_so<R: Threads + Sync + AllocGlobal>(
+    rt: &R,
+    stream: &FailingStream,
+    failing: &Failing,
+) -> bool {
     let (read, write, sent, status) = *failing;
-    match OUTPUT.get(..sent) {
+    match stream.output.get(..sent) {
         Some(printed) => {
             let run = Run {
-                script: &SCRIPT,
+                script: stream.script,
                 pieces: &[(100, 100)],
                 failing_reads: &[read],
                 failing_writes: &[write],
@@ -152,9 +168,21 @@ fn fails_so<R: Threads + Sync + AllocGlobal>(rt: &R, failing: &Failing) -> bool 
     }
 }
 
+/// The first of its rows that a stream does not end as.
+pub fn first_wrong<R: Threads + Sync + AllocGlobal>(
+    rt: &R,
+    stream: &FailingStream,
+) -> Option<Failing> {
+    for failing in stream.each {
+        if !fails_so(rt, stream, failing) {
+            return Some(*failing);
+        }
+    }
+    None
+}
+
 #[test]
 fn each_read_and_each_write_fails(rt: HostRuntime) {
-    for failing in each() {
-        assert!(rt; fails_so(&rt, failing), "{failing:?}");
-    }
+    let wrong = first_wrong(&rt, &stream());
+    assert!(rt; wrong.is_none(), "{wrong:?}");
 }

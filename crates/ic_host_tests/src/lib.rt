@@ -5,9 +5,13 @@
 #![tactic(auto)]
 
 #[cfg(test)]
+mod counter;
+#[cfg(test)]
 mod decode_lines;
 #[cfg(test)]
 mod failing_streams;
+#[cfg(test)]
+mod installing;
 #[cfg(test)]
 mod lines;
 #[cfg(test)]
