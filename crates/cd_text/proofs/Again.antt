@@ -22,7 +22,7 @@ use Rattle.cd_text.specs.Words.{name_of}
 use Rattle.cd_text.specs.SaysPlain.{SaysPlain}
 use Rattle.cd_text.specs.Said.{Saying, Annotated, bare, annotated, InParentheses, SaysParts, InBraces, no_place, SaysByte, SaysBlob, type_of, SaysField, labelled, unlabelled, are_distinct, filled, SaysRecord, place_of, SaysCase, valued, alone as null_alone, EndsVariant, SaysVariant, Says}
 use Rattle.cd_text.specs.ReadPlain.{is_word, is_mark, starts, string_says}
-use Rattle.cd_text.specs.ReadSaid.{Budgeted, then_make, past_annotation, annotated_at, closed, parenthesized_at, in_braces, item_at, no_place_of, byte_at, string_at, blob_at, typed_at, field_at, absent, made, record_at, case_at, variant_ended, chosen_at, variant_at, entry_at, shape_at, counted, value_at}
+use Rattle.cd_text.specs.ReadSaid.{Budgeted, then_make, past_annotation, annotated_at, closed, parenthesized_at, in_braces, item_at, no_place_of, byte_at, string_at, blob_at, typed_at, field_at, absent, made, record_at, case_at, variant_ended, chosen_at, variant_at, entry_at, shape_at, spend_one, value_at}
 use Rattle.cd_text.proofs.Parts.{is_equal, Complete, sum_of, parts_again}
 use Rattle.cd_text.proofs.Plains.{Again, same_bytes, OneToken, StringOf, first_again, string_again, natural_again_one, func_again, principal_word_again, primitive_again}
 use Rattle.cd_text.proofs.Values.{both, not_true, AtShape, sum_all, nothing, sum_nothing, Good, IsGood, number_field, Within, fits_all, filled_weight, weight_is, within}
@@ -304,7 +304,7 @@ made_again depth table fields said ps left inside once all =
     rw (fits_all fields said inside once, less, all, again) refl
 
 record_again : (table : List Entry) (depth : ℕ) (read : TyRef → Budgeted Content) → CompleteAt table depth read → (fields : List (ℕ × TyRef)) → IsGood (compound (Rec fields)) → (v : Content) (front rest : List Token) (left : ℕ) → SaysRecord depth table (Says table depth) fields v front
-    → counted (record_at read depth table fields) (number v + left) (front ++ rest) ≡ Some (v, left, rest)
+    → spend_one (record_at read depth table fields) (number v + left) (front ++ rest) ≡ Some (v, left, rest)
 record_again table depth read law fields fine v front rest left h =
     let inside = within (Says table depth) fields 0 h.said h.fields_said.0 h.fields_said.2 in
     let w = filled_weight depth table h.said fields h.parts h.all in
@@ -334,7 +334,7 @@ chosen_again table depth read law cases id place type value front end rest left 
     rw (at, known, case_again table depth read law type value front (end ++ rest) left says e.0, e.1) refl
 
 variant_again : (table : List Entry) (depth : ℕ) (read : TyRef → Budgeted Content) → CompleteAt table depth read → (cases : List (ℕ × TyRef)) (v : Content) (front rest : List Token) (left : ℕ) → SaysVariant depth table (Says table depth) cases v front
-    → counted (variant_at read depth table cases) (number v + left) (front ++ rest) ≡ Some (v, left, rest)
+    → spend_one (variant_at read depth table cases) (number v + left) (front ++ rest) ≡ Some (v, left, rest)
 variant_again table depth read law cases v front rest left h =
     let whole : front ++ rest ≡ run (codes "variant") ∷ mark 123 ∷ h.label ∷ (h.front ++ (h.end ++ rest)) =
     ap (λ (ts : List Token). ts ++ rest) h.whole ∙ ap (λ (ts : List Token). run (codes "variant") ∷ mark 123 ∷ h.label ∷ ts) (append_assoc h.front h.end rest) in
@@ -345,7 +345,7 @@ variant_again table depth read law cases v front rest left h =
 -- ---- a value
 
 shape_again : (table : List Entry) → Good table → (depth : ℕ) (read : TyRef → Budgeted Content) → CompleteAt table depth read → (s : Shape) → IsGood s → (v : Content) (front rest : List Token) (left : ℕ) → AtShape table depth s v front
-    → counted (shape_at depth table read s) (number v + left) (front ++ rest) ≡ Some (v, left, rest)
+    → spend_one (shape_at depth table read s) (number v + left) (front ++ rest) ≡ Some (v, left, rest)
 unfolding entry_at
 shape_again table good depth read law (primitive p) fine v front rest left h =
     let one : 1 + left ≡ suc left = omega arith in

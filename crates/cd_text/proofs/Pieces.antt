@@ -15,8 +15,8 @@ use Rattle.cd_codec.specs.declared.value.FieldValues.{roll-FieldValues}
 use Rattle.cd_codec.specs.Content.{Content, contents_of, parts_of}
 use Rattle.cd_codec.specs.View.{view, views, views_of_fields}
 use Rattle.cd_codec.proofs.Views.{view-Some, view-Var, view-Seq, view-Rec}
-use Rattle.cd_text.specs.Types.{inner_of, item_of, fields_of, field_at, type_at}
-use Rattle.cd_text.specs.Pieces.{before, pieces, closing}
+use Rattle.cd_text.specs.Types.{inner_of, item_of, fields_of, nth_field, nth_type}
+use Rattle.cd_text.specs.Pieces.{before, pieces, end_of_braces}
 use Rattle.cd_text.specs.Printed.{joined, braced, labelled, value_text, item_texts, field_texts, argument_texts}
 
 -- one piece is appended, and then another
@@ -53,14 +53,14 @@ pub joined_is : (separator : List ℕ) (parts : List (List ℕ)) → pieces [] s
 joined_is separator [] = refl
 joined_is separator (p ∷ parts) = ap (λ (xs : List ℕ). p ++ xs) (later_pieces [] separator 0 parts)
 
-braced_is : (parts : List (List ℕ)) → pieces (codes "{ ") (codes "; ") 0 parts ++ closing (length parts == 0) ≡ braced parts
+braced_is : (parts : List (List ℕ)) → pieces (codes "{ ") (codes "; ") 0 parts ++ end_of_braces (length parts == 0) ≡ braced parts
 braced_is [] = refl
 braced_is (p ∷ parts) =
     let some : (suc (length parts) == 0) ≡ false = grind arith in
     rw some (ap (λ (xs : List ℕ). codes "{ " ++ xs) (ap (λ (xs : List ℕ). (p ++ xs) ++ codes " }") (later_pieces (codes "{ ") (codes "; ") 0 parts)))
 
-pub closed : (parts : List (List ℕ)) (count : ℕ) (old front new : List ℕ) → length parts ≡ count → front ≡ old ++ pieces (codes "{ ") (codes "; ") 0 parts → new ≡ front ++ closing (count == 0) → new ≡ old ++ braced parts
-closed parts count old front new many f g = two_pieces old front new (pieces (codes "{ ") (codes "; ") 0 parts) (closing (count == 0)) (braced parts) f g (ap (λ k. pieces (codes "{ ") (codes "; ") 0 parts ++ closing (k == 0)) (sym many) ∙ braced_is parts)
+pub closed : (parts : List (List ℕ)) (count : ℕ) (old front new : List ℕ) → length parts ≡ count → front ≡ old ++ pieces (codes "{ ") (codes "; ") 0 parts → new ≡ front ++ end_of_braces (count == 0) → new ≡ old ++ braced parts
+closed parts count old front new many f g = two_pieces old front new (pieces (codes "{ ") (codes "; ") 0 parts) (end_of_braces (count == 0)) (braced parts) f g (ap (λ k. pieces (codes "{ ") (codes "; ") 0 parts ++ end_of_braces (k == 0)) (sym many) ∙ braced_is parts)
 
 -- ---- the texts of parts
 
@@ -70,13 +70,13 @@ items_are table item [] = refl
 items_are table item (v ∷ vs) = ap (λ (ts : List (List ℕ)). value_text table item v ∷ ts) (items_are table item vs)
 
 pub fields_push : (table : List Entry) (fields : List (ℕ × TyRef)) (place : ℕ) (ps : List (ℕ × Content)) (p : ℕ × Content)
-    → field_texts table fields place (parts_of (ps ++ p ∷ [])) ≡ field_texts table fields place (parts_of ps) ++ labelled p.0 (value_text table (field_at fields (place + length ps)).1 p.1) ∷ []
+    → field_texts table fields place (parts_of (ps ++ p ∷ [])) ≡ field_texts table fields place (parts_of ps) ++ labelled p.0 (value_text table (nth_field fields (place + length ps)).1 p.1) ∷ []
 unfolding value_text
 fields_push table fields place [] p = let n : place + 0 ≡ place = omega arith in rw n refl
 fields_push table fields place (q ∷ ps) p =
     let n : suc place + length ps ≡ place + suc (length ps) = omega arith in
-    ap (λ (ts : List (List ℕ)). labelled q.0 (value_text table (field_at fields place).1 q.1) ∷ ts)
-    (fields_push table fields (suc place) ps p ∙ ap (λ k. field_texts table fields (suc place) (parts_of ps) ++ labelled p.0 (value_text table (field_at fields k).1 p.1) ∷ []) n)
+    ap (λ (ts : List (List ℕ)). labelled q.0 (value_text table (nth_field fields place).1 q.1) ∷ ts)
+    (fields_push table fields (suc place) ps p ∙ ap (λ k. field_texts table fields (suc place) (parts_of ps) ++ labelled p.0 (value_text table (nth_field fields k).1 p.1) ∷ []) n)
 
 pub fields_count : (table : List Entry) (fields : List (ℕ × TyRef)) (place : ℕ) (ps : List (ℕ × Content)) → length (field_texts table fields place (parts_of ps)) ≡ length ps
 unfolding value_text
@@ -84,12 +84,12 @@ fields_count table fields place [] = refl
 fields_count table fields place (p ∷ ps) = ap suc (fields_count table fields (suc place) ps)
 
 pub arguments_push : (table : List Entry) (types : List TyRef) (place : ℕ) (vs : List Content) (v : Content)
-    → argument_texts table types place (vs ++ v ∷ []) ≡ argument_texts table types place vs ++ value_text table (type_at types (place + length vs)) v ∷ []
+    → argument_texts table types place (vs ++ v ∷ []) ≡ argument_texts table types place vs ++ value_text table (nth_type types (place + length vs)) v ∷ []
 arguments_push table types place [] v = let n : place + 0 ≡ place = omega arith in rw n refl
 arguments_push table types place (u ∷ vs) v =
     let n : suc place + length vs ≡ place + suc (length vs) = omega arith in
-    ap (λ (ts : List (List ℕ)). value_text table (type_at types place) u ∷ ts)
-    (arguments_push table types (suc place) vs v ∙ ap (λ k. argument_texts table types (suc place) vs ++ value_text table (type_at types k) v ∷ []) n)
+    ap (λ (ts : List (List ℕ)). value_text table (nth_type types place) u ∷ ts)
+    (arguments_push table types (suc place) vs v ∙ ap (λ k. argument_texts table types (suc place) vs ++ value_text table (nth_type types k) v ∷ []) n)
 
 pub arguments_count : (table : List Entry) (types : List TyRef) (place : ℕ) (vs : List Content) → length (argument_texts table types place vs) ≡ length vs
 arguments_count table types place [] = refl
@@ -107,7 +107,7 @@ seen_count f items i below = length-map (take i items) f ∙ length-take i items
 no_more : {A : Type 0} (items : List A) (i : ℕ) → length items ≤ i → take i items ≡ items
 no_more items i past = take_all i items past
 
-pub argument_seen : (table : List Entry) (types : List TyRef) (items : List Value) (place : ℕ) (x : Value) (at : TyRef) (b old front middle new : List ℕ) → place < length items → x ≡ get_or items place x → at ≡ type_at types place
+pub argument_seen : (table : List Entry) (types : List TyRef) (items : List Value) (place : ℕ) (x : Value) (at : TyRef) (b old front middle new : List ℕ) → place < length items → x ≡ get_or items place x → at ≡ nth_type types place
     → b ≡ before [] (codes ", ") place → front ≡ old ++ pieces [] (codes ", ") 0 (argument_texts table types 0 (views (take place items))) → middle ≡ front ++ b → new ≡ middle ++ value_text table at (view x)
     → new ≡ old ++ pieces [] (codes ", ") 0 (argument_texts table types 0 (views (take (place + 1) items)))
 argument_seen table types items place x at b old front middle new below is kind sep f g h =
@@ -115,7 +115,7 @@ argument_seen table types items place x at b old front middle new below is kind 
     let n : 0 + length (views (take place items)) ≡ place = omega (arith, count) in
     let more : argument_texts table types 0 (views (take (place + 1) items)) ≡ argument_texts table types 0 (views (take place items)) ++ value_text table at (view x) ∷ [] =
     ap (argument_texts table types 0) (seen_more view items place x below ∙ ap (λ y. views (take place items) ++ view y ∷ []) (sym is))
-    ∙ arguments_push table types 0 (views (take place items)) (view x) ∙ ap (λ k. argument_texts table types 0 (views (take place items)) ++ value_text table (type_at types k) (view x) ∷ []) n
+    ∙ arguments_push table types 0 (views (take place items)) (view x) ∙ ap (λ k. argument_texts table types 0 (views (take place items)) ++ value_text table (nth_type types k) (view x) ∷ []) n
     ∙ ap (λ t. argument_texts table types 0 (views (take place items)) ++ value_text table t (view x) ∷ []) (sym kind) in
     one_more [] (codes ", ") (argument_texts table types 0 (views (take place items))) (argument_texts table types 0 (views (take (place + 1) items))) (value_text table at (view x)) place old front middle new
     (arguments_count table types 0 (views (take place items)) ∙ count) more f (g ∙ ap (λ (xs : List ℕ). front ++ xs) sep) h
@@ -134,16 +134,16 @@ item_seen text items place x b old front middle new below is sep f g h =
     one_more (codes "{ ") (codes "; ") (map text (views (take place items))) (map text (views (take (place + 1) items))) (text (view x)) place old front middle new
     (length-map (views (take place items)) text ∙ count) more f (g ∙ ap (λ (xs : List ℕ). front ++ xs) sep) h
 
-pub items_seen : (text : Content → List ℕ) (items : List Value) (place : ℕ) (end old front new : List ℕ) (empty : Bool) → length items ≤ place → empty ≡ (length items == 0) → end ≡ closing empty
+pub items_seen : (text : Content → List ℕ) (items : List Value) (place : ℕ) (end old front new : List ℕ) (empty : Bool) → length items ≤ place → empty ≡ (length items == 0) → end ≡ end_of_braces empty
     → front ≡ old ++ pieces (codes "{ ") (codes "; ") 0 (map text (views (take place items))) → new ≡ front ++ end → new ≡ old ++ braced (map text (views items))
 items_seen text items place end old front new empty past none closes f g =
     closed (map text (views items)) (length items) old front new (length-map (views items) text ∙ length-map items view)
-    (f ∙ ap (λ xs. old ++ pieces (codes "{ ") (codes "; ") 0 (map text (views xs))) (no_more items place past)) (g ∙ ap (λ (xs : List ℕ). front ++ xs) (closes ∙ ap closing none))
+    (f ∙ ap (λ xs. old ++ pieces (codes "{ ") (codes "; ") 0 (map text (views xs))) (no_more items place past)) (g ∙ ap (λ (xs : List ℕ). front ++ xs) (closes ∙ ap end_of_braces none))
 
 field_view : ℕ × Value → ℕ × Content
 field_view f = (f.0, view f.1)
 
-pub field_seen : (table : List Entry) (types : List (ℕ × TyRef)) (items : List (ℕ × Value)) (place : ℕ) (x : ℕ × Value) (at : ℕ × TyRef) (b old front middle new : List ℕ) → place < length items → x ≡ get_or items place x → at ≡ field_at types place
+pub field_seen : (table : List Entry) (types : List (ℕ × TyRef)) (items : List (ℕ × Value)) (place : ℕ) (x : ℕ × Value) (at : ℕ × TyRef) (b old front middle new : List ℕ) → place < length items → x ≡ get_or items place x → at ≡ nth_field types place
     → b ≡ before (codes "{ ") (codes "; ") place → front ≡ old ++ pieces (codes "{ ") (codes "; ") 0 (field_texts table types 0 (parts_of (views_of_fields (take place items)))) → middle ≡ front ++ b
     → new ≡ middle ++ labelled x.0 (value_text table at.1 (view x.1)) → new ≡ old ++ pieces (codes "{ ") (codes "; ") 0 (field_texts table types 0 (parts_of (views_of_fields (take (place + 1) items))))
 unfolding field_view
@@ -154,16 +154,16 @@ field_seen table types items place x at b old front middle new below is kind sep
     seen_more field_view items place x below ∙ ap (λ y. views_of_fields (take place items) ++ field_view y ∷ []) (sym is) in
     let more : field_texts table types 0 (parts_of (views_of_fields (take (place + 1) items))) ≡ field_texts table types 0 (parts_of (views_of_fields (take place items))) ++ labelled x.0 (value_text table at.1 (view x.1)) ∷ [] =
     ap (λ ps. field_texts table types 0 (parts_of ps)) seen
-    ∙ fields_push table types 0 (views_of_fields (take place items)) (x.0, view x.1) ∙ ap (λ k. field_texts table types 0 (parts_of (views_of_fields (take place items))) ++ labelled x.0 (value_text table (field_at types k).1 (view x.1)) ∷ []) n
+    ∙ fields_push table types 0 (views_of_fields (take place items)) (x.0, view x.1) ∙ ap (λ k. field_texts table types 0 (parts_of (views_of_fields (take place items))) ++ labelled x.0 (value_text table (nth_field types k).1 (view x.1)) ∷ []) n
     ∙ ap (λ (t : ℕ × TyRef). field_texts table types 0 (parts_of (views_of_fields (take place items))) ++ labelled x.0 (value_text table t.1 (view x.1)) ∷ []) (sym kind) in
     one_more (codes "{ ") (codes "; ") (field_texts table types 0 (parts_of (views_of_fields (take place items)))) (field_texts table types 0 (parts_of (views_of_fields (take (place + 1) items)))) (labelled x.0 (value_text table at.1 (view x.1))) place old front middle new
     (fields_count table types 0 (views_of_fields (take place items)) ∙ count) more f (g ∙ ap (λ (xs : List ℕ). front ++ xs) sep) h
 
-pub fields_seen : (table : List Entry) (types : List (ℕ × TyRef)) (items : List (ℕ × Value)) (place : ℕ) (end old front new : List ℕ) (empty : Bool) → length items ≤ place → empty ≡ (length items == 0) → end ≡ closing empty
+pub fields_seen : (table : List Entry) (types : List (ℕ × TyRef)) (items : List (ℕ × Value)) (place : ℕ) (end old front new : List ℕ) (empty : Bool) → length items ≤ place → empty ≡ (length items == 0) → end ≡ end_of_braces empty
     → front ≡ old ++ pieces (codes "{ ") (codes "; ") 0 (field_texts table types 0 (parts_of (views_of_fields (take place items)))) → new ≡ front ++ end → new ≡ old ++ braced (field_texts table types 0 (parts_of (views_of_fields items)))
 fields_seen table types items place end old front new empty past none closes f g =
     closed (field_texts table types 0 (parts_of (views_of_fields items))) (length items) old front new (fields_count table types 0 (views_of_fields items) ∙ length-map items (λ (p : ℕ × Value). (p.0, view p.1)))
-    (f ∙ ap (λ xs. old ++ pieces (codes "{ ") (codes "; ") 0 (field_texts table types 0 (parts_of (views_of_fields xs)))) (no_more items place past)) (g ∙ ap (λ (xs : List ℕ). front ++ xs) (closes ∙ ap closing none))
+    (f ∙ ap (λ xs. old ++ pieces (codes "{ ") (codes "; ") 0 (field_texts table types 0 (parts_of (views_of_fields xs)))) (no_more items place past)) (g ∙ ap (λ (xs : List ℕ). front ++ xs) (closes ∙ ap end_of_braces none))
 
 -- ---- the kinds of values
 
@@ -186,7 +186,7 @@ after_fields table type old middle new v inner parts types is same kind e f =
     two_pieces old middle new (codes "record ") (braced (field_texts table types 0 (parts_of (views_of_fields parts)))) (value_text table type (view v)) e f (rw (is, same, kind, view-Rec inner) refl)
 
 pub after_case : (table : List Entry) (type : TyRef) (old middle nearly new : List ℕ) (v part : Value) (i : ℕ) (inner : Box Value Global) (cases : List (ℕ × TyRef)) (case : ℕ × TyRef) → v ≡ values.Var i inner → part ≡ inner.value
-    → cases ≡ fields_of (shape table type) → case ≡ field_at cases i → middle ≡ old ++ codes "variant { " → nearly ≡ middle ++ labelled case.0 (value_text table case.1 (view part)) → new ≡ nearly ++ codes " }"
+    → cases ≡ fields_of (shape table type) → case ≡ nth_field cases i → middle ≡ old ++ codes "variant { " → nearly ≡ middle ++ labelled case.0 (value_text table case.1 (view part)) → new ≡ nearly ++ codes " }"
     → new ≡ old ++ value_text table type (view v)
 unfolding value_text
 after_case table type old middle nearly new v part i inner cases case is same kind at e f g =

@@ -27,7 +27,7 @@ use Rattle.cd_text.specs.Words.{name_of}
 use Rattle.cd_text.specs.SaysPlain.{SaysPlain, SaysPrincipal, SaysFunc}
 use Rattle.cd_text.specs.Said.{Saying, Annotated, bare, annotated, InParentheses, SaysParts, InBraces, no_place, SaysByte, SaysBlob, type_of, SaysField, labelled, unlabelled, value_of, is_absent, are_distinct, left_out, filled, place_of, SaysCase, valued, alone as null_alone, EndsVariant, SaysShape, Says}
 use Rattle.cd_text.specs.ReadPlain.{Taking, is_word, is_mark, starts, string_says, behind_word, natural_at, principal_text_at, func_at, primitive_at}
-use Rattle.cd_text.specs.ReadSaid.{Budgeted, then_make, alone, past_name, past_annotation, with_annotation, annotated_at, closed, parenthesized_at, parts_at, in_braces, opt_at, item_at, no_place_of, list_at, byte_at, string_at, blob_at, typed_at, field_at, after_field, absent, is_field, fits, made, record_at, null_at, case_at, variant_ended, chosen_at, labelled_at, variant_at, entry_at, shape_at, counted, value_at}
+use Rattle.cd_text.specs.ReadSaid.{Budgeted, then_make, alone, past_name, past_annotation, with_annotation, annotated_at, closed, parenthesized_at, parts_at, in_braces, opt_at, item_at, no_place_of, list_at, byte_at, string_at, blob_at, typed_at, field_at, after_field, absent, is_field, fits, made, record_at, null_at, case_at, variant_ended, chosen_at, labelled_at, variant_at, entry_at, shape_at, spend_one, value_at}
 use Rattle.cd_text.proofs.Parts.{is_equal, true_or_false, Consumes, Sound, started, sum_of, parts_take}
 use Rattle.cd_text.proofs.Plains.{Words, Takes, word_started, OneToken, StringOf, first_takes, string_takes, natural_takes_one, func_takes, principal_word_takes, primitive_takes}
 
@@ -641,10 +641,10 @@ shape_takes table good depth read law (compound (Service methods)) fine n tokens
 shape_takes table good depth read law dangling fine n tokens z e = absurd cc
 
 -- one value more
-counted_takes : (P : Saying Content) (read : Budgeted Content) → ((n : ℕ) (tokens : List Token) (z : Content × ℕ × List Token) → read n tokens ≡ Some z → Consumes P number (suc n) tokens z)
-    → (n : ℕ) (tokens : List Token) (z : Content × ℕ × List Token) → counted read n tokens ≡ Some z → Consumes P number n tokens z
-counted_takes P read law zero tokens z e = absurd cc
-counted_takes P read law (suc n) tokens z e = law n tokens z e
+spend_takes : (P : Saying Content) (read : Budgeted Content) → ((n : ℕ) (tokens : List Token) (z : Content × ℕ × List Token) → read n tokens ≡ Some z → Consumes P number (suc n) tokens z)
+    → (n : ℕ) (tokens : List Token) (z : Content × ℕ × List Token) → spend_one read n tokens ≡ Some z → Consumes P number n tokens z
+spend_takes P read law zero tokens z e = absurd cc
+spend_takes P read law (suc n) tokens z e = law n tokens z e
 
 -- what is read is said
 pub value_takes : (table : List Entry) → Good table → (depth : ℕ) → SoundAt table depth (value_at table depth)
@@ -656,7 +656,7 @@ value_takes table good (suc depth) type n tokens z e = elim (true_or_false (star
       let s = enclosed_takes type (Says table depth type) number (value_at table depth type) (value_takes table good depth type) n tokens z paren f in
       record { front = s.front; parts = s.parts; said = inr s.said; left = s.left }
   | inr other ↦
-      let f : counted (shape_at depth table (value_at table depth) (shape table type)) n tokens ≡ Some z = rw other at e in
-      let s = counted_takes (AtShape table depth (shape table type)) (shape_at depth table (value_at table depth) (shape table type)) (shape_takes table good depth (value_at table depth) (value_takes table good depth) (shape table type) (good type)) n tokens z f in
+      let f : spend_one (shape_at depth table (value_at table depth) (shape table type)) n tokens ≡ Some z = rw other at e in
+      let s = spend_takes (AtShape table depth (shape table type)) (shape_at depth table (value_at table depth) (shape table type)) (shape_takes table good depth (value_at table depth) (value_takes table good depth) (shape table type) (good type)) n tokens z f in
       record { front = s.front; parts = s.parts; said = inl s.said; left = s.left }
 ]

@@ -35,7 +35,7 @@ use Rattle.cd_text.specs.HoldsBytes.{HoldsBytes, HoldsBytesAll, HoldsBytesParts,
 use Rattle.cd_text.specs.Printed.{hex_escape, escape, joined, braced, labelled as labelled_text, plain_text, value_text, item_texts, field_texts, argument_texts, printed}
 use Rattle.cd_text.specs.Said.{Annotated, bare, SaysParts, no_place, type_of, SaysField, labelled, value_of, is_absent, are_distinct, filled, place_of, valued, SaysShape, Says}
 use Rattle.cd_text.specs.SaysPlain.{SaysNatural, SaysInteger, SaysPrincipal, SaysFunc, IsPrincipalText}
-use Rattle.cd_text.specs.Types.{inner_of, item_of, fields_of, field_at, type_at}
+use Rattle.cd_text.specs.Types.{inner_of, item_of, fields_of, nth_field, nth_type}
 use Rattle.cd_text.specs.Whole.{SaysArgument, Said}
 use Rattle.cd_text.specs.Placed.{placed}
 use Rattle.cd_text.proofs.Arguments.{placed_values, placed_count}
@@ -297,8 +297,8 @@ mutual
       let rise = shape_ordered table formed type (Var cases) wire.1 in
       let there = case_at cases i 0 case rise wire.3 in
       let w = value_written table formed v case.1 depth wire.5 wire.8 holds (omega (arith, deep)) in
-      let field : field_at cases i ≡ case = rw wire.3 refl in
-      let shape_field : field_at (fields_of (shape table type)) i ≡ case = ap (λ (s : Shape). field_at (fields_of s) i) wire.1 ∙ field in
+      let field : nth_field cases i ≡ case = rw wire.3 refl in
+      let shape_field : nth_field (fields_of (shape table type)) i ≡ case = ap (λ (s : Shape). nth_field (fields_of s) i) wire.1 ∙ field in
       let text_is : codes "variant { " ++ (labelled_text case.0 (value_text table case.1 v) ++ codes " }") ≡ value_text table type (variant i v) =
       ap (λ (x : List ℕ). codes "variant { " ++ (x ++ codes " }")) (sym (append-nil (labelled_text case.0 (value_text table case.1 v))))
       ∙ ap (λ (d : ℕ × TyRef). codes "variant " ++ braced (labelled_text d.0 (value_text table d.1 v) ∷ [])) (sym shape_field) in
@@ -343,10 +343,10 @@ mutual
       let inside_is = subst (Inside all) is inside in
       let there = case_at all place 0 field rise stand.0 in
       let w = value_written table formed v field.1 depth front first holds.0 (omega (arith, deep)) in
-      let field_is : field_at all place ≡ field = rw stand.0 refl in
+      let field_is : nth_field all place ≡ field = rw stand.0 refl in
       let one = field_written table depth all next field.0 field.1 v (value_text table field.1 v) there.2 there.1 w in
-      let same = subst (λ (k : ℕ). IsWritten (SaysField (Says table depth) all next (k, v)) (labelled_text k (value_text table (field_at all place).1 v))) (sym id) (subst (λ (d : ℕ × TyRef). IsWritten (SaysField (Says table depth) all next (field.0, v)) (labelled_text field.0 (value_text table d.1 v))) (sym field_is) one) in
-      (labelled_text i (value_text table (field_at all place).1 v), field_texts table all (suc place) ps, refl, same, fields_written table formed ps all more depth (suc i) (suc place) rest rise wire holds.1 (omega (arith, deep)) stand.1 inside_is.1)
+      let same = subst (λ (k : ℕ). IsWritten (SaysField (Says table depth) all next (k, v)) (labelled_text k (value_text table (nth_field all place).1 v))) (sym id) (subst (λ (d : ℕ × TyRef). IsWritten (SaysField (Says table depth) all next (field.0, v)) (labelled_text field.0 (value_text table d.1 v))) (sym field_is) one) in
+      (labelled_text i (value_text table (nth_field all place).1 v), field_texts table all (suc place) ps, refl, same, fields_written table formed ps all more depth (suc i) (suc place) rest rise wire holds.1 (omega (arith, deep)) stand.1 inside_is.1)
 
 -- ---- the text
 
@@ -356,9 +356,9 @@ arguments_written table formed types more [] place bytes wire holds deep at = re
 arguments_written table formed types more (v ∷ vs) place bytes (type, others, is, front, rest, whole, first, wire) holds deep at =
     let stand = stand_next types place type others (subst (StandAt types place) is at) in
     let w = value_written table formed v type 128 front first holds.0 (omega (arith, deep)) in
-    let type_is : type_at types place ≡ type = rw stand.0 refl in
+    let type_is : nth_type types place ≡ type = rw stand.0 refl in
     let one : IsWritten (SaysArgument table types place (place, v)) (value_text table type v) = record { tokens = w.tokens; prints = w.prints; says = (refl, type, stand.0, bare w.says) } in (
-      value_text table (type_at types place) v,
+      value_text table (nth_type types place) v,
       argument_texts table types (suc place) vs,
       refl,
       subst (λ t. IsWritten (SaysArgument table types place (place, v)) (value_text table t v)) (sym type_is) one,

@@ -12,6 +12,6 @@ pieces first other place [] = []
 pieces first other place (part ∷ parts) = before first other place ++ (part ++ pieces first other (suc place) parts)
 
 -- what stands behind the parts in braces
-abbrev pub closing : Bool → List ℕ
-closing true = codes "{}"
-closing false = codes " }"
+abbrev pub end_of_braces : Bool → List ℕ
+end_of_braces true = codes "{}"
+end_of_braces false = codes " }"

@@ -8,7 +8,7 @@ use Rattle.cd_types.specs.declared.entry.TyRef.{TyRef}
 use Rattle.cd_types.specs.declared.entry.Entry.{Entry}
 use Rattle.cd_types.specs.Shape.{shape}
 use Rattle.cd_codec.specs.Content.{Content, Plain, null, bool, nat, int, nat8, nat16, nat32, nat64, int8, int16, int32, int64, text, reserved, func, service, principal, plain, blob, none, some, list, record_of, variant, Contents, no_content, content, Parts, no_part, part}
-use Rattle.cd_text.specs.Types.{inner_of, item_of, fields_of, field_at, type_at}
+use Rattle.cd_text.specs.Types.{inner_of, item_of, fields_of, nth_field, nth_type}
 
 -- a byte by two lower hex digits behind a backslash
 abbrev pub hex_escape : ℕ → List ℕ
@@ -69,7 +69,7 @@ unfoldable mutual
   value_text table type (some v) = codes "opt " ++ value_text table (inner_of (shape table type)) v
   value_text table type (list vs) = codes "vec " ++ braced (item_texts table (item_of (shape table type)) vs)
   value_text table type (record_of ps) = codes "record " ++ braced (field_texts table (fields_of (shape table type)) 0 ps)
-  value_text table type (variant i v) = let case = field_at (fields_of (shape table type)) i in codes "variant " ++ braced (labelled case.0 (value_text table case.1 v) ∷ [])
+  value_text table type (variant i v) = let case = nth_field (fields_of (shape table type)) i in codes "variant " ++ braced (labelled case.0 (value_text table case.1 v) ∷ [])
 
   -- the values of a vec
   pub item_texts : List Entry → TyRef → Contents → List (List ℕ)
@@ -79,12 +79,12 @@ unfoldable mutual
   -- the fields of a record, the first of which stands at this place
   pub field_texts : List Entry → List (ℕ × TyRef) → ℕ → Parts → List (List ℕ)
   field_texts table fields place no_part = []
-  field_texts table fields place (part id v ps) = labelled id (value_text table (field_at fields place).1 v) ∷ field_texts table fields (suc place) ps
+  field_texts table fields place (part id v ps) = labelled id (value_text table (nth_field fields place).1 v) ∷ field_texts table fields (suc place) ps
 
 -- each value at its type; the first stands at this place
 abbrev pub argument_texts : List Entry → List TyRef → ℕ → List Content → List (List ℕ)
 argument_texts table types place [] = []
-argument_texts table types place (v ∷ vs) = value_text table (type_at types place) v ∷ argument_texts table types (suc place) vs
+argument_texts table types place (v ∷ vs) = value_text table (nth_type types place) v ∷ argument_texts table types (suc place) vs
 
 -- the values between parentheses, with commas between
 abbrev pub printed : List Entry → List TyRef → List Content → List ℕ

@@ -213,17 +213,17 @@ shape_at depth table read (primitive p) = alone plain (primitive_at p)
 shape_at depth table read (compound entry) = entry_at depth table read entry
 shape_at depth table read dangling = λ left tokens. None
 
--- one value more
-abbrev pub counted : Budgeted Content → Budgeted Content
-counted read zero tokens = None
-counted read (suc left) tokens = read left tokens
+-- a value that is one of those allowed
+abbrev pub spend_one : Budgeted Content → Budgeted Content
+spend_one read zero tokens = None
+spend_one read (suc left) tokens = read left tokens
 
 -- a value within so many levels
 unfoldable pub value_at : List Entry → ℕ → TyRef → Budgeted Content
 value_at table zero type left tokens = None
 value_at table (suc depth) type left tokens =
     if starts (is_mark 40) tokens then parenthesized_at type (value_at table depth type) left tokens
-    else counted (shape_at depth table (value_at table depth) (shape table type)) left tokens
+    else spend_one (shape_at depth table (value_at table depth) (shape table type)) left tokens
 
 -- an argument, at the type of its place
 abbrev pub argument_at : List Entry → List TyRef → ℕ → Budgeted (ℕ × Content)

@@ -27,13 +27,13 @@ abbrev pub field_or : Option (ℕ × TyRef) → ℕ × TyRef
 field_or None = (0, Prim Null)
 field_or (Some field) = field
 
-abbrev pub field_at : List (ℕ × TyRef) → ℕ → ℕ × TyRef
-field_at fields place = field_or (slice_get fields place)
+abbrev pub nth_field : List (ℕ × TyRef) → ℕ → ℕ × TyRef
+nth_field fields place = field_or (slice_get fields place)
 
 -- the type at a place; null where there is none
 abbrev pub type_or : Option TyRef → TyRef
 type_or None = Prim Null
 type_or (Some type) = type
 
-abbrev pub type_at : List TyRef → ℕ → TyRef
-type_at types place = type_or (slice_get types place)
+abbrev pub nth_type : List TyRef → ℕ → TyRef
+nth_type types place = type_or (slice_get types place)

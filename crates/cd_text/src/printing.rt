@@ -1,5 +1,5 @@
 ghost use Rattle.std.specs.Prelude.{◌≡◌, ◌++◌, ◌∷◌, [], map, OnOk, IfOk, codes};
-ghost use Rattle.cd_text.specs.Pieces.{before, closing};
+ghost use Rattle.cd_text.specs.Pieces.{before, end_of_braces};
 ghost use Rattle.cd_codec.specs.View.{view, views, views_of_fields};
 ghost use Rattle.cd_codec.specs.Content.{parts_of};
 ghost use Rattle.cd_text.specs.Printed.{value_text, field_texts, joined, braced, labelled, argument_texts, printed};
@@ -7,7 +7,7 @@ ghost use Rattle.cd_text.specs.Printed.{value_text, field_texts, joined, braced,
 use crate::plain_writer::{
     write_blob, write_bool, write_integer, write_method, write_natural, write_principal, write_text,
 };
-use crate::types::{field_at, fields_of, inner_of, item_of, type_at};
+use crate::types::{fields_of, inner_of, item_of, nth_field, nth_type};
 use cd_codec::Value;
 use cd_types::{TyRef, TypeTable};
 use ic_base::NoMemory;
@@ -22,8 +22,8 @@ fn before<'a>(first: &'a [u8], other: &'a [u8], place: usize) -> &'a [u8]
 }
 
 // What stands behind parts in braces.
-fn closing(empty: bool) -> &'static [u8]
-    ensures { result.now ≡ closing empty }
+fn end_of_braces(empty: bool) -> &'static [u8]
+    ensures { result.now ≡ end_of_braces empty }
 {
     if empty { b"{}" } else { b" }" }
 }
@@ -71,7 +71,7 @@ fn write_value(
             write_fields(alloc, table, fields_of(table, ty), &fields.items, out)?;
         }
         Value::Var { position, part } => {
-            let (id, ty) = field_at(fields_of(table, ty), *position as usize);
+            let (id, ty) = nth_field(fields_of(table, ty), *position as usize);
             out.extend_from_slice(b"variant { ")?;
             write_field(alloc, table, ty, id, part, out)?;
             out.extend_from_slice(b" }")?;
@@ -97,7 +97,7 @@ fn write_items(
         out.extend_from_slice(before(b"{ ", b"; ", place))?;
         write_value(alloc, table, item, value, out)?;
     }
-    out.extend_from_slice(closing(values.is_empty()))?;
+    out.extend_from_slice(end_of_braces(values.is_empty()))?;
     Ok(())
 }
 
@@ -129,11 +129,11 @@ fn write_fields(
     ensures { OnOk result (out.new.items ≡ out.old.items ++ braced (field_texts table.now types.now 0 (parts_of (views_of_fields fields.now)))) }
 {
     for (place, (id, value)) in fields.iter().enumerate() {
-        let (_, ty) = field_at(types, place);
+        let (_, ty) = nth_field(types, place);
         out.extend_from_slice(before(b"{ ", b"; ", place))?;
         write_field(alloc, table, ty, *id, value, out)?;
     }
-    out.extend_from_slice(closing(fields.is_empty()))?;
+    out.extend_from_slice(end_of_braces(fields.is_empty()))?;
     Ok(())
 }
 
@@ -148,7 +148,7 @@ fn write_arguments(
 {
     for (place, value) in values.iter().enumerate() {
         out.extend_from_slice(before(b"", b", ", place))?;
-        write_value(alloc, table, type_at(types, place), value, out)?;
+        write_value(alloc, table, nth_type(types, place), value, out)?;
     }
     Ok(())
 }

@@ -1,6 +1,6 @@
 ghost use Rattle.std.specs.Prelude.{◌≡◌};
 ghost use Rattle.cd_types.specs.Shape.{shape};
-ghost use Rattle.cd_text.specs.Types.{inner_of, item_of, fields_of, field_at, type_at};
+ghost use Rattle.cd_text.specs.Types.{inner_of, item_of, fields_of, nth_field, nth_type};
 
 use cd_types::{Entry, Prim, TyRef, TypeTable};
 
@@ -42,8 +42,8 @@ pub(crate) fn fields_of(table: &TypeTable, ty: TyRef) -> &[(u32, TyRef)]
     }
 }
 
-pub(crate) fn field_at(fields: &[(u32, TyRef)], place: usize) -> (u32, TyRef)
-    ensures { result ≡ field_at fields.now place }
+pub(crate) fn nth_field(fields: &[(u32, TyRef)], place: usize) -> (u32, TyRef)
+    ensures { result ≡ nth_field fields.now place }
 {
     match fields.get(place) {
         Some(field) => *field,
@@ -51,8 +51,8 @@ pub(crate) fn field_at(fields: &[(u32, TyRef)], place: usize) -> (u32, TyRef)
     }
 }
 
-pub(crate) fn type_at(types: &[TyRef], place: usize) -> TyRef
-    ensures { result ≡ type_at types.now place }
+pub(crate) fn nth_type(types: &[TyRef], place: usize) -> TyRef
+    ensures { result ≡ nth_type types.now place }
 {
     match types.get(place) {
         Some(ty) => *ty,

@@ -21,8 +21,8 @@ write_value-returns-in_ok-write_fields-in-Rec t c =
 
 pub write_value-returns-in_ok-extend_from_slice-in-Var-2 : goal.write_value-returns-in_ok-extend_from_slice-in-Var-2
 write_value-returns-in_ok-extend_from_slice-in-Var-2 t c =
-    after_case c.args.table.now c.args.ty c.args.out.now.items c.extend_from_slice-in-Var.new.self.items c.write_field.new.out.items c.extend_from_slice-in-Var-2.new.self.items c.args.value.now _ c.in-Var.position c.in-Var.part c.fields_of-in-Var.result.now c.field_at-id.result
-    c.in-Var.is c.deref-in-Var.ensures c.fields_of-in-Var.ensures c.field_at-id.ensures c.in_ok-extend_from_slice-in-Var.ensures.items c.in_ok-write_field-in-Var.ensures c.in_ok-extend_from_slice-in-Var-2.ensures.items
+    after_case c.args.table.now c.args.ty c.args.out.now.items c.extend_from_slice-in-Var.new.self.items c.write_field.new.out.items c.extend_from_slice-in-Var-2.new.self.items c.args.value.now _ c.in-Var.position c.in-Var.part c.fields_of-in-Var.result.now c.nth_field-id.result
+    c.in-Var.is c.deref-in-Var.ensures c.fields_of-in-Var.ensures c.nth_field-id.ensures c.in_ok-extend_from_slice-in-Var.ensures.items c.in_ok-write_field-in-Var.ensures c.in_ok-extend_from_slice-in-Var-2.ensures.items
 
 pub write_items-loop-place-preserved : goal.write_items-loop-place-preserved
 write_items-loop-place-preserved t c =
@@ -31,18 +31,18 @@ write_items-loop-place-preserved t c =
 
 pub write_items-returns : goal.write_items-returns
 write_items-returns t c =
-    items_seen (value_text c.args.table.now c.args.item) c.args.values.now c.loop-place.place c.closing.result.now c.args.out.now.items c.loop-place.out.items c.extend_from_slice-2.new.self.items c.is_empty.result
-    c.loop-place-test.false c.is_empty.ensures c.closing.ensures c.loop-place.invariant c.in_ok-extend_from_slice-2.ensures.items
+    items_seen (value_text c.args.table.now c.args.item) c.args.values.now c.loop-place.place c.end_of_braces.result.now c.args.out.now.items c.loop-place.out.items c.extend_from_slice-2.new.self.items c.is_empty.result
+    c.loop-place-test.false c.is_empty.ensures c.end_of_braces.ensures c.loop-place.invariant c.in_ok-extend_from_slice-2.ensures.items
 
 pub write_fields-loop-place-preserved : goal.write_fields-loop-place-preserved
 write_fields-loop-place-preserved t c =
-    field_seen c.args.table.now c.args.types.now c.args.fields.now c.loop-place.place c.index-fields-place.result c.field_at-ty.result c.before-in-loop-place.result.now c.args.out.now.items c.loop-place.out.items c.extend_from_slice.new.self.items c.write_field.new.out.items
-    c.loop-place-test.true c.index-fields-place.is c.field_at-ty.ensures c.before-in-loop-place.ensures c.loop-place.invariant c.in_ok-extend_from_slice.ensures.items c.in_ok-write_field.ensures
+    field_seen c.args.table.now c.args.types.now c.args.fields.now c.loop-place.place c.index-fields-place.result c.nth_field-ty.result c.before-in-loop-place.result.now c.args.out.now.items c.loop-place.out.items c.extend_from_slice.new.self.items c.write_field.new.out.items
+    c.loop-place-test.true c.index-fields-place.is c.nth_field-ty.ensures c.before-in-loop-place.ensures c.loop-place.invariant c.in_ok-extend_from_slice.ensures.items c.in_ok-write_field.ensures
 
 pub write_fields-returns : goal.write_fields-returns
 write_fields-returns t c =
-    fields_seen c.args.table.now c.args.types.now c.args.fields.now c.loop-place.place c.closing.result.now c.args.out.now.items c.loop-place.out.items c.extend_from_slice-2.new.self.items c.is_empty.result
-    c.loop-place-test.false c.is_empty.ensures c.closing.ensures c.loop-place.invariant c.in_ok-extend_from_slice-2.ensures.items
+    fields_seen c.args.table.now c.args.types.now c.args.fields.now c.loop-place.place c.end_of_braces.result.now c.args.out.now.items c.loop-place.out.items c.extend_from_slice-2.new.self.items c.is_empty.result
+    c.loop-place-test.false c.is_empty.ensures c.end_of_braces.ensures c.loop-place.invariant c.in_ok-extend_from_slice-2.ensures.items
 
 pub write_fields-loop-place-init : goal.write_fields-loop-place-init
 write_fields-loop-place-init t c = no_field c.args.table.now c.args.types.now c.args.out.now.items
