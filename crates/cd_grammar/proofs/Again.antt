@@ -1,22 +1,19 @@
 -- What is written of an interface file is read there.
-use Rattle.std.proofs.Common.{◌≡◌, ℕ, zero, suc, ◌+◌, Bool, true, false, List, [], ◌∷◌, ◌++◌, length, drop, Option, Some, None, refl, sym, ap, subst, ◌∙◌, append_assoc, inl, inr, ◌⊎◌}
+use Rattle.std.proofs.Common.{◌≡◌, ℕ, zero, suc, ◌+◌, Bool, true, false, List, [], ◌∷◌, ◌++◌, Option, Some, None, refl, sym, ap, ◌∙◌, append_assoc, inl, inr}
 use Rattle.std.specs.Prelude.{◌&&◌, not}
-use Rattle.ic_base.specs.Reader.{◌>>=◌}
-use Rattle.cd_types.specs.declared.primitive.Primitive.TheVariants as primitives
 use Rattle.cd_tokens.specs.Token.{Token, run, quoted, mark, arrow}
 use Rattle.cd_tokens.specs.Label.{IsLabel, IsNameOf}
-use Rattle.cd_tokens.specs.ReadLabel.{name_of, label_of}
 use Rattle.cd_tokens.proofs.Labels.{label_again, name_again}
 use Rattle.cd_grammar.specs.declared.word.Word.{Word}
 use Rattle.cd_grammar.specs.declared.word.Word.TheVariants as words
 use Rattle.cd_grammar.specs.declared.written.Part.{Part}
-use Rattle.cd_grammar.specs.declared.written.Part.TheVariants.{Prim, Float, Name, Place}
+use Rattle.cd_grammar.specs.declared.written.Part.TheVariants.{Prim}
 use Rattle.cd_grammar.specs.declared.written.Written.{Written}
 use Rattle.cd_grammar.specs.declared.written.Written.TheVariants.{Opt, Seq, Rec, Var, Func, Service}
-use Rattle.cd_grammar.specs.Words.{word, word_of, spelling, note_of}
-use Rattle.cd_grammar.specs.Grammar.{Writing, Writes, WritesParts, WritesLabelled, WritesField, WritesCase, after_field, no_place, WritesArgument, WritesTuple, WritesNotes, WritesFunction, WritesMethod, WritesName, WritesService, WritesFields, WritesInner, WritesBehind, WritesType, WritesMethodType}
-use Rattle.cd_grammar.specs.Read.{Reading, Reads, is_mark, is_arrow, starts, then_make, enclosed_at, added, token_word, free_name, named_at, labelled_at, field_at, case_at, argument_at, tuple_at, token_note, first_note, with_note, notes_at, noted, results_at, function_at, method_at, service_at, fields_at, inner_at, behind_word_at, worded_at, type_at, method_type_at}
-use Rattle.cd_grammar.proofs.Words.{true_or_false, word_again, free_again, name_no_word, note_again}
+use Rattle.cd_grammar.specs.Words.{spelling}
+use Rattle.cd_grammar.specs.Grammar.{Writes, WritesField, WritesCase, after_field, no_place, WritesArgument, WritesTuple, WritesNotes, WritesFunction, WritesMethod, WritesName, WritesService, WritesFields, WritesInner, WritesBehind, WritesType, WritesMethodType}
+use Rattle.cd_grammar.specs.Read.{Reads, is_mark, starts, named_at, labelled_at, field_at, case_at, argument_at, tuple_at, first_note, notes_at, function_at, method_at, service_at, fields_at, inner_at, behind_word_at, type_at, method_type_at}
+use Rattle.cd_grammar.proofs.Words.{word_again, free_again, name_no_word, note_again}
 use Rattle.cd_grammar.proofs.PartLemmas.{Complete, enclosed_again}
 use Rattle.cd_grammar.proofs.Takes.{first_way, second_way}
 

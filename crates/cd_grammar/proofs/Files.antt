@@ -4,10 +4,10 @@ use Rattle.std.specs.Prelude.{IfOk, if◌then◌else◌}
 use Rattle.std.specs.Str.{is_utf8}
 use Rattle.ic_base.specs.declared.read_error.ReadError.{ReadError}
 use Rattle.ic_base.specs.declared.read_error.ReadError.TheVariants.{NoMemory, Refused}
-use Rattle.ic_base.specs.Gives.{Gives, Fails}
+use Rattle.ic_base.specs.Gives.{Gives}
 use Rattle.ic_base.specs.Reader.{◌>>=◌}
 use Rattle.ic_base.proofs.Steps.{bind_some, some_is}
-use Rattle.cd_tokens.specs.Token.{Token, run, mark, arrow}
+use Rattle.cd_tokens.specs.Token.{Token, mark, arrow}
 use Rattle.cd_tokens.specs.Lexed.{IsTokens, Agrees}
 use Rattle.cd_tokens.proofs.Streams.{one_list}
 use Rattle.cd_grammar.specs.declared.word.Word.{Word}
@@ -16,10 +16,10 @@ use Rattle.cd_grammar.specs.declared.written.Part.{Part}
 use Rattle.cd_grammar.specs.declared.written.Written.{Written}
 use Rattle.cd_grammar.specs.declared.written.Main.{Main}
 use Rattle.cd_grammar.specs.File.{File}
-use Rattle.cd_grammar.specs.Words.{word, word_of, spelling}
-use Rattle.cd_grammar.specs.Grammar.{Writes, WritesName, WritesService, WritesTuple, WritesType, WritesMethodType, IsEnd, IsServiceName, WritesInstalled, WritesMain, WritesDefinition, WritesRest, WritesFile, IsFile}
+use Rattle.cd_grammar.specs.Words.{word}
+use Rattle.cd_grammar.specs.Grammar.{Writes, WritesName, WritesService, WritesType, WritesMethodType, IsEnd, IsServiceName, WritesInstalled, WritesMain, WritesDefinition, WritesRest, WritesFile, IsFile}
 use Rattle.cd_grammar.specs.Read.{is_mark, is_arrow, starts, then_make, token_word, free_name, tuple_at, named_at, service_at, type_at, method_type_at, definition_at, is_type, is_service, passes, is_word, are_none, behind_definition, definitions_at, past_colon, past_name, past_arrow, installed_at, served_at, is_end, main_of, main_at, rest_at, with_rest, file_at}
-use Rattle.cd_grammar.proofs.Words.{true_or_false, is_equal, started, arrow_started, token_takes, free_takes, word_again, free_again}
+use Rattle.cd_grammar.proofs.Words.{true_or_false, started, arrow_started, token_takes, free_takes, word_again, free_again}
 use Rattle.cd_grammar.proofs.PartLemmas.{Takes}
 use Rattle.cd_grammar.proofs.Takes.{made_of, chosen, first_way, second_way, named_takes, tuple_takes, service_takes, type_takes, method_type_takes}
 use Rattle.cd_grammar.proofs.Again.{is_free, named_again, tuple_again, service_again, type_again, method_type_again}

@@ -1,6 +1,5 @@
 -- Each place that a file names is one of its types, and its annotations are ones.
-use Rattle.std.proofs.Common.{◌≡◌, ℕ, zero, suc, ◌+◌, ◌≤◌, ◌<◌, Bool, true, false, List, [], ◌∷◌, ◌++◌, length, map, Option, Some, None, refl, sym, ap, subst, ◌∙◌, length-append, inl, inr, ◌⊎◌, arith}
-use Rattle.std.proofs.lemmas.List.{append-nil}
+use Rattle.std.proofs.Common.{◌≡◌, ℕ, zero, suc, ◌+◌, ◌≤◌, Bool, true, List, [], ◌∷◌, ◌++◌, length, map, Option, Some, None, refl, sym, ap, subst, ◌∙◌, length-append, inl, inr, arith}
 use Rattle.std.proofs.lemmas.List.Folds.{list_all-append}
 use Rattle.std.specs.Prelude.{◌&&◌, nat_lt}
 use Rattle.std.specs.List.{list_all}
@@ -17,8 +16,7 @@ use Rattle.cd_grammar.specs.declared.written.Main.{Main}
 use Rattle.cd_grammar.specs.File.{File}
 use Rattle.cd_grammar.specs.Fits.{parts_of, all_in_main, part_fits, notes_fit, written_fits, Fit, FitsFile}
 use Rattle.cd_grammar.specs.Words.{note_of}
-use Rattle.cd_grammar.specs.Grammar.{Writing, Writes, WritesParts, Adds, WritesLabelled, WritesField, WritesCase, WritesArgument, WritesTuple, WritesNotes, WritesFunction, WritesMethod, WritesName, WritesService, WritesFields, WritesInner, WritesBehind, WritesType, WritesMethodType, WritesInstalled, WritesMain, WritesRest, WritesFile, IsFile}
-use Rattle.cd_grammar.proofs.Words.{true_or_false}
+use Rattle.cd_grammar.specs.Grammar.{Writes, WritesParts, Adds, WritesLabelled, WritesField, WritesCase, WritesArgument, WritesTuple, WritesNotes, WritesFunction, WritesMethod, WritesName, WritesService, WritesFields, WritesBehind, WritesType, WritesMethodType, WritesInstalled, WritesMain, WritesRest, WritesFile, IsFile}
 
 both : (a b : Bool) → a ≡ true → b ≡ true → (a && b) ≡ true
 both a b p q = rw (p, q) refl

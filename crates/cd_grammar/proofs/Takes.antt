@@ -4,7 +4,7 @@ use Rattle.std.specs.Prelude.{if◌then◌else◌}
 use Rattle.ic_base.specs.Reader.{◌>>=◌}
 use Rattle.ic_base.proofs.Steps.{bind_some, some_is}
 use Rattle.cd_types.specs.declared.primitive.Primitive.TheVariants as primitives
-use Rattle.cd_tokens.specs.Token.{Token, run, quoted, mark, arrow}
+use Rattle.cd_tokens.specs.Token.{Token, mark, arrow}
 use Rattle.cd_tokens.specs.ReadLabel.{name_of, label_of}
 use Rattle.cd_tokens.proofs.Labels.{label_takes, name_takes}
 use Rattle.cd_grammar.specs.declared.word.Word.{Word}
@@ -13,9 +13,8 @@ use Rattle.cd_grammar.specs.declared.written.Part.{Part}
 use Rattle.cd_grammar.specs.declared.written.Part.TheVariants.{Prim, Float, Name, Place}
 use Rattle.cd_grammar.specs.declared.written.Written.{Written}
 use Rattle.cd_grammar.specs.declared.written.Written.TheVariants.{Opt, Seq, Rec, Var, Func, Service}
-use Rattle.cd_grammar.specs.Words.{word_of, note_of}
-use Rattle.cd_grammar.specs.Grammar.{Writing, Writes, WritesParts, WritesLabelled, WritesField, WritesCase, after_field, no_place, WritesArgument, WritesTuple, WritesNotes, WritesFunction, WritesMethod, WritesName, WritesService, WritesFields, WritesInner, WritesBehind, WritesType, WritesMethodType}
-use Rattle.cd_grammar.specs.Read.{Reading, Reads, is_mark, is_arrow, starts, then_make, enclosed_at, added, token_word, free_name, named_at, labelled_at, field_at, case_at, argument_at, tuple_at, token_note, with_note, notes_at, noted, results_at, function_at, method_at, service_at, fields_at, inner_at, behind_word_at, worded_at, type_at, method_type_at}
+use Rattle.cd_grammar.specs.Grammar.{Writing, Writes, WritesLabelled, WritesField, WritesCase, after_field, no_place, WritesArgument, WritesTuple, WritesNotes, WritesFunction, WritesMethod, WritesName, WritesService, WritesFields, WritesInner, WritesBehind, WritesType, WritesMethodType}
+use Rattle.cd_grammar.specs.Read.{Reads, is_mark, is_arrow, starts, then_make, enclosed_at, added, token_word, free_name, named_at, labelled_at, field_at, case_at, argument_at, tuple_at, token_note, with_note, notes_at, noted, results_at, function_at, method_at, service_at, fields_at, inner_at, behind_word_at, worded_at, type_at, method_type_at}
 use Rattle.cd_grammar.proofs.Words.{true_or_false, started, arrow_started, token_takes, free_takes, note_takes}
 use Rattle.cd_grammar.proofs.PartLemmas.{Takes, Sound, enclosed_takes}
 

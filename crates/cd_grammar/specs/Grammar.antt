@@ -1,7 +1,6 @@
 -- Which tokens are which interface file (Candid specification, "Core Grammar": types, services and files).
 use Rattle.std.specs.Prelude.{◌≡◌, ℕ, zero, suc, true, List, [], ◌∷◌, ◌++◌, length, Option, Some, None, ◌⊎◌}
 use Rattle.std.specs.Str.{is_utf8}
-use Rattle.cd_types.specs.declared.primitive.Primitive.{Primitive}
 use Rattle.cd_types.specs.declared.primitive.Primitive.TheVariants as primitives
 use Rattle.cd_tokens.specs.Token.{Token, run, arrow}
 use Rattle.cd_tokens.specs.Label.{IsLabel, IsNameOf}
@@ -14,7 +13,7 @@ use Rattle.cd_grammar.specs.declared.written.Written.{Written}
 use Rattle.cd_grammar.specs.declared.written.Written.TheVariants.{Opt, Seq, Rec, Var, Func, Service}
 use Rattle.cd_grammar.specs.File.{File}
 use Rattle.cd_grammar.specs.declared.written.Main.{Main}
-use Rattle.cd_grammar.specs.Words.{word, IsFreeName, note_of, is_float, opening, closing, open_brace, close_brace, comma, colon, semicolon, equals}
+use Rattle.cd_grammar.specs.Words.{word, IsFreeName, note_of, opening, closing, open_brace, close_brace, comma, colon, semicolon, equals}
 
 -- how something is written: of the state before, itself, the state behind, and its tokens. The state is the list of the types with parts that are written so far
 abbrev pub Writing : Type 0 → Type 0 → Type 1

@@ -1,5 +1,5 @@
 -- The words and marks of interface files (Candid specification, "Core Grammar").
-use Rattle.std.specs.Prelude.{◌≡◌, ℕ, Bool, true, false, bytes_eq, find, List, [], ◌∷◌, Option, Some, None, codes}
+use Rattle.std.specs.Prelude.{◌≡◌, ℕ, Bool, true, bytes_eq, find, List, [], ◌∷◌, Option, Some, None, codes}
 use Rattle.cd_types.specs.declared.primitive.Primitive.TheVariants as primitives
 use Rattle.cd_tokens.specs.Token.{Token, run, mark}
 use Rattle.cd_tokens.specs.Label.{is_name}
@@ -62,11 +62,6 @@ note_of Query = Some 1
 note_of Oneway = Some 2
 note_of CompositeQuery = Some 3
 note_of _ = None
-
-abbrev pub is_float : Word → Bool
-is_float Float32 = true
-is_float Float64 = true
-is_float _ = false
 
 abbrev pub opening : Token
 opening = mark 40

@@ -1,4 +1,4 @@
-ghost use Rattle.std.specs.Prelude.{◌≡◌, ◌==◌, ◌≤◌, IfOk, length};
+ghost use Rattle.std.specs.Prelude.{◌≡◌, ◌≤◌, IfOk, length};
 ghost use Rattle.std.specs.Str.{is_utf8};
 ghost use Rattle.ic_base.specs.Gives.{Gives};
 ghost use Rattle.cd_tokens.specs.Lexed.{Agrees};
@@ -6,7 +6,7 @@ ghost use Rattle.cd_tokens.specs.View.{token_view, token_views};
 ghost use Rattle.cd_grammar.specs.File as files;
 ghost use Rattle.cd_grammar.specs.Fits.{FitsFile};
 ghost use Rattle.cd_grammar.specs.Grammar.{IsFile};
-ghost use Rattle.cd_grammar.specs.Read.{starts, is_word, is_type, is_service, is_mark, are_none, is_end, definition_at, definitions_at, past_colon, past_name, installed_at, served_at, main_at, rest_at, file_at};
+ghost use Rattle.cd_grammar.specs.Read.{starts, is_word, is_type, is_service, are_none, is_end, definition_at, definitions_at, past_colon, past_name, installed_at, served_at, main_at, rest_at, file_at};
 
 use crate::front::{name_of, rest_of, starts_arrow, starts_mark, word_of};
 use crate::reading::{named_of, service_of, tuple_of, type_of};

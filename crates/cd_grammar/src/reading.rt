@@ -1,11 +1,11 @@
-ghost use Rattle.std.specs.Prelude.{◌≡◌, ◌⊎◌, ◌<◌, ◌^◌, ◌++◌, ◌∷◌, [], ℕ, List, suc, length, drop, Some, IfOk, IfSome};
+ghost use Rattle.std.specs.Prelude.{◌≡◌, ◌⊎◌, ◌<◌, ◌^◌, ◌++◌, ◌∷◌, [], List, suc, length, Some, IfOk, IfSome};
 ghost use Rattle.ic_base.specs.Gives.{Gives};
 ghost use Rattle.cd_tokens.specs.View.{token_view, token_views};
 ghost use Rattle.cd_grammar.specs.declared.written.Part.TheVariants.{Place};
 ghost use Rattle.cd_grammar.specs.declared.written.Part.{Part};
 ghost use Rattle.cd_grammar.specs.declared.written.Written.{Written};
 ghost use Rattle.cd_grammar.specs.Grammar.{after_field, no_place};
-ghost use Rattle.cd_grammar.specs.Read.{is_mark, starts, enclosed_at, parts_at, added, named_at, labelled_at, field_at, case_at, argument_at, tuple_at, first_note, notes_at, noted, function_at, method_at, service_at, fields_at, inner_at, behind_word_at, type_at, method_type_at};
+ghost use Rattle.cd_grammar.specs.Read.{parts_at, named_at, labelled_at, field_at, case_at, argument_at, tuple_at, first_note, notes_at, function_at, method_at, service_at, fields_at, inner_at, behind_word_at, type_at, method_type_at};
 ghost use Rattle.cd_grammar.specs.declared.written.Written.TheVariants.{Opt, Seq, Rec, Var};
 
 use crate::front::{first_word, name_of, note_of, rest_of, starts_arrow, starts_mark};
