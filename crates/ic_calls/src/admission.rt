@@ -19,6 +19,7 @@ pub fn admit(canister: &Canister, method: &str) -> Result<Admitted, Refusal>
     let Some(code) = &canister.code else {
         return Err(Refusal::NoModule);
     };
+    let code = code.get();
     if let Some(function) = code.valid.entry(EntryName::Update, method) {
         return Ok(Admitted::Update(function));
     }

@@ -69,8 +69,8 @@ fn clean_up(
     };
     let entered = attempt(
         alloc,
-        code,
-        &mut canister.store,
+        code.get(),
+        canister.store.get_mut(),
         Target::Element {
             index,
             env: argument,
@@ -114,8 +114,8 @@ pub fn run_callback(
     };
     let Entered { ended, used } = attempt(
         alloc,
-        code,
-        &mut canister.store,
+        code.get(),
+        canister.store.get_mut(),
         target,
         kind,
         view,

@@ -68,7 +68,7 @@ fn query_of(canister: &Canister, method: &str) -> Result<u32, Refusal>
     let Some(code) = &canister.code else {
         return Err(Refusal::NoModule);
     };
-    match code.valid.entry(EntryName::Query, method) {
+    match code.get().valid.entry(EntryName::Query, method) {
         Some(function) => Ok(function),
         None => Err(Refusal::NoMethod),
     }
@@ -98,8 +98,8 @@ fn ask(
     };
     attempt(
         alloc,
-        code,
-        &mut canister.store,
+        code.get(),
+        canister.store.get_mut(),
         Target::Function(function),
         kind,
         view,
@@ -149,7 +149,7 @@ fn inspection_of(canister: &Canister) -> Option<u32>
         return None;
     };
     match &canister.code {
-        Some(code) => code.valid.entry(EntryName::Inspect, ""),
+        Some(code) => code.get().valid.entry(EntryName::Inspect, ""),
         None => None,
     }
 }

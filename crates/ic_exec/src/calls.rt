@@ -68,8 +68,8 @@ pub fn run_call(
     };
     let Entered { ended, used } = attempt(
         alloc,
-        code,
-        &mut canister.store,
+        code.get(),
+        canister.store.get_mut(),
         Target::Function(function),
         kind,
         view,

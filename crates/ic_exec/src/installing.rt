@@ -12,7 +12,7 @@ use crate::upgrading::upgrade;
 use ic_base::NoMemory;
 use ic_behaviour::{InstallFault, Mode};
 use ic_principal::{Bytes, Principal};
-use ic_state::{Canister, Code, Env};
+use ic_state::{Canister, Code, CodePlace, Env};
 use std::alloc::{AllocError, Global};
 use wm_semantics::Meter;
 
@@ -80,7 +80,7 @@ fn steps(
 // The canister gets the code with what was made for it, or stays as it is.
 fn settle(
     canister: &mut Canister,
-    code: Code,
+    code: CodePlace,
     ended: Result<Draft, Stop>,
 ) -> Result<Option<InstallFault>, NoMemory>
     ensures canister { canister.new ≡ with_draft canister.old code ended }
@@ -90,7 +90,7 @@ fn settle(
         Ok(draft) => {
             let Draft { store, certified } = draft;
             canister.code = Some(code);
-            canister.store = store;
+            canister.store.put(store);
             canister.certified = certified;
             Ok(None)
         }
@@ -127,11 +127,12 @@ pub fn install(
         arg,
         sender,
     } = order;
+    let code = CodePlace::new(alloc, code)?;
     let ended = steps(
         alloc,
         &mut canister,
         mode,
-        &code,
+        code.get(),
         arg,
         sender,
         env,

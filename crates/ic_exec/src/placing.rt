@@ -5,7 +5,7 @@ ghost use Rattle.ic_state.specs.IsCanister.{IsCanister};
 ghost use Rattle.ic_exec.specs.Placed.{with_code};
 
 use ic_base::NoMemory;
-use ic_state::{Canister, Code};
+use ic_state::{Canister, Code, CodePlace};
 use std::alloc::{AllocError, Global};
 use wm_run::{InstanceFault, instantiate};
 
@@ -21,7 +21,8 @@ pub fn place_code(alloc: Global, canister: &mut Canister, code: Code) -> Result<
 {
     match instantiate(alloc, &code.valid) {
         Ok(store) => {
-            canister.store = store;
+            let code = CodePlace::new(alloc, code)?;
+            canister.store.put(store);
             canister.code = Some(code);
             Ok(true)
         }

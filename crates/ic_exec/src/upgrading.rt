@@ -44,13 +44,14 @@ fn leave(
     let Some(code) = &canister.code else {
         unreachable!();
     };
+    let code = code.get();
     run(
         alloc,
         code,
         entry_target(&code.valid, EntryName::PreUpgrade, ""),
         EntryKind::PreUpgrade,
         view,
-        &mut canister.store,
+        canister.store.get_mut(),
         certified,
         meter,
     )
@@ -86,8 +87,8 @@ fn upgrade_steps(
     let store = new_store(
         alloc,
         &code.valid,
-        canister.store.stable_pages(),
-        canister.store.stable(),
+        canister.store.get().stable_pages(),
+        canister.store.get().stable(),
     )?;
     let mut draft = Draft { store, certified };
     start(
@@ -128,11 +129,11 @@ pub fn upgrade(
     ensures same { OnErr result (canister.new ≡ canister.old) }
     ensures limit { meter.new.limit ≡ meter.old.limit }
 {
-    canister.store.begin();
+    canister.store.get_mut().begin();
     match upgrade_steps(alloc, canister, code, skips, arg, sender, env, meter) {
         Ok(draft) => Ok(draft),
         Err(stop) => {
-            canister.store.undo();
+            canister.store.get_mut().undo();
             Err(stop)
         }
     }

@@ -180,13 +180,13 @@ fn refusal_of(installed: &Installed) -> &'static str {
 /// Four bytes of stable memory, or ones where they pass its end.
 fn stable_word(canister: &Canister, at: u64) -> [u8; 4] {
     let mut bytes = [0; 4];
-    canister.store.stable_read(at, &mut bytes);
+    canister.store.get().stable_read(at, &mut bytes);
     bytes
 }
 
 fn word(canister: &Canister) -> [u8; 4] {
     let mut bytes = [9; 4];
-    canister.store.copy_out(0, &mut bytes);
+    canister.store.get().copy_out(0, &mut bytes);
     bytes
 }
 
@@ -201,7 +201,7 @@ fn compare(rt: &impl Abort, row: &Row, installed: &Option<Installed>) {
     let canister = &installed.canister;
     assert_eq!(rt;
         (
-            canister.store.stable_pages(),
+            canister.store.get().stable_pages(),
             &stable_word(canister, 0),
             &stable_word(canister, 131_068)
         ),
@@ -210,7 +210,7 @@ fn compare(rt: &impl Abort, row: &Row, installed: &Option<Installed>) {
     assert_eq!(rt; (&word(canister), canister.balance), (row.memory, 1000));
     assert_eq!(rt; canister.certified.items.as_slice(), row.certified);
     match &canister.code {
-        Some(code) => assert_eq!(rt; code.hash, [1; 32]),
+        Some(code) => assert_eq!(rt; code.get().hash, [1; 32]),
         None => panic!(rt; "no code"),
     }
 }

@@ -93,7 +93,7 @@ fn parts(response: &Response) -> (u32, &[u8]) {
 /// The first four bytes of memory.
 fn word(canister: &Canister) -> [u8; 4] {
     let mut bytes = [9; 4];
-    canister.store.copy_out(0, &mut bytes);
+    canister.store.get().copy_out(0, &mut bytes);
     bytes
 }
 
@@ -110,7 +110,7 @@ fn compare(rt: &impl Abort, row: &Row, done: &Option<Executed>) {
         parts(&done.answers.items[0].response),
         (row.code, row.answer)
     );
-    assert_eq!(rt; done.canister.store.stable_pages(), 0);
+    assert_eq!(rt; done.canister.store.get().stable_pages(), 0);
 }
 
 // Executes a row's call. What is executed is owned here alone.

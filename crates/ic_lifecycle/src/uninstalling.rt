@@ -41,7 +41,7 @@ pub fn uninstall(alloc: Global, canister: &mut Canister) -> Result<AnsweredList,
     let answers = answers_of(alloc, &canister.contexts)?;
     delete(&mut canister.contexts);
     canister.code = None;
-    canister.store = Store::empty(alloc);
+    canister.store.put(Store::empty(alloc));
     canister.certified = Bytes {
         items: Vec::new(alloc),
     };

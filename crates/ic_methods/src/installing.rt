@@ -22,7 +22,7 @@ use ic_behaviour::Mode;
 use ic_exec::{Installed, Order, install};
 use ic_orders::{Denial, Unmet, hash_of, module_of};
 use ic_principal::{Bytes, Principal};
-use ic_state::{Canister, Code, Controllers, Env};
+use ic_state::{Canister, Code, CodePlace, Controllers, Env};
 use std::alloc::Global;
 use std::mem::replace;
 
@@ -35,7 +35,7 @@ fn code_of(alloc: Global, bytes: &Bytes) -> Result<Code, Unmet>
 }
 
 // The mode suits a canister with this code, or without.
-fn unless_unsuited(mode: Mode, code: &Option<Code>) -> Result<(), Unmet>
+fn unless_unsuited(mode: Mode, code: &Option<CodePlace>) -> Result<(), Unmet>
     ensures suits { Meets result (unless_unsuited mode (option_map seen_code code.now)) }
     ensures upgraded { OnOk result (is_upgrade mode ≡ true → IsSome code.now) }
 {

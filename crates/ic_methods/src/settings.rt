@@ -18,10 +18,9 @@ use crate::incoming::Incoming;
 use ic_base::NoMemory;
 use ic_orders::{Denial, Unmet, status_reply, unless};
 use ic_principal::Principal;
-use ic_state::{Canister, Controllers, Response};
+use ic_state::{Canister, Controllers, Response, StorePlace};
 use std::alloc::Global;
 use std::collections::BTreeSet;
-use wm_store::Store;
 
 const MOST_CONTROLLERS: usize = 10;
 
@@ -125,15 +124,16 @@ fn module_hash(canister: &Canister) -> Option<[u8; 32]>
     ensures { result ≡ option_map (λ (code : StoredCode). code.hash) canister.now.code }
 {
     match &canister.code {
-        Some(code) => Some(code.hash),
+        Some(code) => Some(code.get().hash),
         None => None,
     }
 }
 
 // The bytes of both memories.
-fn memory_size(store: &Store) -> u64
+fn memory_size(store: &StorePlace) -> u64
     ensures { result ≡ memory_size store.now.lists }
 {
+    let store = store.get();
     let pages = u64::from(store.pages()) + u64::from(store.stable_pages());
     PAGE * pages
 }

@@ -58,7 +58,7 @@ fn balance(world: &World, number: u64) -> u128 {
 fn stored(world: &World) -> u8 {
     let mut bytes = [9; 1];
     if let Some(canister) = world.parts().canisters.get(&Principal::canister_id(0)) {
-        canister.store.copy_out(0, &mut bytes);
+        canister.store.get().copy_out(0, &mut bytes);
     }
     bytes[0]
 }

@@ -2,6 +2,9 @@ ghost use Rattle.std.specs.Prelude.{◌≡◌, ◌-◌, ◌≤◌, ◌^◌, [], 
 ghost use Rattle.std.specs.List.Sorted.{IsStrictlySortedBy};
 ghost use Rattle.std.specs.Ordering.{nat_cmp};
 ghost use Rattle.std.specs.Cmp.Lexicographic.{slice_cmp};
+ghost use Rattle.std.specs.Borrow.{Lends, sem};
+ghost use Rattle.wm_store.specs.contracts.store.Store.{the_row as store_row};
+ghost use Rattle.ic_state.specs.contracts.canister.StorePlace.{the_row};
 ghost use Rattle.ic_state.specs.Seen.{seen, is_calm};
 ghost use Rattle.ic_state.specs.IsCanister.{IsCanister, created};
 
@@ -10,6 +13,7 @@ use ic_base::NoMemory;
 use ic_behaviour::{Controllers, Phase};
 use ic_principal::{Bytes, Principal};
 use std::alloc::Global;
+use std::marker::Model;
 use wm_store::Store;
 use wm_valid::Valid;
 
@@ -21,6 +25,84 @@ pub struct Code {
     pub hash: [u8; 32],
 }
 
+/// The code of a canister in a box, since it is large and its canister is moved with each message.
+/// Contracts see the code.
+#[derive(Debug, Drop)]
+pub struct CodePlace {
+    inner: Box<Code>,
+}
+
+impl Model for CodePlace {
+    ghost use Rattle.ic_state.specs.declared.canister.Code.{Code};
+
+    ghost Value = { Code };
+
+    ghost view = { λ p. p.inner.value };
+}
+
+impl CodePlace {
+    /// Moves the code to its place.
+    pub fn new(alloc: Global, code: Code) -> Result<CodePlace, NoMemory>
+        ensures { IfOk result (λ p. p ≡ code) }
+    {
+        let inner = Box::new(alloc, code)?;
+        Ok(CodePlace { inner })
+    }
+
+    /// The code.
+    pub fn get(&self) -> &Code
+        ensures { result.now ≡ self.now }
+    {
+        &self.inner
+    }
+}
+
+/// The store of a canister in a box, as its code. Contracts see the store.
+#[derive(Debug, Drop)]
+pub struct StorePlace {
+    inner: Box<Store>,
+}
+
+impl Model for StorePlace {
+    ghost use Rattle.wm_store.specs.Held.{Held};
+
+    ghost Value = { Held };
+
+    ghost view = { λ p. p.inner.value };
+}
+
+impl StorePlace {
+    /// Moves the store to its place.
+    pub fn new(alloc: Global, store: Store) -> Result<StorePlace, NoMemory>
+        ensures { IfOk result (λ p. p ≡ store) }
+    {
+        let inner = Box::new(alloc, store)?;
+        Ok(StorePlace { inner })
+    }
+
+    /// The store.
+    pub fn get(&self) -> &Store
+        ensures { result.now ≡ self.now }
+    {
+        &self.inner
+    }
+
+    /// The store, to run code on it.
+    pub fn get_mut(&mut self) -> &mut Store
+        ensures* writes_back { sem 𝓛 (Lends the_row store_row self.entry result (λ s. s)) }
+        ensures store { result.now ≡ self.old }
+    {
+        &mut self.inner
+    }
+
+    /// Another store takes the place.
+    pub fn put(&mut self, store: Store)
+        ensures { self.new ≡ store }
+    {
+        *self.inner = store;
+    }
+}
+
 /// A canister. What it keeps stands in `specs/IsCanister`.
 #[derive(Debug, Drop)]
 pub struct Canister {
@@ -28,8 +110,8 @@ pub struct Canister {
     /// At most 10, in rising order.
     pub controllers: Controllers,
     pub balance: u128,
-    pub code: Option<Code>,
-    pub store: Store,
+    pub code: Option<CodePlace>,
+    pub store: StorePlace,
     pub certified: Bytes,
     pub contexts: Contexts,
     pub phase: Phase,
@@ -47,7 +129,7 @@ impl Canister {
         !self.phase.is_awaited()
     }
 
-    /// A running canister without code. It takes no memory; the allocator serves the later calls.
+    /// A running canister without code.
     pub fn new(
         alloc: Global,
         id: Principal,
@@ -65,7 +147,7 @@ impl Canister {
             controllers,
             balance,
             code: None,
-            store: Store::empty(alloc),
+            store: StorePlace::new(alloc, Store::empty(alloc))?,
             certified: Bytes {
                 items: Vec::new(alloc),
             },

@@ -10,7 +10,7 @@ mod canister;
 mod lists;
 mod world;
 
-pub use canister::{Canister, Code};
+pub use canister::{Canister, Code, CodePlace, StorePlace};
 pub use ic_behaviour::{
     Admitted, Answered, CallId, Callback, Context, Controllers, Effects, EntryKind, Env, Message,
     Origin, OutCall, OutCalls, Phase, Refusal, Request, Response, View, Waiter, Waiters,

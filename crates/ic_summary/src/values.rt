@@ -1,4 +1,4 @@
-ghost use Rattle.std.specs.Prelude.{◌≡◌, IfOk, map, option_map};
+ghost use Rattle.std.specs.Prelude.{◌≡◌, IfOk, length, map, option_map};
 ghost use Rattle.sha2.specs.Sha256.{sha256};
 ghost use Rattle.serde_json.specs.View.{view};
 ghost use Rattle.ic_state.specs.Seen.{code_of, entry_of};
@@ -7,7 +7,7 @@ ghost use Rattle.ic_summary.specs.StateLine.{canister_data, hex_data, list_of, m
 use crate::members::{decimal, decimals, hex_text, principal, principals, with};
 use ic_base::NoMemory;
 use ic_principal::{Bytes, Principal};
-use ic_state::{Canister, Code, Controllers, Phase, World};
+use ic_state::{Canister, CodePlace, Contexts, Controllers, Phase, World};
 use serde_json::{Map, Value};
 use sha2::{Digest, Sha256};
 use std::alloc::Global;
@@ -58,6 +58,12 @@ fn canister_values(
     Ok(Value::Array(values))
 }
 
+fn count(contexts: &Contexts) -> usize
+    ensures { result ≡ length contexts.now }
+{
+    contexts.items.len()
+}
+
 fn canister_value(alloc: Global, id: &Principal, canister: &Canister) -> Result<Value, NoMemory>
     ensures { IfOk result (λ value. view value ≡ canister_data (entry_of (id.now, canister.now))) }
 {
@@ -66,23 +72,24 @@ fn canister_value(alloc: Global, id: &Principal, canister: &Canister) -> Result<
     let map = with(alloc, map, "balance", balance)?;
     let certified = bytes_text(alloc, &canister.certified)?;
     let map = with(alloc, map, "certified", certified)?;
-    let contexts = Value::from(canister.contexts.items.len());
+    let contexts = Value::from(count(&canister.contexts));
     let map = with(alloc, map, "contexts", contexts)?;
     let controllers = controllers_value(alloc, &canister.controllers)?;
     let map = with(alloc, map, "controllers", controllers)?;
-    let globals = decimals(alloc, canister.store.globals())?;
+    let store = canister.store.get();
+    let globals = decimals(alloc, store.globals())?;
     let map = with(alloc, map, "globals", globals)?;
     let id = principal(alloc, id)?;
     let map = with(alloc, map, "id", id)?;
-    let memory = Value::from(canister.store.pages());
+    let memory = Value::from(store.pages());
     let map = with(alloc, map, "memory", memory)?;
-    let memory_hash = hash_text(alloc, canister.store.memory())?;
+    let memory_hash = hash_text(alloc, store.memory())?;
     let map = with(alloc, map, "memory_hash", memory_hash)?;
     let module = module_text(alloc, &canister.code)?;
     let map = with(alloc, map, "module", module)?;
-    let stable = Value::from(canister.store.stable_pages());
+    let stable = Value::from(store.stable_pages());
     let map = with(alloc, map, "stable", stable)?;
-    let stable_hash = hash_text(alloc, canister.store.stable())?;
+    let stable_hash = hash_text(alloc, store.stable())?;
     let map = with(alloc, map, "stable_hash", stable_hash)?;
     let status = Value::try_from_str(alloc, status(&canister.phase))?;
     let map = with(alloc, map, "status", status)?;
@@ -109,11 +116,11 @@ fn hash_text(alloc: Global, bytes: &[u8]) -> Result<Value, NoMemory>
 }
 
 // The hash of the code, and the empty text where there is none.
-fn module_text(alloc: Global, code: &Option<Code>) -> Result<Value, NoMemory>
+fn module_text(alloc: Global, code: &Option<CodePlace>) -> Result<Value, NoMemory>
     ensures { IfOk result (λ value. view value ≡ hex_data (module_hash (option_map code_of code.now))) }
 {
     match code {
-        Some(code) => hex_text(alloc, code.hash.as_slice()),
+        Some(code) => hex_text(alloc, code.get().hash.as_slice()),
         None => hex_text(alloc, b"".as_slice()),
     }
 }

@@ -15,7 +15,7 @@ use crate::tree::{Tree, fork, forked, labeled, leaf_at};
 use ic_base::NoMemory;
 use ic_leb::write_u;
 use ic_principal::{Bytes, Principal, Text};
-use ic_state::{Canister, Code, Request, Response, World};
+use ic_state::{Canister, CodePlace, Request, Response, World};
 use std::alloc::Global;
 use std::collections::BTreeMap;
 
@@ -61,13 +61,17 @@ fn canister_tree(alloc: Global, id: &Principal, canister: &Canister) -> Result<T
 }
 
 #[tactic(auto, unfolding(crate::specs::HashTree::forked_in))]
-fn canister_part(alloc: Global, certified: &Bytes, code: &Option<Code>) -> Result<Tree, NoMemory>
+fn canister_part(
+    alloc: Global,
+    certified: &Bytes,
+    code: &Option<CodePlace>,
+) -> Result<Tree, NoMemory>
     ensures { IfOk result (λ tree. view tree ≡ canister_part certified.now (option_map code_of code.now)) }
 {
     let certified = leaf_at(alloc, b"certified_data".as_slice(), &certified.items)?;
     match code {
         Some(code) => {
-            let hash = leaf_at(alloc, b"module_hash".as_slice(), code.hash.as_slice())?;
+            let hash = leaf_at(alloc, b"module_hash".as_slice(), code.get().hash.as_slice())?;
             fork(alloc, certified, hash)
         }
         None => Ok(certified),
