@@ -1,8 +1,5 @@
 -- The first messages to canisters, taken from their queues. No standard has this.
-use Rattle.std.specs.Prelude.{ℕ, List, [], Option, Some, None}
-use Rattle.std.specs.BTreeMap.{insert_entry}
-use Rattle.std.specs.Ordering.{nat_cmp}
-use Rattle.std.specs.Cmp.Lexicographic.{slice_cmp}
+use Rattle.std.specs.Prelude.{ℕ, List, [], ◌∷◌, ◌++◌, Option, Some, None}
 use Rattle.ic_behaviour.specs.declared.call.Message.{Message}
 use Rattle.ic_queues.specs.Queued.{Queued, first_to, without_first_to}
 
@@ -16,7 +13,7 @@ none_drawn queues = record { firsts = []; queues = queues }
 
 abbrev pub with_first : List (List ℕ × Message) → (key : List ℕ) → Option Message → List (List ℕ × Message)
 with_first firsts key None = firsts
-with_first firsts key (Some m) = insert_entry (slice_cmp nat_cmp) firsts key m
+with_first firsts key (Some m) = firsts ++ (key, m) ∷ []
 
 -- the first message to a canister is taken, if there is one
 abbrev pub draw : Drawing → (key : List ℕ) → Drawing

@@ -1,4 +1,4 @@
-ghost use Rattle.std.specs.Prelude.{◌≡◌, [], IfOk};
+ghost use Rattle.std.specs.Prelude.{◌≡◌, [], IfOk, OnOk};
 ghost use Rattle.std.specs.List.{fold};
 ghost use Rattle.ic_queue_rounds.specs.Drawing.{draw, none_drawn};
 
@@ -7,13 +7,12 @@ use ic_principal::Principal;
 use ic_queues::Queues;
 use ic_state::Message;
 use std::alloc::Global;
-use std::collections::BTreeMap;
 use std::marker::Model;
 
 /// The first message to each canister that has one, and the queues without them.
 #[derive(Drop)]
 pub struct Drawn {
-    firsts: BTreeMap<Principal, Message>,
+    firsts: Vec<(Principal, Message)>,
     queues: Queues,
 }
 
@@ -22,22 +21,21 @@ impl Model for Drawn {
 
     ghost Value = { Drawing };
 
-    ghost view = { λ w. record { firsts = w.firsts.entries; queues = w.queues } };
+    ghost view = { λ w. record { firsts = w.firsts.items; queues = w.queues } };
 }
 
 impl Drawn {
-    fn new(alloc: Global, queues: Queues) -> Drawn
-        ensures { result ≡ none_drawn queues }
+    // With room for so many messages.
+    fn new(alloc: Global, queues: Queues, count: usize) -> Result<Drawn, NoMemory>
+        ensures { IfOk result (λ w. w ≡ none_drawn queues) }
     {
-        Drawn {
-            firsts: BTreeMap::new(alloc),
-            queues,
-        }
+        let firsts = Vec::with_capacity(alloc, count)?;
+        Ok(Drawn { firsts, queues })
     }
 
     /// The first messages, in rising order of their canisters, and the queues.
-    pub fn open(self) -> (BTreeMap<Principal, Message>, Queues)
-        ensures firsts { result.0.entries ≡ self.firsts }
+    pub fn open(self) -> (Vec<(Principal, Message)>, Queues)
+        ensures firsts { result.0.items ≡ self.firsts }
         ensures queues { result.1 ≡ self.queues }
     {
         let Drawn { firsts, queues } = self;
@@ -45,15 +43,13 @@ impl Drawn {
     }
 
     // Takes the first message to a canister, if there is one.
-    fn draw(self, key: Principal) -> Result<Drawn, NoMemory>
-        ensures { IfOk result (λ w. w ≡ draw self key) }
+    fn draw(&mut self, key: Principal) -> Result<(), NoMemory>
+        ensures { OnOk result (self.new ≡ draw self.old key) }
     {
-        let Drawn { mut firsts, queues } = self;
-        let (queues, message) = queues.pop(&key);
-        if let Some(message) = message {
-            firsts.insert(key, message)?;
+        if let Some(message) = self.queues.pop(&key) {
+            self.firsts.push((key, message))?;
         }
-        Ok(Drawn { firsts, queues })
+        Ok(())
     }
 }
 
@@ -61,9 +57,9 @@ impl Drawn {
 pub fn draw_all(alloc: Global, canisters: Vec<Principal>, queues: Queues) -> Result<Drawn, NoMemory>
     ensures { IfOk result (λ w. w ≡ fold draw (none_drawn queues) canisters.items) }
 {
-    let mut drawn = Drawn::new(alloc, queues);
+    let mut drawn = Drawn::new(alloc, queues, canisters.len())?;
     for key in canisters {
-        drawn = drawn.draw(key)?;
+        drawn.draw(key)?;
     }
     Ok(drawn)
 }

@@ -85,19 +85,11 @@ fn still_steady(steady: bool, message: &Message) -> bool
 }
 
 // The message of a number leaves, if there is one.
-fn taken(
-    messages: BTreeMap<u64, Message>,
-    number: Option<u64>,
-) -> (BTreeMap<u64, Message>, Option<Message>)
-    ensures messages { result.0.entries ≡ remove_number number messages.entries }
-    ensures message { result.1 ≡ numbered number messages.entries }
+fn taken(messages: &mut BTreeMap<u64, Message>, number: Option<u64>) -> Option<Message>
+    ensures messages { messages.new.entries ≡ remove_number number messages.old.entries }
+    ensures message { result ≡ numbered number messages.old.entries }
 {
-    let mut messages = messages;
-    let Some(number) = number else {
-        return (messages, None);
-    };
-    let message = messages.remove(&number);
-    (messages, message)
+    messages.remove(&number?)
 }
 
 // The first number in the queue of a canister leaves, if it has one.
@@ -171,29 +163,12 @@ impl Queues {
     }
 
     /// Takes the first message to a canister.
-    pub fn pop(self, key: &Principal) -> (Queues, Option<Message>)
-        ensures queues { result.0 ≡ without_first_to key.now self }
-        ensures message { result.1 ≡ first_to key.now self }
+    pub fn pop(&mut self, key: &Principal) -> Option<Message>
+        ensures queues { self.new ≡ without_first_to key.now self.old }
+        ensures message { result ≡ first_to key.now self.old }
     {
-        let Queues {
-            messages,
-            mut waiting,
-            outside,
-            next,
-            steady,
-        } = self;
-        let number = pop_number(&mut waiting, key);
-        let (messages, message) = taken(messages, number);
-        (
-            Queues {
-                messages,
-                waiting,
-                outside,
-                next,
-                steady,
-            },
-            message,
-        )
+        let number = pop_number(&mut self.waiting, key);
+        taken(&mut self.messages, number)
     }
 
     /// Puts a message behind the others. After 2^64 messages there is no number for one more, which is

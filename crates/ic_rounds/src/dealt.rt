@@ -1,4 +1,4 @@
-ghost use Rattle.std.specs.Prelude.{◌≡◌, [], IfOk};
+ghost use Rattle.std.specs.Prelude.{◌≡◌, [], IfOk, OnOk};
 ghost use Rattle.std.specs.List.{fold};
 ghost use Rattle.ic_rounds.specs.Dealing.{deal, none_dealt};
 
@@ -26,13 +26,16 @@ impl Model for Dealt {
 }
 
 impl Dealt {
-    fn new(alloc: Global, canisters: BTreeMap<Principal, Canister>) -> Dealt
-        ensures { result ≡ none_dealt canisters.entries }
+    // With room for so many slots, which are large.
+    fn new(
+        alloc: Global,
+        canisters: BTreeMap<Principal, Canister>,
+        count: usize,
+    ) -> Result<Dealt, NoMemory>
+        ensures { IfOk result (λ w. w ≡ none_dealt canisters.entries) }
     {
-        Dealt {
-            canisters,
-            slots: Vec::new(alloc),
-        }
+        let slots = Vec::with_capacity(alloc, count)?;
+        Ok(Dealt { canisters, slots })
     }
 
     /// The canisters that have no slot, and the slots in rising order of their canisters.
@@ -45,22 +48,17 @@ impl Dealt {
     }
 
     // Puts a canister into a slot, with its first message.
-    fn deal(self, key: Principal, message: Message) -> Result<Dealt, NoMemory>
-        ensures { IfOk result (λ w. w ≡ deal self (key, message)) }
+    fn deal(&mut self, key: Principal, message: Message) -> Result<(), NoMemory>
+        ensures { OnOk result (self.new ≡ deal self.old (key, message)) }
     {
-        let Dealt {
-            mut canisters,
-            mut slots,
-        } = self;
-        let Some(canister) = canisters.remove(&key) else {
-            return Ok(Dealt { canisters, slots });
-        };
-        slots.push(Slot {
-            key,
-            canister,
-            message,
-        })?;
-        Ok(Dealt { canisters, slots })
+        if let Some(canister) = self.canisters.remove(&key) {
+            self.slots.push(Slot {
+                key,
+                canister,
+                message,
+            })?;
+        }
+        Ok(())
     }
 }
 
@@ -68,13 +66,13 @@ impl Dealt {
 pub fn deal_out(
     alloc: Global,
     canisters: BTreeMap<Principal, Canister>,
-    firsts: BTreeMap<Principal, Message>,
+    firsts: Vec<(Principal, Message)>,
 ) -> Result<Dealt, NoMemory>
-    ensures { IfOk result (λ w. w ≡ fold deal (none_dealt canisters.entries) firsts.entries) }
+    ensures { IfOk result (λ w. w ≡ fold deal (none_dealt canisters.entries) firsts.items) }
 {
-    let mut dealt = Dealt::new(alloc, canisters);
+    let mut dealt = Dealt::new(alloc, canisters, firsts.len())?;
     for (key, message) in firsts {
-        dealt = dealt.deal(key, message)?;
+        dealt.deal(key, message)?;
     }
     Ok(dealt)
 }

@@ -45,7 +45,7 @@ pub fn canister_turns<R: Threads + Sync, G: Gate + Sync>(
         burned,
         next_canister,
     } = world.open();
-    let (firsts, left) = taken_out(alloc, &canisters, messages)?.open();
+    let (firsts, left) = taken_out(alloc, &canisters, messages)?.open(alloc)?;
     let (canisters, slots) = deal_out(alloc, canisters, firsts)?.open();
     let handled = slots.len() as u64;
     let parts = Parts {

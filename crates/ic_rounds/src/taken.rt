@@ -36,12 +36,13 @@ impl Taken {
     }
 
     /// The first messages, in rising order of their canisters, and the other messages.
-    pub fn open(self) -> (BTreeMap<Principal, Message>, Messages)
-        ensures firsts { result.0.entries ≡ self.firsts }
-        ensures left { result.1 ≡ self.left }
+    pub fn open(self, alloc: Global) -> Result<(Vec<(Principal, Message)>, Messages), NoMemory>
+        ensures firsts { IfOk result (λ r. r.0.items ≡ self.firsts) }
+        ensures left { IfOk result (λ r. r.1 ≡ self.left) }
     {
         let Taken { firsts, left } = self;
-        (firsts, Messages { items: left })
+        let firsts = firsts.into_iter().collect(alloc)?;
+        Ok((firsts, Messages { items: left }))
     }
 
     fn is_first(&self, canisters: &BTreeMap<Principal, Canister>, callee: &Principal) -> bool

@@ -8,28 +8,28 @@ use Rattle.ic_queue_rounds.proofs.first.canister_turns.Goals as goal
 
 pub settled-requires-clause-ready : goal.settled-requires-clause-ready
 settled-requires-clause-ready g c κs within =
-    let began = begins c.open-rest.result.0 c.open-rest.result.1 c.open-rest.ensures.keeps c.in_ok-keys.keys.items c.in_ok-draw_all.field-0 c.open-firsts.result.0.entries c.open-firsts.result.1
+    let began = begins c.open-rest.result.0 c.open-rest.result.1 c.open-rest.ensures.keeps c.in_ok-keys.keys.items c.in_ok-draw_all.field-0 c.open-firsts.result.0.items c.open-firsts.result.1
     c.in_ok-deal_out.field-0 c.open-canisters.result.0.entries c.open-canisters.result.1.items c.in_ok-keys.ensures c.in_ok-draw_all.ensures c.open-firsts.ensures.firsts c.open-firsts.ensures.queues
     c.in_ok-deal_out.ensures c.open-canisters.ensures.canisters c.open-canisters.ensures.slots in
     slots_ready c.open-rest.result.0 c.open-rest.result.1 c.open-rest.ensures.keeps c.args.limit c.args.price _ _ _ began _ refl
 
 pub settled-requires-clause-few : goal.settled-requires-clause-few
 settled-requires-clause-few g c κs within =
-    let began = begins c.open-rest.result.0 c.open-rest.result.1 c.open-rest.ensures.keeps c.in_ok-keys.keys.items c.in_ok-draw_all.field-0 c.open-firsts.result.0.entries c.open-firsts.result.1
+    let began = begins c.open-rest.result.0 c.open-rest.result.1 c.open-rest.ensures.keeps c.in_ok-keys.keys.items c.in_ok-draw_all.field-0 c.open-firsts.result.0.items c.open-firsts.result.1
     c.in_ok-deal_out.field-0 c.open-canisters.result.0.entries c.open-canisters.result.1.items c.in_ok-keys.ensures c.in_ok-draw_all.ensures c.open-firsts.ensures.firsts c.open-firsts.ensures.queues
     c.in_ok-deal_out.ensures c.open-canisters.ensures.canisters c.open-canisters.ensures.slots in
     omega (arith, c.open-canisters.result.1.ok.0, few_slots c.open-rest.result.0 c.open-rest.result.1 c.open-rest.ensures.keeps c.args.limit c.args.price _ _ _ began)
 
 pub settled-requires-clause-keep : goal.settled-requires-clause-keep
 settled-requires-clause-keep g c κs within =
-    let began = begins c.open-rest.result.0 c.open-rest.result.1 c.open-rest.ensures.keeps c.in_ok-keys.keys.items c.in_ok-draw_all.field-0 c.open-firsts.result.0.entries c.open-firsts.result.1
+    let began = begins c.open-rest.result.0 c.open-rest.result.1 c.open-rest.ensures.keeps c.in_ok-keys.keys.items c.in_ok-draw_all.field-0 c.open-firsts.result.0.items c.open-firsts.result.1
     c.in_ok-deal_out.field-0 c.open-canisters.result.0.entries c.open-canisters.result.1.items c.in_ok-keys.ensures c.in_ok-draw_all.ensures c.open-firsts.ensures.firsts c.open-firsts.ensures.queues
     c.in_ok-deal_out.ensures c.open-canisters.ensures.canisters c.open-canisters.ensures.slots in
     rest_keep c.open-rest.result.0 c.open-rest.result.1 c.open-rest.ensures.keeps c.args.limit c.args.price _ _ _ began
 
 pub seal-requires : goal.seal-requires
 seal-requires g c =
-    let began = begins c.open-rest.result.0 c.open-rest.result.1 c.open-rest.ensures.keeps c.in_ok-keys.keys.items c.in_ok-draw_all.field-0 c.open-firsts.result.0.entries c.open-firsts.result.1
+    let began = begins c.open-rest.result.0 c.open-rest.result.1 c.open-rest.ensures.keeps c.in_ok-keys.keys.items c.in_ok-draw_all.field-0 c.open-firsts.result.0.items c.open-firsts.result.1
     c.in_ok-deal_out.field-0 c.open-canisters.result.0.entries c.open-canisters.result.1.items c.in_ok-keys.ensures c.in_ok-draw_all.ensures c.open-firsts.ensures.firsts c.open-firsts.ensures.queues
     c.in_ok-deal_out.ensures c.open-canisters.ensures.canisters c.open-canisters.ensures.slots in
     let ends = sealed c.open-rest.result.0 c.open-rest.result.1 c.open-rest.ensures.keeps c.args.limit c.args.price _ _ _ began c.in_ok-parts.parts c.taken_apart-rest.result.0 c.in_ok-queues.queues
@@ -39,7 +39,7 @@ seal-requires g c =
 
 pub returns : goal.returns
 returns g c = λ outside.
-    let began = begins c.open-rest.result.0 c.open-rest.result.1 c.open-rest.ensures.keeps c.in_ok-keys.keys.items c.in_ok-draw_all.field-0 c.open-firsts.result.0.entries c.open-firsts.result.1
+    let began = begins c.open-rest.result.0 c.open-rest.result.1 c.open-rest.ensures.keeps c.in_ok-keys.keys.items c.in_ok-draw_all.field-0 c.open-firsts.result.0.items c.open-firsts.result.1
     c.in_ok-deal_out.field-0 c.open-canisters.result.0.entries c.open-canisters.result.1.items c.in_ok-keys.ensures c.in_ok-draw_all.ensures c.open-firsts.ensures.firsts c.open-firsts.ensures.queues
     c.in_ok-deal_out.ensures c.open-canisters.ensures.canisters c.open-canisters.ensures.slots in
     let ends = sealed c.open-rest.result.0 c.open-rest.result.1 c.open-rest.ensures.keeps c.args.limit c.args.price _ _ _ began c.in_ok-parts.parts c.taken_apart-rest.result.0 c.in_ok-queues.queues

@@ -3,15 +3,15 @@ use Rattle.ic_queues.specs.Queued.{first_to, without_first_to}
 use Rattle.ic_queues.proofs.Queueing.{PopEnds, pop_ends}
 use Rattle.ic_queues.proofs.queues.Queues.pop.Goals as goal
 
-ends : (c : goal.After-taken-messages)
-    → PopEnds c.self.inside.messages.entries c.self.inside.waiting.entries c.self.inside.outside c.self.inside.next c.self.inside.steady c.args.key.now c.taken-messages.result.1 c.taken-messages.result.0.entries c.pop_number-number.new.waiting.entries
+ends : (c : goal.After-taken)
+    → PopEnds c.self.inside.messages.entries c.self.inside.waiting.entries c.self.inside.outside c.self.inside.next c.self.inside.steady c.args.key.now c.taken.result c.taken.new.messages.entries c.pop_number-number.new.waiting.entries
 ends c =
     pop_ends c.self.inside.messages.entries c.self.inside.waiting.entries c.self.inside.outside c.self.inside.next c.self.inside.steady c.args.key.now c.pop_number-number.result
-    c.taken-messages.result.1 c.taken-messages.result.0.entries c.pop_number-number.new.waiting.entries c.self.invariant
-    c.pop_number-number.ensures.number c.pop_number-number.ensures.waiting c.taken-messages.ensures.messages c.taken-messages.ensures.message
+    c.taken.result c.taken.new.messages.entries c.pop_number-number.new.waiting.entries c.self.invariant
+    c.pop_number-number.ensures.number c.pop_number-number.ensures.waiting c.taken.ensures.messages c.taken.ensures.message
 
-pub invariant_of-result : goal.invariant_of-result
-invariant_of-result c = (ends c).queued
+pub invariant_of-self : goal.invariant_of-self
+invariant_of-self c = (ends c).queued
 
 pub returns-clause-queues : goal.returns-clause-queues
 returns-clause-queues c = (ends c).queues ∙ ap (without_first_to c.args.key.now) c.self.view_is
