@@ -51,5 +51,7 @@ fine = [
     tried("a canister gets code", [], file("install")),
     tried("canisters call each other", [], file("relay")),
     tried("--generate 20", ["--generate", "20"], b""),
+    tried("--generate 20 --workers 2", ["--generate", "20", "--workers", "2"], b""),
+    tried("--generate 20 --workers 7", ["--generate", "20", "--workers", "7"], b""),
 ]
 sys.exit(0 if all(fine) else 1)

@@ -1,11 +1,13 @@
 // Refuses one request for memory: loaded before the C library (LD_PRELOAD), it counts the requests of `malloc` and the
 // like, and answers the one with the number REFUSED with none. At the end it writes to the file COUNTED how many
-// there were, where one is named.
+// there were, where one is named. Threads may ask at the same time.
 #define _GNU_SOURCE
 #include <errno.h>
 #include <stddef.h>
 #include <stdio.h>
 #include <stdlib.h>
+#include <sys/syscall.h>
+#include <unistd.h>
 
 void *__libc_malloc(size_t size);
 void *__libc_calloc(size_t count, size_t size);
@@ -20,7 +22,7 @@ __attribute__((constructor)) static void begin(void) {
     counted = 0;
 }
 
-__attribute__((destructor)) static void end(void) {
+static void end(void) {
     const char *path = getenv("COUNTED");
     unsigned long requests = counted;
     FILE *file = path ? fopen(path, "w") : NULL;
@@ -30,10 +32,16 @@ __attribute__((destructor)) static void end(void) {
     }
 }
 
+// The program ends by this call, which runs no destructor.
+void _exit(int status) {
+    end();
+    syscall(SYS_exit_group, status);
+    __builtin_unreachable();
+}
+
 // Whether this request is the one that is refused.
 static int is_refused(void) {
-    counted += 1;
-    if (counted != refused)
+    if (__atomic_add_fetch(&counted, 1, __ATOMIC_SEQ_CST) != refused)
         return 0;
     errno = ENOMEM;
     return 1;
