@@ -21,65 +21,14 @@ const FIRST_VACUOUS: Option<DidFault> = Some(DidFault::Vacuous { definition: 0 }
 
 const SECOND_VACUOUS: Option<DidFault> = Some(DidFault::Vacuous { definition: 1 });
 
-static ROWS: [Row; 78] = [
-    // Files, and their ends.
-    (b"", None),
-    (b"type A = nat", None),
-    (b"type A = nat;", None),
-    (b"service : {}", None),
-    (b"service : {};", None),
-    (b"type A = nat; service : {}", None),
-    (b"service s : () -> {}", None),
-    (b"service : (nat, n : text,) -> {}", None),
-    (b"type S = service {}; service : S", None),
-    (b"service", NOT_INTERFACE),
-    (b"service : {};;", NOT_INTERFACE),
-    (b"service : {} service : {}", NOT_INTERFACE),
-    (b"service : {}; type A = nat", NOT_INTERFACE),
-    (b"type A = nat type B = nat", NOT_INTERFACE),
-    (b"type A : nat", NOT_INTERFACE),
-    (b"import \"a.did\"; service : {}", NOT_INTERFACE),
-    (b"type A = nat\xff", NOT_INTERFACE),
-    // Gaps.
-    (b"// begins\n/* both */ service : {} // ends", None),
-    (b"/* a * / ** b **/service : {}/**/", None),
-    (b"/*/ service : {}", NOT_INTERFACE),
-    (b"service : {} /* open", NOT_INTERFACE),
-    (b"service : {} / / none", NOT_INTERFACE),
-    (b"// \xff\nservice : {}", NOT_INTERFACE),
-    (b"// a line feed alone ends this \r service : {", None),
-    // Words as labels and as names.
-    (
-        b"type A = record { text : nat; type : nat; \"opt\" : nat }",
-        None,
-    ),
-    (b"type A = variant { query; 5 : nat; \"a b\" }", None),
-    (
-        b"service : { query : () -> () query; \"a b\" : () -> () }",
-        None,
-    ),
-    (b"type record = nat", NOT_INTERFACE),
-    (b"type nat = int", NOT_INTERFACE),
-    (b"type A = query", NOT_INTERFACE),
-    (b"service text : {}", NOT_INTERFACE),
-    (b"service : nat", NOT_INTERFACE),
-    (b"service : { f : nat }", NOT_INTERFACE),
-    (b"service : { f : (text : text) -> () }", NOT_INTERFACE),
-    (b"service : { f : (to : text) -> () }", None),
-    (b"service : { f : func () -> () }", NOT_INTERFACE),
-    // Labels.
-    (b"type A = record { 4294967295 : nat }", None),
-    (b"type A = record { 4294967296 : nat }", NOT_INTERFACE),
-    (b"type A = record { 4294967294 : nat; nat }", None),
-    (b"type A = record { 4294967295 : nat; nat }", SHAPE),
-    (b"type A = variant { nat : nat; text }", None),
-    (b"type A = variant { 1; opt nat }", NOT_INTERFACE),
+static ROWS: [Row; 47] = [
     // Floats, used and unused.
     (b"type A = float32", FLOAT),
     (b"type A = record { float64 : nat }", None),
     (b"service : (float64) -> {}", FLOAT),
     (b"type A = opt float64; type A = B", FLOAT),
     (b"service : { f : () -> (vec float32) }", FLOAT),
+    (b"service : { f : (float64) -> () }", FLOAT),
     // Definitions that are repeated; of the second one the fault is found late.
     (b"type A = nat; type A = int", SECOND_REPEATED),
     (
@@ -102,9 +51,12 @@ static ROWS: [Row; 78] = [
         b"type X = nat; type A = B; type B = C; type C = A",
         SECOND_VACUOUS,
     ),
+    (b"type A = B; type B = A; service : {}", FIRST_VACUOUS),
     (b"type A = B; type B = nat", None),
     (b"type A = opt A", None),
     (b"type A = record { A }", None),
+    (b"type A = record { opt A }", None),
+    (b"type A = B; type B = vec A", None),
     (b"type A = A; service : { f : A; f : A }", FIRST_VACUOUS),
     // Types without the shape of one.
     (b"type A = record { a : nat; a : int }", SHAPE),
@@ -117,6 +69,14 @@ static ROWS: [Row; 78] = [
     (b"type F = nat; service : { f : F }", SHAPE),
     (b"type F = service {}; service : { f : F }", SHAPE),
     (b"type F = opt F; service : { f : F }", SHAPE),
+    (
+        b"type F = G; type G = func () -> (); service : { f : F }",
+        None,
+    ),
+    (
+        b"type F = nat; service : { f : (service { g : F }) -> () }",
+        SHAPE,
+    ),
     (b"type S = nat; service : S", SHAPE),
     (
         b"type S = T; type T = service { f : S }; service : S",
@@ -124,6 +84,15 @@ static ROWS: [Row; 78] = [
     ),
     (b"type F = func () -> (); service : F", SHAPE),
     (b"type S = T; type T = service {}; service : S", None),
+    // Of two reasons the first in the order of the faults.
+    (b"type A = float32; service", NOT_INTERFACE),
+    (b"type A = nat; type A = float32", FLOAT),
+    (b"type A = nat; type A = B", SECOND_REPEATED),
+    (b"type A = A; type A = A", SECOND_REPEATED),
+    (
+        b"type A = A; type B = record { a : nat; a : nat }",
+        FIRST_VACUOUS,
+    ),
 ];
 
 fn rows() -> &'static [Row] {

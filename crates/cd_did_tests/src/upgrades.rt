@@ -6,7 +6,7 @@ use std::test::*;
 /// An interface, another, and whether one may be upgraded to the other; both have a service.
 type Row = (&'static [u8], &'static [u8], bool);
 
-static ROWS: [Row; 22] = [
+static ROWS: [Row; 23] = [
     // Methods.
     (b"service : {}", b"service : {}", true),
     (
@@ -44,6 +44,11 @@ static ROWS: [Row; 22] = [
         b"service : { f : () -> () oneway query }",
         b"service : { f : () -> () query oneway }",
         false,
+    ),
+    (
+        b"service : { f : () -> () oneway query }",
+        b"service : { f : () -> () oneway query }",
+        true,
     ),
     (
         b"service : { f : () -> () composite_query }",
