@@ -15,5 +15,3 @@ mod sketch;
 mod subtypes;
 #[cfg(test)]
 mod tables;
-#[cfg(test)]
-mod texts;
