@@ -108,10 +108,9 @@ def drained_once():
             whole, without = rounds(canisters, size, ALL, 1, f"{size} 0 {count}"), rounds(canisters, size, 0, 1, f"0 {size} 0")
             in_turns([whole, without], turns)
             seconds = whole.best() - without.best()
-            passed = sum(size - min(canisters * done, size) for done in range(count))
             print(
-                f"{size:,} messages to {canisters} canisters drained: {seconds:.2f} s in {count:,} rounds, which go"
-                f" through {passed:,} messages in all, {1e9 * seconds / passed:.1f} ns for each",
+                f"{size:,} messages to {canisters} canisters drained: {seconds:.2f} s in {count:,} rounds,"
+                f" {1e9 * seconds / size:.0f} ns a message",
                 flush=True,
             )
 
