@@ -3,6 +3,7 @@ import base64
 import importlib.machinery
 import importlib.util
 import os
+import zlib
 
 from leb128 import index, unsigned
 
@@ -22,6 +23,12 @@ def _install_line():
 def identity(number):
     """The principal of the canister with this number."""
     return number.to_bytes(8, "big") + b"\x01\x01"
+
+
+def text(principal):
+    checked = zlib.crc32(principal).to_bytes(4, "big") + principal
+    letters = base64.b32encode(checked).decode().lower().rstrip("=")
+    return "-".join(letters[at : at + 5] for at in range(0, len(letters), 5))
 
 
 def install(number, module, mode="install"):
