@@ -11,7 +11,7 @@ use Rattle.cd_types.proofs.FaultLemmas.{both_true}
 use Rattle.cd_types.proofs.EntryLemmas.{test_at}
 use Rattle.ic_base.proofs.Steps.{some_is}
 use Rattle.cd_grammar.specs.declared.written.Part.{Part}
-use Rattle.cd_grammar.specs.declared.written.Part.TheVariants.{Prim, Place}
+use Rattle.cd_grammar.specs.declared.written.Part.TheVariants.{Place}
 use Rattle.cd_grammar.specs.declared.written.Written.{Written}
 use Rattle.cd_grammar.specs.declared.written.Written.TheVariants.{Opt, Seq, Rec, Var, Func, Service}
 use Rattle.cd_grammar.specs.declared.written.Main.{Main}

@@ -3,7 +3,7 @@ use Rattle.std.specs.Prelude.{◌≡◌, ℕ, zero, suc, ◌<◌, ◌^◌, Bool,
 use Rattle.std.specs.List.{list_all, AllByRecursion, IsDistinct}
 use Rattle.ic_base.specs.Reader.{◌>>=◌}
 use Rattle.cd_grammar.specs.declared.written.Part.{Part}
-use Rattle.cd_grammar.specs.declared.written.Part.TheVariants.{Prim, Float, Name, Place}
+use Rattle.cd_grammar.specs.declared.written.Part.TheVariants.{Float, Name, Place}
 use Rattle.cd_grammar.specs.declared.written.Written.{Written}
 use Rattle.cd_grammar.specs.declared.written.Written.TheVariants.{Opt, Seq, Rec, Var, Func, Service}
 use Rattle.cd_grammar.specs.File.{File}

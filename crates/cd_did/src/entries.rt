@@ -1,7 +1,6 @@
 ghost use Rattle.std.specs.Prelude.{◌≡◌, true, IfOk, IfErr};
 ghost use Rattle.std.specs.List.{list_all};
 ghost use Rattle.cd_did.specs.Faults.{is_func, is_service, type_at_place};
-ghost use Rattle.cd_did.specs.Targets.{found_at};
 ghost use Rattle.cd_did.specs.Entries.{is_method, EntryOf, EntriesOf};
 ghost use Rattle.cd_did.specs.Formed.{IsFormed, AllFormed, is_served};
 ghost use Rattle.cd_did.specs.Sorted.{Refuses};

@@ -1,4 +1,4 @@
-ghost use Rattle.std.specs.Prelude.{◌≡◌, ◌<◌, length, map, slice_get, IfOk, IfSome, None};
+ghost use Rattle.std.specs.Prelude.{◌≡◌, ◌<◌, length, map, IfOk, None};
 ghost use Rattle.cd_did.specs.Rings.{Apart, AllBound, leads_to, next_place, firsts, jump_from, HasEnds, is_named_at, smaller, with_place, least_from};
 
 use crate::names::Names;
