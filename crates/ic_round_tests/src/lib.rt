@@ -11,5 +11,3 @@ mod relays;
 mod rows;
 #[cfg(test)]
 mod tests;
-#[cfg(test)]
-mod workers;

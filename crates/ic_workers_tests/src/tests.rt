@@ -1,0 +1,79 @@
+ghost use Rattle.std.specs.Prelude.{◌≤◌};
+
+use crate::chunks::turns_of;
+use crate::gates::Holding;
+use crate::worlds::{busy, slots};
+use ic_outside::Gate;
+use ic_round::round;
+use ic_state::Env;
+use std::alloc::Global;
+use std::test::*;
+use std::thread::Threads;
+
+// How many messages a round of two workers handles.
+fn handled<R: Threads + Sync, G: Gate + Sync>(
+    alloc: Global,
+    rt: &R,
+    canisters: u64,
+    gate: &G,
+) -> Option<u64> {
+    let world = busy(alloc, canisters)?;
+    match round(alloc, rt, world, 2, 5_000_000, 0, gate) {
+        Ok((_, handled)) => Some(handled),
+        Err(_) => None,
+    }
+}
+
+// What no clause says: two threads ran. Each of the two workers is held until the other has come.
+#[test]
+fn two_workers_run(rt: HostRuntime) {
+    let gate = Holding::new(2, 2);
+    assert_eq!(rt; handled(rt.alloc(), &rt, 2, &gate), Some(2));
+    assert_eq!(rt; gate.seen(), (2, 0));
+}
+
+// Nor that work is shared by tickets: while one worker is held with its first slot, the other gets the
+// three others.
+#[test]
+fn a_held_worker_keeps_one_slot(rt: HostRuntime) {
+    let gate = Holding::new(1, 4);
+    assert_eq!(rt; handled(rt.alloc(), &rt, 4, &gate), Some(4));
+    assert_eq!(rt; gate.seen(), (4, 0));
+}
+
+// How many messages two workers handle that are dealt fixed chunks.
+fn handled_in_chunks<R: Threads + Sync, G: Gate + Sync>(
+    alloc: Global,
+    rt: &R,
+    canisters: u32,
+    gate: &G,
+) -> Option<usize>
+    requires { canisters ≤ 64 }
+{
+    let slots = slots(alloc, canisters)?;
+    let env = Env {
+        time: 0,
+        limit: 5_000_000,
+        price: 0,
+    };
+    match turns_of(alloc, rt, slots, 2, env, gate) {
+        Ok(turns) => Some(turns.len()),
+        Err(_) => None,
+    }
+}
+
+// Fixed chunks meet every clause, and run on two threads.
+#[test]
+fn chunks_are_worked_on_by_two(rt: HostRuntime) {
+    let gate = Holding::new(2, 2);
+    assert_eq!(rt; handled_in_chunks(rt.alloc(), &rt, 2, &gate), Some(2));
+    assert_eq!(rt; gate.seen(), (2, 0));
+}
+
+// But a worker that is held keeps its whole chunk from the other: it gives up.
+#[test]
+fn a_held_worker_keeps_its_chunk(rt: HostRuntime) {
+    let gate = Holding::new(1, 4);
+    assert_eq!(rt; handled_in_chunks(rt.alloc(), &rt, 4, &gate), Some(4));
+    assert_eq!(rt; gate.seen(), (4, 1));
+}
