@@ -3,8 +3,8 @@ use ic_principal::Bytes;
 use ic_state::World;
 use ic_tree::{Tree, fork, labeled, leaf_at, root};
 use ic_witness::{
-    Found, Path, TreeFault, look_up, nests_at_most, ordered, read, state_witness, whole, witness,
-    write,
+    Found, Path, TreeFault, look_up, nests_at_most, ordered, read, read_back, state_witness, whole,
+    witness, write,
 };
 use std::alloc::Global;
 use std::test::*;
@@ -165,6 +165,22 @@ fn example_is_searched(rt: HostRuntime) -> Result<(), NoMemory> {
         Err(TreeFault::NotTree) => assert!(rt; false),
         Err(TreeFault::NoMemory) => assert!(rt; false),
     }
+    Ok(())
+}
+
+// The root hash of what was written and read, of a tree that can be written.
+fn root_again(alloc: Global, tree: &Tree) -> Result<[u8; 32], NoMemory> {
+    if !nests_at_most(tree, 128) {
+        return Ok([0; 32]);
+    }
+    Ok(root(&read_back(alloc, tree)?))
+}
+
+#[test]
+fn example_is_read_back(rt: HostRuntime) -> Result<(), NoMemory> {
+    let alloc = rt.alloc();
+    let found = root_again(alloc, &example(alloc)?)?;
+    assert!(rt; found == ROOT);
     Ok(())
 }
 
