@@ -140,7 +140,7 @@ fn next<R: Threads + Sync>(
 // All of a canister but its code, and of its memory the front.
 fn told_of(alloc: Global, canister: &Canister) -> Result<String, NoMemory> {
     let mut memory = [0; 32];
-    canister.store.copy_out(0, &mut memory);
+    canister.store.get().copy_out(0, &mut memory);
     let told = (canister.balance, canister.next_call, canister.outstanding);
     let open = (&canister.contexts, &canister.phase);
     Ok(format!(in alloc; "{told:?} {open:?} {memory:?}")?)
