@@ -1,4 +1,4 @@
-ghost use Rattle.std.specs.Prelude.{◌≤◌};
+ghost use Rattle.std.specs.Prelude.{◌<◌, ◌≤◌};
 
 use crate::chunks::turns_of;
 use crate::gates::Holding;
@@ -10,15 +10,18 @@ use std::alloc::Global;
 use std::test::*;
 use std::thread::Threads;
 
-// How many messages a round of two workers handles.
+// How many messages a round of so many workers handles.
 fn handled<R: Threads + Sync, G: Gate + Sync>(
     alloc: Global,
     rt: &R,
     canisters: u64,
+    workers: u32,
     gate: &G,
-) -> Option<u64> {
+) -> Option<u64>
+    requires { (0 < workers) × (workers ≤ 64) }
+{
     let world = busy(alloc, canisters)?;
-    match round(alloc, rt, world, 2, 5_000_000, 0, gate) {
+    match round(alloc, rt, world, workers, 5_000_000, 0, gate) {
         Ok((_, handled)) => Some(handled),
         Err(_) => None,
     }
@@ -28,8 +31,16 @@ fn handled<R: Threads + Sync, G: Gate + Sync>(
 #[test]
 fn two_workers_run(rt: HostRuntime) {
     let gate = Holding::new(2, 2);
-    assert_eq!(rt; handled(rt.alloc(), &rt, 2, &gate), Some(2));
+    assert_eq!(rt; handled(rt.alloc(), &rt, 2, 2, &gate), Some(2));
     assert_eq!(rt; gate.seen(), (2, 0));
+}
+
+// One worker is told from two: its first call gives up, since nobody else comes.
+#[test]
+fn one_worker_gives_up(rt: HostRuntime) {
+    let gate = Holding::new(2, 2);
+    assert_eq!(rt; handled(rt.alloc(), &rt, 2, 1, &gate), Some(2));
+    assert_eq!(rt; gate.seen(), (2, 1));
 }
 
 // Nor that work is shared by tickets: while one worker is held with its first slot, the other gets the
@@ -37,7 +48,7 @@ fn two_workers_run(rt: HostRuntime) {
 #[test]
 fn a_held_worker_keeps_one_slot(rt: HostRuntime) {
     let gate = Holding::new(1, 4);
-    assert_eq!(rt; handled(rt.alloc(), &rt, 4, &gate), Some(4));
+    assert_eq!(rt; handled(rt.alloc(), &rt, 4, 2, &gate), Some(4));
     assert_eq!(rt; gate.seen(), (4, 0));
 }
 
