@@ -12,7 +12,33 @@ const TWO_CALLS: Run<'static> = Run {
     ..NOTHING
 };
 
-static FAILING: [Run<'static>; 6] = [
+// Three lines of six bytes, of which each shows the state.
+const THREE_STATES: Run<'static> = Run {
+    script: &[("state\n", 3)],
+    pieces: &[(6, 100)],
+    ..NOTHING
+};
+
+static FAILING: [Run<'static>; 9] = [
+    Run {
+        failing_reads: &[3],
+        printed: b"{\"burned\":\"0\",\"canisters\":[],\"created\":\"0\",\"held\":\"0\",\"messages\":0,\"time\":\"0\"}\n{\"burned\":\"0\",\"canisters\":[],\"created\":\"0\",\"held\":\"0\",\"messages\":0,\"time\":\"0\"}\n",
+        status: Status::ReadFault,
+        ..THREE_STATES
+    },
+    Run {
+        pieces: &[(6, 1)],
+        failing_writes: &[10],
+        printed: b"{\"burned\"",
+        status: Status::WriteFault,
+        ..THREE_STATES
+    },
+    Run {
+        room: 9,
+        printed: b"{\"burned\"",
+        status: Status::WriteFault,
+        ..THREE_STATES
+    },
     Run {
         failing_reads: &[2],
         printed: b"accepted 0\n",

@@ -24,3 +24,5 @@ mod standard_streams;
 mod streams;
 #[cfg(test)]
 mod top_call;
+#[cfg(test)]
+mod workers;
