@@ -1,5 +1,5 @@
 -- What is written of an interface file is read there.
-use Rattle.std.proofs.Common.{◌≡◌, ℕ, zero, suc, ◌+◌, Bool, true, false, List, [], ◌∷◌, ◌++◌, Option, Some, None, refl, sym, ap, ◌∙◌, append_assoc, inl, inr}
+use Rattle.std.proofs.Common.{◌≡◌, ℕ, zero, suc, Bool, true, false, List, [], ◌∷◌, ◌++◌, Option, Some, None, refl, sym, ap, ◌∙◌, append_assoc, inl, inr}
 use Rattle.std.specs.Prelude.{◌&&◌, not}
 use Rattle.cd_tokens.specs.Token.{Token, run, quoted, mark, arrow}
 use Rattle.cd_tokens.specs.Label.{IsLabel, IsNameOf}
@@ -9,7 +9,7 @@ use Rattle.cd_grammar.specs.declared.word.Word.TheVariants as words
 use Rattle.cd_grammar.specs.declared.written.Part.{Part}
 use Rattle.cd_grammar.specs.declared.written.Part.TheVariants.{Prim}
 use Rattle.cd_grammar.specs.declared.written.Written.{Written}
-use Rattle.cd_grammar.specs.declared.written.Written.TheVariants.{Opt, Seq, Rec, Var, Func, Service}
+use Rattle.cd_grammar.specs.declared.written.Written.TheVariants.{Opt, Seq, Rec, Var}
 use Rattle.cd_grammar.specs.Words.{spelling}
 use Rattle.cd_grammar.specs.Grammar.{Writes, WritesField, WritesCase, after_field, no_place, WritesArgument, WritesTuple, WritesNotes, WritesFunction, WritesMethod, WritesName, WritesService, WritesFields, WritesInner, WritesBehind, WritesType, WritesMethodType}
 use Rattle.cd_grammar.specs.Read.{Reads, is_mark, starts, named_at, labelled_at, field_at, case_at, argument_at, tuple_at, first_note, notes_at, function_at, method_at, service_at, fields_at, inner_at, behind_word_at, type_at, method_type_at}

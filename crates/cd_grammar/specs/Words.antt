@@ -1,5 +1,5 @@
 -- The words and marks of interface files (Candid specification, "Core Grammar").
-use Rattle.std.specs.Prelude.{◌≡◌, ℕ, Bool, true, bytes_eq, find, List, [], ◌∷◌, Option, Some, None, codes}
+use Rattle.std.specs.Prelude.{◌≡◌, ℕ, true, bytes_eq, find, List, [], ◌∷◌, Option, Some, None, codes}
 use Rattle.cd_types.specs.declared.primitive.Primitive.TheVariants as primitives
 use Rattle.cd_tokens.specs.Token.{Token, run, mark}
 use Rattle.cd_tokens.specs.Label.{is_name}
