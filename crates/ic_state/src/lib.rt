@@ -17,6 +17,3 @@ pub use ic_behaviour::{
 };
 pub use lists::{AnsweredList, Contexts, Messages, Requests};
 pub use world::{Parts, Totals, World};
-
-#[cfg(test)]
-mod tests;

@@ -1,6 +1,6 @@
-use super::*;
 use ic_base::NoMemory;
 use ic_principal::{Bytes, Principal, Text};
+use ic_state::{Canister, Controllers, World};
 use std::test::*;
 
 // A canister is added, and a user calls it at a later time.
