@@ -18,6 +18,3 @@ pub use no_memory::NoMemory;
 pub use read_error::ReadError;
 pub use room::{room_claimed, room_for};
 pub use stack::Stack;
-
-#[cfg(test)]
-mod tests;

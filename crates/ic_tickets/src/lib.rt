@@ -8,8 +8,6 @@
 
 mod calls;
 mod rule;
-#[cfg(test)]
-mod tests;
 mod view;
 
 pub use rule::{Pass, Tickets};

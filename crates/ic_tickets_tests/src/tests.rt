@@ -2,7 +2,7 @@ ghost use Rattle.std.specs.Prelude.{◌≡◌, ◌≤◌, IfSome, vec_len};
 ghost use Rattle.std.specs.List.{AllByRecursion};
 ghost use Rattle.ic_tickets.specs.Tickets.{IsOpen, IsOf, IsFresh};
 
-use crate::{Pass, Tickets};
+use ic_tickets::{Pass, Tickets};
 use std::snapshot::Snapshot;
 use std::sync::Wait;
 use std::test::Fail;

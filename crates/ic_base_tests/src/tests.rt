@@ -1,7 +1,7 @@
 ghost use Rattle.std.specs.Prelude.{nat_lt};
 ghost use Rattle.ic_base.specs.Reader.{byte_at, filter_at};
 
-use super::*;
+use ic_base::{Item, NoMemory, ReadError, Stack, many};
 use std::alloc::Global;
 use std::test::*;
 
@@ -37,13 +37,22 @@ fn no_memory_by_question_mark(rt: HostRuntime) {
     assert!(rt; matches!(too_large(rt.alloc()), Err(ReadError::NoMemory)));
 }
 
-// A byte below the context.
-impl Item<u8> for u8 {
-    ghost reading = { λ limit. filter_at (λ byte. nat_lt byte limit) byte_at };
+#[derive(Drop)]
+struct Limit {
+    above: u8,
+}
 
-    fn read<'a>(_alloc: Global, limit: &u8, bytes: &'a [u8]) -> Result<(u8, &'a [u8]), ReadError> {
+// A byte below the limit.
+impl Item<Limit> for u8 {
+    ghost reading = { λ limit. filter_at (λ byte. nat_lt byte limit.above) byte_at };
+
+    fn read<'a>(
+        _alloc: Global,
+        limit: &Limit,
+        bytes: &'a [u8],
+    ) -> Result<(u8, &'a [u8]), ReadError> {
         match bytes {
-            [byte, rest @ ..] if *byte < *limit => Ok((*byte, rest)),
+            [byte, rest @ ..] if *byte < limit.above => Ok((*byte, rest)),
             _ => Err(ReadError::Refused),
         }
     }
@@ -52,14 +61,14 @@ impl Item<u8> for u8 {
 #[test]
 fn many_of_a_type(rt: HostRuntime) -> Result<(), Fail> {
     let bytes = [1, 2, 9, 3];
-    let (items, rest) = many::<u8, u8>(rt.alloc(), &9, 2, &bytes)
+    let (items, rest) = many::<Limit, u8>(rt.alloc(), &Limit { above: 9 }, 2, &bytes)
         .ok()
         .ok_or("two bytes below 9 stand in front")?;
     assert_eq!(rt; items.as_slice(), &bytes[..2]);
     assert_eq!(rt; rest, &bytes[2..]);
-    for (limit, count) in [(9, 3), (10, 5), (10, u128::MAX)] {
+    for (above, count) in [(9, 3), (10, 5), (10, u128::MAX)] {
         let refused = matches!(
-            many::<u8, u8>(rt.alloc(), &limit, count, &bytes),
+            many::<Limit, u8>(rt.alloc(), &Limit { above }, count, &bytes),
             Err(ReadError::Refused)
         );
         assert!(rt; refused);
