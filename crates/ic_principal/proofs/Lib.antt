@@ -5,5 +5,6 @@ pub mod Base32Laws
 pub mod TextLaws
 pub mod PrincipalLaws
 pub mod ReadingLaws
+pub mod OrderLaws
 pub mod PlaceLaws
 pub mod CanisterIdLaws

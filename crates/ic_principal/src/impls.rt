@@ -15,7 +15,11 @@ impl PartialEq for Principal {
     ghost laws = { partial_equiv_from_equiv nat_list_eq_equiv };
 
     fn eq(&self, other: &Principal) -> bool {
-        self.bytes() == other.bytes()
+        let (a, b) = (self.front(), other.front());
+        if a.0 != b.0 || a.1 != b.1 || self.len() != other.len() {
+            return false;
+        }
+        self.len() <= 16 || self.bytes() == other.bytes()
     }
 }
 
@@ -43,6 +47,13 @@ impl Ord for Principal {
     ghost matches_eq = { texts_ties };
 
     fn cmp(&self, other: &Principal) -> Ordering {
+        let (head, others) = (self.front().0, other.front().0);
+        if head != others {
+            return head.cmp(&others);
+        }
+        if self == other {
+            return Ordering::Equal;
+        }
         self.bytes().cmp(other.bytes())
     }
 }

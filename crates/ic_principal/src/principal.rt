@@ -1,3 +1,4 @@
+ghost use Rattle.std.specs.Int.{w64, from_be_bytes};
 ghost use Rattle.std.specs.Prelude.{◌≡◌, ℕ, ◌^◌, ◌<◌, ◌≤◌, length, drop, List, All, IfOk, IfSome, IfNone, OnErr};
 ghost use Rattle.std.specs.Result.{result_ok};
 ghost use Rattle.ic_principal.specs.CanisterId.{canister_id_of};
@@ -103,6 +104,27 @@ impl Principal {
         Ok(Text {
             items: String::from_str(alloc, self.spelled().as_str())?,
         })
+    }
+
+    /// The numbers that bytes 0 to 7 and 8 to 15 make, the highest byte first; zeros stand for
+    /// missing ones. They tell nearly all ids apart.
+    pub(crate) fn front(&self) -> (u64, u64)
+        ensures front { (result.0 ≡ from_be_bytes w64 self.now)
+            × (result.1 ≡ from_be_bytes w64 (drop 8 self.now)) }
+        ensures principal { IsPrincipal self.now }
+    {
+        let b = &self.bytes;
+        (
+            u64::from_be_bytes([b[0], b[1], b[2], b[3], b[4], b[5], b[6], b[7]]),
+            u64::from_be_bytes([b[8], b[9], b[10], b[11], b[12], b[13], b[14], b[15]]),
+        )
+    }
+
+    /// The number of bytes.
+    pub(crate) fn len(&self) -> u8
+        ensures { result ≡ length self.now }
+    {
+        self.len
     }
 
     // Keeps bytes that are known to be few enough.
