@@ -1,5 +1,6 @@
 pub mod Slots
 pub mod Takes
+pub mod Gathers
 pub mod Elements
 pub mod Crossings
 pub mod Works

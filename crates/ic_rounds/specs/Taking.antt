@@ -1,5 +1,5 @@
 -- The first messages to canisters, taken out in one pass. No standard has this.
-use Rattle.std.specs.Prelude.{ℕ, ◌&&◌, Bool, cond, not, is_some, List, [], ◌∷◌, ◌++◌}
+use Rattle.std.specs.Prelude.{◌≡◌, ℕ, ◌&&◌, Bool, true, cond, not, is_some, List, [], ◌∷◌, ◌++◌}
 use Rattle.std.specs.Map.{lookup}
 use Rattle.std.specs.BTreeMap.{insert_entry}
 use Rattle.std.specs.Ordering.{nat_cmp}
@@ -31,3 +31,15 @@ leave w m = record w { left = w.left ++ m ∷ [] }
 -- a message is met
 abbrev pub sort_out : (List ℕ → Bool) → Taking → Message → Taking
 sort_out is_canister w m = cond (is_first is_canister w (callee_of m)) (take_out w (callee_of m) m) (leave w m)
+
+-- others are left as they are
+abbrev pub with_left : Taking → List Message → Taking
+with_left w ms = record w { left = w.left ++ ms }
+
+-- the first messages are to canisters
+abbrev pub AreTheirs : (List ℕ → Bool) → Taking → Type 0
+AreTheirs is_canister w = (key : List ℕ) → is_key w.firsts key ≡ true → is_canister key ≡ true
+
+-- each canister has its first message
+abbrev pub HasAll : (List ℕ → Bool) → Taking → Type 0
+HasAll is_canister w = (key : List ℕ) → is_canister key ≡ true → is_key w.firsts key ≡ true

@@ -1,13 +1,13 @@
-ghost use Rattle.std.specs.Prelude.{◌≡◌, IfOk};
+ghost use Rattle.std.specs.Prelude.{◌≡◌, ◌++◌, true, IfOk, OnOk};
 ghost use Rattle.std.specs.List.{fold};
-ghost use Rattle.ic_rounds.specs.Taking.{is_first, is_key, take_out, leave, sort_out, none_taken};
+ghost use Rattle.ic_rounds.specs.Taking.{is_first, is_key, take_out, leave, sort_out, none_taken, with_left, AreTheirs, HasAll};
 
 use ic_base::NoMemory;
 use ic_calls::callee;
 use ic_principal::Principal;
 use ic_state::{Canister, Message, Messages};
 use std::alloc::Global;
-use std::collections::BTreeMap;
+use std::collections::{BTreeMap, VecDeque};
 use std::marker::Model;
 
 /// The first message to each canister that has one, and the other messages.
@@ -82,9 +82,76 @@ impl Taken {
             self.leave(message)
         }
     }
+
+    // Whether each canister has its first message.
+    fn has_all(&self, canisters: &BTreeMap<Principal, Canister>) -> bool
+        requires theirs { AreTheirs (is_key canisters.now.entries) self.now }
+        ensures { result ≡ true → HasAll (is_key canisters.now.entries) self.now }
+    {
+        let all = canisters.len();
+        let first = self.firsts.len();
+        all <= first
+    }
+
+    // Goes past messages until each canister has its first one.
+    fn gather(
+        self,
+        canisters: &BTreeMap<Principal, Canister>,
+        messages: &mut VecDeque<Message>,
+    ) -> Result<Taken, NoMemory>
+        requires theirs { AreTheirs (is_key canisters.now.entries) self }
+        ensures { IfOk result (λ w. fold (sort_out (is_key canisters.now.entries)) self messages.old.items
+            ≡ with_left w messages.new.items) }
+    {
+        let mut taken = self;
+        while let Some(message) = messages.pop_front() {
+            taken = taken.sort_out(canisters, message)?;
+            if taken.has_all(canisters) {
+                return Ok(taken);
+            }
+        }
+        Ok(taken)
+    }
+
+    // Leaves messages behind the others.
+    fn leave_all(self, messages: VecDeque<Message>) -> Result<Taken, NoMemory>
+        ensures { IfOk result (λ w. w ≡ with_left self messages.items) }
+    {
+        let Taken { firsts, left } = self;
+        let left = joined(left, messages)?;
+        Ok(Taken { firsts, left })
+    }
 }
 
-/// Takes out the first message to each canister that has one, in one pass.
+// Puts messages before others.
+fn put_before(front: Vec<Message>, back: &mut VecDeque<Message>) -> Result<(), NoMemory>
+    ensures { OnOk result (back.new.items ≡ front.items ++ back.old.items) }
+{
+    let mut front = front;
+    while let Some(message) = front.pop() {
+        back.push_front(message)?;
+    }
+    Ok(())
+}
+
+// Messages and others behind them. Those that are fewer are moved to the others.
+fn joined(front: Vec<Message>, back: VecDeque<Message>) -> Result<Vec<Message>, NoMemory>
+    ensures { IfOk result (λ all. all.items ≡ front.items ++ back.items) }
+{
+    let mut front = front;
+    let mut back = back;
+    if back.len() < front.len() {
+        let mut more = back.into_vec();
+        front.append(&mut more)?;
+        Ok(front)
+    } else {
+        put_before(front, &mut back)?;
+        Ok(back.into_vec())
+    }
+}
+
+/// Takes out the first message to each canister that has one, in one pass. Where each canister has its
+/// first message, the others are not looked at.
 pub fn taken_out(
     alloc: Global,
     canisters: &BTreeMap<Principal, Canister>,
@@ -92,9 +159,7 @@ pub fn taken_out(
 ) -> Result<Taken, NoMemory>
     ensures { IfOk result (λ w. w ≡ fold (sort_out (is_key canisters.now.entries)) none_taken messages) }
 {
-    let mut taken = Taken::new(alloc);
-    for message in messages.items {
-        taken = taken.sort_out(canisters, message)?;
-    }
-    Ok(taken)
+    let mut rest = VecDeque::from_vec(messages.items);
+    let taken = Taken::new(alloc).gather(canisters, &mut rest)?;
+    taken.leave_all(rest)
 }
