@@ -4,6 +4,7 @@ use Rattle.std.specs.List.{list_any}
 use Rattle.std.specs.Map.{lookup}
 use Rattle.ic_behaviour.specs.declared.call.Message.{Message}
 use Rattle.ic_behaviour.specs.State.{at, callee_of}
+use Rattle.ic_state.specs.declared.canister.Canister.{Canister}
 use Rattle.ic_state.specs.declared.world.Parts.{Parts}
 use Rattle.ic_state.specs.Seen.{state_of}
 use Rattle.ic_state.specs.IsWorld.{IsWorld}
@@ -15,9 +16,13 @@ use Rattle.ic_management.specs.Managed.{managed_rules}
 abbrev pub among : (kept todo : List Message) → Parts → Parts
 among kept todo p = record p { messages = kept ++ (todo ++ p.messages) }
 
+-- whether a message is to a canister
+abbrev pub is_inside : List (List ℕ × Canister) → Message → Bool
+is_inside canisters m = is_some (lookup (at (callee_of m)) canisters)
+
 -- whether a message stays: its callee is a canister, or one of its sender to its callee has stayed
 abbrev pub stays : (kept : List Message) → Parts → Message → Bool
-stays kept p m = is_some (lookup (at (callee_of m)) p.canisters.entries) || list_any (same_way m) kept
+stays kept p m = is_inside p.canisters.entries m || list_any (same_way m) kept
 
 -- this message is met next in a world
 abbrev pub Meets : (kept : List Message) → Message → Parts → Type 0

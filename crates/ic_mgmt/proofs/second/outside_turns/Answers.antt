@@ -1,26 +1,21 @@
-use Rattle.std.proofs.Common.{length, sym, ap, ◌∙◌, subst}
+use Rattle.std.proofs.Common.{◌≡◌, [], length, sym, ap, ◌∙◌, subst}
 use Rattle.ic_behaviour.specs.State.{State}
-use Rattle.ic_state.specs.Seen.{state_of}
-use Rattle.ic_state.specs.IsWorld.{IsWorld}
 use Rattle.ic_runs.specs.Steps.{along}
 use Rattle.ic_runs.specs.Round.{second_phase}
 use Rattle.ic_management.specs.Managed.{managed_rules}
-use Rattle.ic_mgmt.proofs.Sweeps.{reaches_end}
+use Rattle.ic_mgmt.proofs.Sweeps.{none_goes}
 use Rattle.ic_mgmt.proofs.second.outside_turns.Goals as goal
 
-pub seal-requires : goal.seal-requires
-seal-requires c = subst IsWorld (sym c.in_ok-parts.ensures) c.in_ok-kept.ensures.reaches.keeps
-
-pub returns-clause-state : goal.returns-clause-state
-returns-clause-state c =
+pub returns-then-idle-clause-state : goal.returns-then-idle-clause-state
+returns-then-idle-clause-state c =
     λ price.
     let rules = managed_rules c.args.limit price in
-    c.seal.ensures ∙ ap state_of c.in_ok-parts.ensures
-    ∙ (reaches_end c.args.limit price c.open.result _ _ _ c.in_ok-kept.ensures.reaches).0
-    ∙ ap (λ (t : State). along rules t (second_phase rules t)) c.open.ensures.state
+    let none = subst (λ (s : State). second_phase rules s ≡ []) c.parts.ensures.state (none_goes rules c.parts.result.now (sym c.all_inside-idle.ensures ∙ c.if-idle.true)) in
+    sym (ap (along rules c.args.world) none)
 
-pub returns-clause-handled : goal.returns-clause-handled
-returns-clause-handled c =
+pub returns-then-idle-clause-handled : goal.returns-then-idle-clause-handled
+returns-then-idle-clause-handled c =
     λ price.
-    (reaches_end c.args.limit price c.open.result _ _ _ c.in_ok-kept.ensures.reaches).1
-    ∙ ap (λ (t : State). length (second_phase (managed_rules c.args.limit price) t)) c.open.ensures.state
+    let rules = managed_rules c.args.limit price in
+    let none = subst (λ (s : State). second_phase rules s ≡ []) c.parts.ensures.state (none_goes rules c.parts.result.now (sym c.all_inside-idle.ensures ∙ c.if-idle.true)) in
+    sym (ap length none)
