@@ -18,7 +18,10 @@ use std::collections::BTreeMap;
 fn is_inside(canisters: &BTreeMap<Principal, Canister>, message: &Message) -> bool
     ensures { result ≡ is_inside canisters.now.entries message.now }
 {
-    canisters.contains_key(&callee(message))
+    match message {
+        Message::Call { callee, .. } => canisters.contains_key(callee),
+        Message::Answer { .. } => canisters.contains_key(&callee(message)),
+    }
 }
 
 // Whether each message is to a canister.
