@@ -167,33 +167,15 @@ fields_seen table types items place end old front new empty past none closes f g
 
 -- ---- the kinds of values
 
-pub after_some : (table : List Entry) (type : TyRef) (old middle new : List ℕ) (v part : Value) (inner : Box Value Global) (at : TyRef) → v ≡ values.Opt (Some inner) → part ≡ inner.value → at ≡ inner_of (shape table type)
-    → middle ≡ old ++ codes "opt " → new ≡ middle ++ value_text table at (view part) → new ≡ old ++ value_text table type (view v)
+pub list_text : (table : List Entry) (type : TyRef) (v : Value) (inner : Vec Value) (parts : List Value) (at : TyRef) → v ≡ values.Seq (roll-Values record { items = inner }) → parts ≡ inner.items → at ≡ item_of (shape table type)
+    → value_text table type (view v) ≡ codes "vec " ++ braced (map (value_text table at) (views parts))
 unfolding value_text
-after_some table type old middle new v part inner at is same kind e f = two_pieces old middle new (codes "opt ") (value_text table at (view part)) (value_text table type (view v)) e f (rw (is, same, kind, view-Some inner) refl)
+list_text table type v inner parts at is same kind = rw (is, same, kind, view-Seq inner) (ap (λ ts. codes "vec " ++ braced ts) (items_are table (item_of (shape table type)) (views inner.items)))
 
-pub after_items : (table : List Entry) (type : TyRef) (old middle new : List ℕ) (v : Value) (inner : Vec Value) (parts : List Value) (at : TyRef) → v ≡ values.Seq (roll-Values record { items = inner }) → parts ≡ inner.items → at ≡ item_of (shape table type)
-    → middle ≡ old ++ codes "vec " → new ≡ middle ++ braced (map (value_text table at) (views parts)) → new ≡ old ++ value_text table type (view v)
+pub case_text : (table : List Entry) (type : TyRef) (v part : Value) (i : ℕ) (inner : Box Value Global) (cases : List (ℕ × TyRef)) (case : ℕ × TyRef) → v ≡ values.Var i inner → part ≡ inner.value → cases ≡ fields_of (shape table type) → case ≡ nth_field cases i
+    → value_text table type (view v) ≡ codes "variant { " ++ (labelled case.0 (value_text table case.1 (view part)) ++ codes " }")
 unfolding value_text
-after_items table type old middle new v inner parts at is same kind e f =
-    two_pieces old middle new (codes "vec ") (braced (map (value_text table at) (views parts))) (value_text table type (view v)) e f
-    (rw (is, same, kind, view-Seq inner) (ap (λ ts. codes "vec " ++ braced ts) (sym (items_are table (item_of (shape table type)) (views inner.items)))))
-
-pub after_fields : (table : List Entry) (type : TyRef) (old middle new : List ℕ) (v : Value) (inner : Vec (ℕ × Value)) (parts : List (ℕ × Value)) (types : List (ℕ × TyRef)) → v ≡ values.Rec (roll-FieldValues record { items = inner }) → parts ≡ inner.items
-    → types ≡ fields_of (shape table type) → middle ≡ old ++ codes "record " → new ≡ middle ++ braced (field_texts table types 0 (parts_of (views_of_fields parts))) → new ≡ old ++ value_text table type (view v)
-unfolding value_text
-after_fields table type old middle new v inner parts types is same kind e f =
-    two_pieces old middle new (codes "record ") (braced (field_texts table types 0 (parts_of (views_of_fields parts)))) (value_text table type (view v)) e f (rw (is, same, kind, view-Rec inner) refl)
-
-pub after_case : (table : List Entry) (type : TyRef) (old middle nearly new : List ℕ) (v part : Value) (i : ℕ) (inner : Box Value Global) (cases : List (ℕ × TyRef)) (case : ℕ × TyRef) → v ≡ values.Var i inner → part ≡ inner.value
-    → cases ≡ fields_of (shape table type) → case ≡ nth_field cases i → middle ≡ old ++ codes "variant { " → nearly ≡ middle ++ labelled case.0 (value_text table case.1 (view part)) → new ≡ nearly ++ codes " }"
-    → new ≡ old ++ value_text table type (view v)
-unfolding value_text
-after_case table type old middle nearly new v part i inner cases case is same kind at e f g =
-    let field = labelled case.0 (value_text table case.1 (view part)) in
-    let whole : new ≡ old ++ (codes "variant { " ++ (field ++ codes " }")) =
-    two_pieces old middle new (codes "variant { ") (field ++ codes " }") (codes "variant { " ++ (field ++ codes " }")) e (two_pieces middle nearly new field (codes " }") (field ++ codes " }") f g refl) refl in
-    whole ∙ ap (λ (bytes : List ℕ). old ++ bytes) (rw (is, same, at, kind, view-Var i inner) (ap (λ (xs : List ℕ). codes "variant { " ++ (xs ++ codes " }")) (sym (append-nil _))))
+case_text table type v part i inner cases case is same kind at = rw (is, same, at, kind, view-Var i inner) (ap (λ (xs : List ℕ). codes "variant { " ++ (xs ++ codes " }")) (append-nil _))
 
 pub no_field : (table : List Entry) (types : List (ℕ × TyRef)) (old : List ℕ) → old ≡ old ++ pieces (codes "{ ") (codes "; ") 0 (field_texts table types 0 (parts_of []))
 unfolding value_text

@@ -13,27 +13,24 @@ pub(crate) fn write_bool(value: bool, out: &mut Vec<u8>) -> Result<(), NoMemory>
     ensures { OnOk result (out.new.items ≡ out.old.items ++ bool_text value) }
 {
     if value {
-        out.extend_from_slice(b"true")?;
+        out.extend_from_slice(b"true")
     } else {
-        out.extend_from_slice(b"false")?;
+        out.extend_from_slice(b"false")
     }
-    Ok(())
 }
 
 pub(crate) fn write_natural(alloc: Global, n: u128, out: &mut Vec<u8>) -> Result<(), NoMemory>
     ensures { OnOk result (out.new.items ≡ out.old.items ++ decimal n) }
 {
     let digits = format!(in alloc; "{n}")?;
-    out.extend_from_slice(digits.as_bytes())?;
-    Ok(())
+    out.extend_from_slice(digits.as_bytes())
 }
 
 pub(crate) fn write_integer(alloc: Global, z: i128, out: &mut Vec<u8>) -> Result<(), NoMemory>
     ensures { OnOk result (out.new.items ≡ out.old.items ++ signed_decimal z) }
 {
     let digits = format!(in alloc; "{z}")?;
-    out.extend_from_slice(digits.as_bytes())?;
-    Ok(())
+    out.extend_from_slice(digits.as_bytes())
 }
 
 fn digit_char(digit: u8) -> u8
@@ -51,21 +48,20 @@ fn write_hex_escape(byte: u8, out: &mut Vec<u8>) -> Result<(), NoMemory>
     ensures { OnOk result (out.new.items ≡ out.old.items ++ hex_escape byte) }
 {
     let escape = [b'\\', digit_char(byte / 16), digit_char(byte % 16)];
-    out.extend_from_slice(&escape)?;
-    Ok(())
+    out.extend_from_slice(&escape)
 }
 
 fn write_escape(byte: u8, out: &mut Vec<u8>) -> Result<(), NoMemory>
     ensures { OnOk result (out.new.items ≡ out.old.items ++ escape byte) }
 {
     if byte == b'"' || byte == b'\\' {
-        out.extend_from_slice(&[b'\\', byte])?;
+        out.extend_from_slice(&[b'\\', byte])
     } else if byte < 32 || byte == 127 {
-        write_hex_escape(byte, out)?;
+        write_hex_escape(byte, out)
     } else {
         out.push(byte)?;
+        Ok(())
     }
-    Ok(())
 }
 
 pub(crate) fn write_blob(bytes: &[u8], out: &mut Vec<u8>) -> Result<(), NoMemory>
@@ -101,8 +97,7 @@ pub(crate) fn write_principal(
 {
     out.extend_from_slice(word)?;
     let text = principal.to_text(alloc)?;
-    write_text(&text, out)?;
-    Ok(())
+    write_text(&text, out)
 }
 
 pub(crate) fn write_method(
@@ -115,6 +110,5 @@ pub(crate) fn write_method(
 {
     write_principal(alloc, b"func ", service, out)?;
     out.push(b'.')?;
-    write_text(method, out)?;
-    Ok(())
+    write_text(method, out)
 }

@@ -40,47 +40,93 @@ fn write_value(
     ensures { OnOk result (out.new.items ≡ out.old.items ++ value_text table.now ty (view value.now)) }
 {
     match value {
-        Value::Null => out.extend_from_slice(b"null")?,
-        Value::Reserved => out.extend_from_slice(b"null")?,
-        Value::Bool(b) => write_bool(*b, out)?,
-        Value::Nat(n) => write_natural(alloc, *n, out)?,
-        Value::Int(z) => write_integer(alloc, *z, out)?,
-        Value::Nat8(n) => write_natural(alloc, u128::from(*n), out)?,
-        Value::Nat16(n) => write_natural(alloc, u128::from(*n), out)?,
-        Value::Nat32(n) => write_natural(alloc, u128::from(*n), out)?,
-        Value::Nat64(n) => write_natural(alloc, u128::from(*n), out)?,
-        Value::Int8(z) => write_integer(alloc, i128::from(*z), out)?,
-        Value::Int16(z) => write_integer(alloc, i128::from(*z), out)?,
-        Value::Int32(z) => write_integer(alloc, i128::from(*z), out)?,
-        Value::Int64(z) => write_integer(alloc, i128::from(*z), out)?,
-        Value::Text(text) => write_text(text, out)?,
+        Value::Null => out.extend_from_slice(b"null"),
+        Value::Reserved => out.extend_from_slice(b"null"),
+        Value::Bool(b) => write_bool(*b, out),
+        Value::Nat(n) => write_natural(alloc, *n, out),
+        Value::Int(z) => write_integer(alloc, *z, out),
+        Value::Nat8(n) => write_natural(alloc, u128::from(*n), out),
+        Value::Nat16(n) => write_natural(alloc, u128::from(*n), out),
+        Value::Nat32(n) => write_natural(alloc, u128::from(*n), out),
+        Value::Nat64(n) => write_natural(alloc, u128::from(*n), out),
+        Value::Int8(z) => write_integer(alloc, i128::from(*z), out),
+        Value::Int16(z) => write_integer(alloc, i128::from(*z), out),
+        Value::Int32(z) => write_integer(alloc, i128::from(*z), out),
+        Value::Int64(z) => write_integer(alloc, i128::from(*z), out),
+        Value::Text(text) => write_text(text, out),
         Value::Opt(part) => match part {
-            None => out.extend_from_slice(b"null")?,
-            Some(part) => {
-                out.extend_from_slice(b"opt ")?;
-                write_value(alloc, table, inner_of(table, ty), part, out)?;
-            }
+            None => out.extend_from_slice(b"null"),
+            Some(part) => write_some(alloc, table, inner_of(table, ty), part, out),
         },
-        Value::Blob(bytes) => write_blob(&bytes.items, out)?,
-        Value::Seq(values) => {
-            out.extend_from_slice(b"vec ")?;
-            write_items(alloc, table, item_of(table, ty), &values.items, out)?;
-        }
-        Value::Rec(fields) => {
-            out.extend_from_slice(b"record ")?;
-            write_fields(alloc, table, fields_of(table, ty), &fields.items, out)?;
-        }
+        Value::Blob(bytes) => write_blob(&bytes.items, out),
+        Value::Seq(values) => write_list(alloc, table, item_of(table, ty), &values.items, out),
+        Value::Rec(fields) => write_record(alloc, table, fields_of(table, ty), &fields.items, out),
         Value::Var { position, part } => {
-            let (id, ty) = nth_field(fields_of(table, ty), *position as usize);
-            out.extend_from_slice(b"variant { ")?;
-            write_field(alloc, table, ty, id, part, out)?;
-            out.extend_from_slice(b" }")?;
+            let case = nth_field(fields_of(table, ty), *position as usize);
+            write_case(alloc, table, case, part, out)
         }
-        Value::Func { service, method } => write_method(alloc, service, method, out)?,
-        Value::Service(id) => write_principal(alloc, b"service ", id, out)?,
-        Value::Principal(id) => write_principal(alloc, b"principal ", id, out)?,
+        Value::Func { service, method } => write_method(alloc, service, method, out),
+        Value::Service(id) => write_principal(alloc, b"service ", id, out),
+        Value::Principal(id) => write_principal(alloc, b"principal ", id, out),
     }
-    Ok(())
+}
+
+#[cycle(printer)]
+fn write_some(
+    alloc: Global,
+    table: &TypeTable,
+    inner: TyRef,
+    part: &Value,
+    out: &mut Vec<u8>,
+) -> Result<(), NoMemory>
+    ensures { OnOk result (out.new.items ≡ out.old.items ++ (codes "opt " ++ value_text table.now inner (view part.now))) }
+{
+    out.extend_from_slice(b"opt ")?;
+    write_value(alloc, table, inner, part, out)
+}
+
+#[cycle(printer)]
+fn write_list(
+    alloc: Global,
+    table: &TypeTable,
+    item: TyRef,
+    values: &[Value],
+    out: &mut Vec<u8>,
+) -> Result<(), NoMemory>
+    ensures { OnOk result (out.new.items ≡ out.old.items ++ (codes "vec " ++ braced (map (value_text table.now item) (views values.now)))) }
+{
+    out.extend_from_slice(b"vec ")?;
+    write_items(alloc, table, item, values, out)
+}
+
+#[cycle(printer)]
+fn write_record(
+    alloc: Global,
+    table: &TypeTable,
+    types: &[(u32, TyRef)],
+    fields: &[(u32, Value)],
+    out: &mut Vec<u8>,
+) -> Result<(), NoMemory>
+    ensures { OnOk result (out.new.items ≡ out.old.items ++ (codes "record " ++ braced (field_texts table.now types.now 0 (parts_of (views_of_fields fields.now))))) }
+{
+    out.extend_from_slice(b"record ")?;
+    write_fields(alloc, table, types, fields, out)
+}
+
+#[cycle(printer)]
+fn write_case(
+    alloc: Global,
+    table: &TypeTable,
+    case: (u32, TyRef),
+    part: &Value,
+    out: &mut Vec<u8>,
+) -> Result<(), NoMemory>
+    ensures { OnOk result (out.new.items ≡ out.old.items ++ (codes "variant { " ++ (labelled case.0 (value_text table.now case.1 (view part.now)) ++ codes " }"))) }
+{
+    let (id, ty) = case;
+    out.extend_from_slice(b"variant { ")?;
+    write_field(alloc, table, ty, id, part, out)?;
+    out.extend_from_slice(b" }")
 }
 
 #[cycle(printer)]
@@ -114,8 +160,7 @@ fn write_field(
 {
     write_natural(alloc, u128::from(id), out)?;
     out.extend_from_slice(b" = ")?;
-    write_value(alloc, table, ty, value, out)?;
-    Ok(())
+    write_value(alloc, table, ty, value, out)
 }
 
 #[cycle(printer)]

@@ -1,28 +1,13 @@
-use Rattle.std.proofs.Common.{ap, ◌∙◌}
-use Rattle.cd_codec.specs.declared.value.Value.TheVariants as values
 use Rattle.cd_text.specs.Printed.{value_text}
-use Rattle.cd_text.proofs.Pieces.{no_field, item_seen, items_seen, field_seen, fields_seen, after_some, after_items, after_fields, after_case}
+use Rattle.cd_text.proofs.Pieces.{no_field, item_seen, items_seen, field_seen, fields_seen, list_text, case_text}
 use Rattle.cd_text.proofs.printing.+printer.Goals as goal
 
-pub write_value-returns-in_ok-write_value-in-Some : goal.write_value-returns-in_ok-write_value-in-Some
-write_value-returns-in_ok-write_value-in-Some t c =
-    after_some c.args.table.now c.args.ty c.args.out.now.items c.extend_from_slice-in-Some.new.self.items c.write_value.new.out.items c.args.value.now _ c.in-Some.part c.inner_of.result (c.in-Opt.is ∙ ap values.Opt c.in-Some.is) c.deref.ensures c.inner_of.ensures
-    c.in_ok-extend_from_slice-in-Some.ensures.items c.in_ok-write_value-in-Some.ensures
+pub write_value-returns-in-Seq : goal.write_value-returns-in-Seq
+write_value-returns-in-Seq t c = rw (list_text c.args.table.now c.args.ty c.args.value.now c.in-Seq.values.items _ c.item_of.result c.in-Seq.is c.deref-in-Seq.ensures.value c.item_of.ensures) c.write_list.ensures
 
-pub write_value-returns-in_ok-write_items-in-Seq : goal.write_value-returns-in_ok-write_items-in-Seq
-write_value-returns-in_ok-write_items-in-Seq t c =
-    after_items c.args.table.now c.args.ty c.args.out.now.items c.extend_from_slice-in-Seq.new.self.items c.write_items.new.out.items c.args.value.now c.in-Seq.values.items _ c.item_of.result c.in-Seq.is c.deref-in-Seq.ensures.value c.item_of.ensures
-    c.in_ok-extend_from_slice-in-Seq.ensures.items c.in_ok-write_items-in-Seq.ensures
-
-pub write_value-returns-in_ok-write_fields-in-Rec : goal.write_value-returns-in_ok-write_fields-in-Rec
-write_value-returns-in_ok-write_fields-in-Rec t c =
-    after_fields c.args.table.now c.args.ty c.args.out.now.items c.extend_from_slice-in-Rec.new.self.items c.write_fields.new.out.items c.args.value.now c.in-Rec.fields.items _ c.fields_of.result.now c.in-Rec.is c.deref-in-Rec.ensures.value c.fields_of.ensures
-    c.in_ok-extend_from_slice-in-Rec.ensures.items c.in_ok-write_fields-in-Rec.ensures
-
-pub write_value-returns-in_ok-extend_from_slice-in-Var-2 : goal.write_value-returns-in_ok-extend_from_slice-in-Var-2
-write_value-returns-in_ok-extend_from_slice-in-Var-2 t c =
-    after_case c.args.table.now c.args.ty c.args.out.now.items c.extend_from_slice-in-Var.new.self.items c.write_field.new.out.items c.extend_from_slice-in-Var-2.new.self.items c.args.value.now _ c.in-Var.position c.in-Var.part c.fields_of-in-Var.result.now c.nth_field-id.result
-    c.in-Var.is c.deref-in-Var.ensures c.fields_of-in-Var.ensures c.nth_field-id.ensures c.in_ok-extend_from_slice-in-Var.ensures.items c.in_ok-write_field-in-Var.ensures c.in_ok-extend_from_slice-in-Var-2.ensures.items
+pub write_value-returns-in-Var : goal.write_value-returns-in-Var
+write_value-returns-in-Var t c =
+    rw (case_text c.args.table.now c.args.ty c.args.value.now _ c.in-Var.position c.in-Var.part c.fields_of-in-Var.result.now c.nth_field-case.result c.in-Var.is c.deref-in-Var.ensures c.fields_of-in-Var.ensures c.nth_field-case.ensures) c.write_case.ensures
 
 pub write_items-loop-place-preserved : goal.write_items-loop-place-preserved
 write_items-loop-place-preserved t c =
