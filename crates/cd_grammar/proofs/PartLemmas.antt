@@ -21,6 +21,10 @@ Sound {S} {A} P read = (state : S) (tokens : List Token) (z : A × S × List Tok
 abbrev pub Complete : {S A : Type 0} → (List Token → Bool) → Writing S A → Reading S A → Type 0
 Complete {S} {A} free P read = (before : S) (x : A) (after : S) (front rest : List Token) → P before x after front → free rest ≡ true → read before (front ++ rest) ≡ Some (x, after, rest)
 
+-- what stands in front, and how what is behind begins
+with_tail : (front middle tail tokens rest : List Token) → tokens ≡ front ++ rest → rest ≡ middle ++ tail → tokens ≡ (front ++ middle) ++ tail
+with_tail front middle tail tokens rest e f = e ∙ ap (λ ts. front ++ ts) f ∙ sym (append_assoc front middle tail)
+
 pub parts_take : {S A : Type 0} (separator end : ℕ) (P : ℕ → Writing S A) (step : A → ℕ) (read : ℕ → Reading S A) → ((next : ℕ) → Sound (P next) (read next))
     → (fuel next : ℕ) (state : S) (tokens : List Token) (z : List A × S × List Token) → parts_at separator end read step fuel next state tokens ≡ Some z → Takes (WritesParts (mark separator) (mark end) P step next) state tokens z
 unfolding parts_at
@@ -37,7 +41,7 @@ parts_take {S} {A} separator end P step read law (suc fuel) next state tokens z 
             | inl ended ↦ subst (Takes (WritesParts (mark separator) (mark end) P step next) state tokens) (some_is {A = List A × S × List Token} (a.0.0 ∷ [], a.0.1, drop 1 a.0.2) z (rw ended at a.2))
                 (record {
                   front = s.front ++ mark end ∷ [];
-                  parts = s.parts ∙ ap (λ ts. s.front ++ ts) (started end a.0.2 ended) ∙ sym (append_assoc s.front (mark end ∷ []) (drop 1 a.0.2));
+                  parts = with_tail s.front (mark end ∷ []) (drop 1 a.0.2) tokens a.0.2 s.parts (started end a.0.2 ended);
                   written = (a.0.1, s.front, mark end ∷ [], refl, s.written, inl (refl, refl, refl));
                 })
             | inr more ↦ elim (true_or_false (starts (is_mark separator) a.0.2)) [
@@ -48,7 +52,7 @@ parts_take {S} {A} separator end P step read law (suc fuel) next state tokens z 
                   subst (Takes (WritesParts (mark separator) (mark end) P step next) state tokens) (some_is {A = List A × S × List Token} (a.0.0 ∷ b.0.0, b.0.1, b.0.2) z b.2)
                   (record {
                     front = s.front ++ mark separator ∷ t.front;
-                    parts = s.parts ∙ ap (λ ts. s.front ++ ts) (started separator a.0.2 again ∙ ap (λ (ts : List Token). mark separator ∷ ts) t.parts) ∙ sym (append_assoc s.front (mark separator ∷ t.front) b.0.2);
+                    parts = with_tail s.front (mark separator ∷ t.front) b.0.2 tokens a.0.2 s.parts (started separator a.0.2 again ∙ ap (λ (ts : List Token). mark separator ∷ ts) t.parts);
                     written = (a.0.1, s.front, mark separator ∷ t.front, refl, s.written, inr (t.front, refl, t.written));
                   })
               | inr stuck ↦ let g : None ≡ Some z = rw (more, stuck) at a.2 in absurd cc

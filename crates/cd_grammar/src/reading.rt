@@ -1,5 +1,6 @@
 ghost use Rattle.std.specs.Prelude.{◌≡◌, ◌⊎◌, ◌<◌, ◌^◌, ◌++◌, ◌∷◌, [], List, suc, length, Some, IfOk, IfSome};
 ghost use Rattle.ic_base.specs.Gives.{Gives};
+ghost use Rattle.cd_tokens.specs.Token as token;
 ghost use Rattle.cd_tokens.specs.View.{token_view, token_views};
 ghost use Rattle.cd_grammar.specs.declared.written.Part.TheVariants.{Place};
 ghost use Rattle.cd_grammar.specs.declared.written.Part.{Part};
@@ -17,13 +18,17 @@ use ic_base::ReadError;
 use ic_principal::{Bytes, Text};
 use std::alloc::Global;
 
-// One more type is written: its place.
-fn add(types: &mut Vec<Written>, written: Written) -> Result<Part, ReadError>
-    ensures { Gives {B = Part × List Written} (λ part. (part, types.new.items)) result (Some (Place (length types.old.items), types.old.items ++ written ∷ [])) }
+// One more type is written before these tokens: its place.
+fn add<'t, 'a>(
+    types: &mut Vec<Written>,
+    written: Written,
+    rest: &'t [Token<'a>],
+) -> Result<(Part, &'t [Token<'a>]), ReadError>
+    ensures { Gives {B = Part × List Written × List token.Token} (λ x. (x.0, types.new.items, token_views x.1.now)) result (Some (Place (length types.old.items), types.old.items ++ written ∷ [], token_views rest.now)) }
 {
     let place = types.len();
     types.push(written)?;
-    Ok(Part::Place(place))
+    Ok((Part::Place(place), rest))
 }
 
 /// A name that stands as a type.
@@ -134,10 +139,7 @@ fn behind_word<'t, 'a>(
         Word::Prim(prim) => Ok((Part::Prim(prim), tokens)),
         Word::Float32 => Ok((Part::Float, tokens)),
         Word::Float64 => Ok((Part::Float, tokens)),
-        Word::Blob => {
-            let part = add(types, Written::Seq(Part::Prim(Primitive::Nat8)))?;
-            Ok((part, tokens))
-        }
+        Word::Blob => add(types, Written::Seq(Part::Prim(Primitive::Nat8)), tokens),
         Word::Opt => opt_of(alloc, depth, types, tokens),
         Word::Seq => vec_of(alloc, depth, types, tokens),
         Word::Rec => record_of(alloc, depth, types, tokens),
@@ -161,8 +163,7 @@ fn opt_of<'t, 'a>(
     ensures { Gives (λ x. (x.0, types.new.items, token_views x.1.now)) result (inner_at (type_at depth) (λ t. Opt t) types.old.items (token_views tokens.now)) }
 {
     let (inner, rest) = type_of(alloc, depth, types, tokens)?;
-    let part = add(types, Written::Opt(inner))?;
-    Ok((part, rest))
+    add(types, Written::Opt(inner), rest)
 }
 
 #[cycle(reader)]
@@ -175,8 +176,7 @@ fn vec_of<'t, 'a>(
     ensures { Gives (λ x. (x.0, types.new.items, token_views x.1.now)) result (inner_at (type_at depth) (λ t. Seq t) types.old.items (token_views tokens.now)) }
 {
     let (inner, rest) = type_of(alloc, depth, types, tokens)?;
-    let part = add(types, Written::Seq(inner))?;
-    Ok((part, rest))
+    add(types, Written::Seq(inner), rest)
 }
 
 #[cycle(reader)]
@@ -192,8 +192,7 @@ fn record_of<'t, 'a>(
         return Err(ReadError::Refused);
     }
     let (items, rest) = fields_of(alloc, depth, tokens.len(), types, rest_of(tokens))?;
-    let part = add(types, Written::Rec(WrittenFields { items }))?;
-    Ok((part, rest))
+    add(types, Written::Rec(WrittenFields { items }), rest)
 }
 
 #[cycle(reader)]
@@ -209,8 +208,7 @@ fn variant_of<'t, 'a>(
         return Err(ReadError::Refused);
     }
     let (items, rest) = cases_of(alloc, depth, tokens.len(), types, rest_of(tokens))?;
-    let part = add(types, Written::Var(WrittenFields { items }))?;
-    Ok((part, rest))
+    add(types, Written::Var(WrittenFields { items }), rest)
 }
 
 // The fields of a record, behind its brace.
@@ -426,15 +424,12 @@ fn function_of<'t, 'a>(
     let (notes, rest) = notes_of(alloc, rest)?;
     let args = Parts { items: args };
     let results = Parts { items: results };
-    let part = add(
-        types,
-        Written::Func {
-            args,
-            results,
-            notes,
-        },
-    )?;
-    Ok((part, rest))
+    let written = Written::Func {
+        args,
+        results,
+        notes,
+    };
+    add(types, written, rest)
 }
 
 /// A service behind its word: methods whose types have so many levels.
@@ -451,8 +446,7 @@ pub(crate) fn service_of<'t, 'a>(
         return Err(ReadError::Refused);
     }
     let (items, rest) = methods_of(alloc, depth, tokens.len(), types, rest_of(tokens))?;
-    let part = add(types, Written::Service(WrittenMethods { items }))?;
-    Ok((part, rest))
+    add(types, Written::Service(WrittenMethods { items }), rest)
 }
 
 // The methods of a service, behind its brace.

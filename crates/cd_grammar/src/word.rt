@@ -5,7 +5,7 @@ ghost use Rattle.cd_grammar.specs.Words.{spelling, word_of, note_of};
 use cd_types::Primitive;
 
 /// A word of the grammar: no definition has such a name.
-#[derive(Clone, Copy, Debug)]
+#[derive(Clone, Copy)]
 pub(crate) enum Word {
     Prim(Primitive),
     Float32,

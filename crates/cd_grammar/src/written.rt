@@ -3,7 +3,7 @@ use ic_principal::{Bytes, Text};
 use std::marker::Model;
 
 /// A type where a part may stand.
-#[derive(Debug, Drop)]
+#[derive(Drop)]
 pub enum Part {
     Prim(Primitive),
     /// `float32` or `float64`
@@ -15,7 +15,7 @@ pub enum Part {
 }
 
 /// A list of parts. Contracts see the list.
-#[derive(Debug, Drop)]
+#[derive(Drop)]
 pub struct Parts {
     pub items: Vec<Part>,
 }
@@ -31,7 +31,7 @@ impl Model for Parts {
 
 /// The fields of a record, or the cases of a variant, in the order in which they are written: ids
 /// and types. Contracts see the list.
-#[derive(Debug, Drop)]
+#[derive(Drop)]
 pub struct WrittenFields {
     pub items: Vec<(u64, Part)>,
 }
@@ -47,7 +47,7 @@ impl Model for WrittenFields {
 
 /// The methods of a service, in the order in which they are written: names and types. Contracts
 /// see the list.
-#[derive(Debug, Drop)]
+#[derive(Drop)]
 pub struct WrittenMethods {
     pub items: Vec<(Text, Part)>,
 }
@@ -62,7 +62,7 @@ impl Model for WrittenMethods {
 }
 
 /// A type with parts, as it is written.
-#[derive(Debug, Drop)]
+#[derive(Drop)]
 pub enum Written {
     Opt(Part),
     /// `vec`
@@ -81,7 +81,7 @@ pub enum Written {
 }
 
 /// The service of a file: the types that it is installed with, and its own.
-#[derive(Debug, Drop)]
+#[derive(Drop)]
 pub struct Main {
     pub tuple: Parts,
     pub service: Part,
@@ -89,7 +89,7 @@ pub struct Main {
 
 /// An interface file: the types with parts that are written in it, each behind its own parts; the
 /// definitions, names and types; and its service, if it has one. Contracts see these.
-#[derive(Debug, Drop)]
+#[derive(Drop)]
 pub struct File {
     pub types: Vec<Written>,
     pub definitions: Vec<(Bytes, Part)>,
