@@ -48,6 +48,10 @@ abbrev pub sum_of : {A : Type 0} → (A → ℕ) → List A → ℕ
 sum_of many [] = 0
 sum_of many (x ∷ xs) = many x + sum_of many xs
 
+-- what stands in front, and how what is behind begins
+with_tail : (front middle tail tokens rest : List Token) → tokens ≡ front ++ rest → rest ≡ middle ++ tail → tokens ≡ (front ++ middle) ++ tail
+with_tail front middle tail tokens rest e f = e ∙ ap (λ ts. front ++ ts) f ∙ sym (append_assoc front middle tail)
+
 pub parts_take : {A : Type 0} (separator end : ℕ) (P : ℕ → Saying A) (step : A → ℕ) (many : A → ℕ) (read : ℕ → Budgeted A) → ((next : ℕ) → Sound (P next) many (read next))
     → (fuel next n : ℕ) (tokens : List Token) (z : List A × ℕ × List Token) → parts_at separator end read step fuel next n tokens ≡ Some z → Consumes (SaysParts (mark separator) (mark end) P step next) (sum_of many) n tokens z
 unfolding parts_at
@@ -64,7 +68,7 @@ parts_take {A} separator end P step many read law (suc fuel) next n tokens z e =
             | inl ended ↦ subst (Consumes (SaysParts (mark separator) (mark end) P step next) (sum_of many) n tokens) (some_is {A = List A × ℕ × List Token} (a.0.0 ∷ [], a.0.1, drop 1 a.0.2) z (rw ended at a.2))
                 (record {
                   front = s.front ++ mark end ∷ [];
-                  parts = s.parts ∙ ap (λ ts. s.front ++ ts) (started end a.0.2 ended) ∙ sym (append_assoc s.front (mark end ∷ []) (drop 1 a.0.2));
+                  parts = with_tail s.front (mark end ∷ []) (drop 1 a.0.2) tokens a.0.2 s.parts (started end a.0.2 ended);
                   said = (s.front, mark end ∷ [], refl, s.said, inl (refl, refl));
                   left = omega (arith, s.left);
                 })
@@ -76,7 +80,7 @@ parts_take {A} separator end P step many read law (suc fuel) next n tokens z e =
                   subst (Consumes (SaysParts (mark separator) (mark end) P step next) (sum_of many) n tokens) (some_is {A = List A × ℕ × List Token} (a.0.0 ∷ b.0.0, b.0.1, b.0.2) z b.2)
                   (record {
                     front = s.front ++ mark separator ∷ t.front;
-                    parts = s.parts ∙ ap (λ ts. s.front ++ ts) (started separator a.0.2 again ∙ ap (λ (ts : List Token). mark separator ∷ ts) t.parts) ∙ sym (append_assoc s.front (mark separator ∷ t.front) b.0.2);
+                    parts = with_tail s.front (mark separator ∷ t.front) b.0.2 tokens a.0.2 s.parts (started separator a.0.2 again ∙ ap (λ (ts : List Token). mark separator ∷ ts) t.parts);
                     said = (s.front, mark separator ∷ t.front, refl, s.said, inr (t.front, refl, t.said));
                     left = omega (arith, s.left, t.left);
                   })
