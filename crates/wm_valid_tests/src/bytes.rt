@@ -1,5 +1,3 @@
-use crate::tables;
-use crate::tables::ExportRow;
 use ic_base::NoMemory;
 use ic_leb::write_u;
 use ic_principal::Bytes;
@@ -28,17 +26,12 @@ pub const MEMORY: Section = (5, b"\x01\x00\x00");
 
 pub const GLOBAL: Section = (6, b"\x01\x7F\x00\x41\x00\x0B");
 
-/// Appends a content behind its length.
-pub fn push_sized(bytes: &mut Vec<u8>, content: &[u8]) -> Result<(), NoMemory> {
-    write_u(content.len() as u128, bytes)?;
-    bytes.extend_from_slice(content)?;
-    Ok(())
-}
-
 fn push_section(bytes: &mut Vec<u8>, section: Section) -> Result<(), NoMemory> {
     let (id, content) = section;
     bytes.push(id)?;
-    push_sized(bytes, content)
+    write_u(content.len() as u128, bytes)?;
+    bytes.extend_from_slice(content)?;
+    Ok(())
 }
 
 fn push_sections(bytes: &mut Vec<u8>, sections: &[Section]) -> Result<(), NoMemory> {
@@ -48,83 +41,38 @@ fn push_sections(bytes: &mut Vec<u8>, sections: &[Section]) -> Result<(), NoMemo
     Ok(())
 }
 
-/// The bytes of a module with these sections, whose ids rise, and one more among them.
+/// The bytes of a module with these sections, one of them between the others.
 pub fn bytes_of(
     alloc: Global,
-    sections: &[Section],
+    before: &[Section],
     section: Section,
+    behind: &[Section],
 ) -> Result<Vec<u8>, NoMemory> {
-    let (id, _) = section;
-    let place = sections.partition_point(|(other, _)| *other < id);
     let mut bytes = Vec::from_slice(alloc, b"\x00asm\x01\x00\x00\x00")?;
-    push_sections(&mut bytes, &sections[..place])?;
+    push_sections(&mut bytes, before)?;
     push_section(&mut bytes, section)?;
-    push_sections(&mut bytes, &sections[place..])?;
+    push_sections(&mut bytes, behind)?;
     Ok(bytes)
 }
 
-/// The code section of a function with so many nested blocks, and one of another body.
-pub fn nested(alloc: Global, blocks: u32, other: &[u8]) -> Result<Vec<u8>, Fail> {
-    let mut code = Vec::from_slice(alloc, b"\x00")?;
-    for _ in 0..blocks {
-        code.extend_from_slice(b"\x02\x40")?;
-    }
-    for _ in 0..blocks {
-        code.push(0x0B)?;
-    }
-    code.push(0x0B)?;
-    let mut content = Vec::from_slice(alloc, b"\x02")?;
-    content.extend_from_slice(other)?;
-    push_sized(&mut content, &code)?;
-    Ok(content)
-}
-
-/// A number, and so many of the item.
-fn repeated(alloc: Global, item: &[u8], count: usize) -> Result<Vec<u8>, NoMemory> {
+/// The bytes as often as they stand there, one behind the other.
+fn repeated(alloc: Global, parts: &[(&[u8], usize)]) -> Result<Vec<u8>, NoMemory> {
     let mut content = Vec::new(alloc);
-    write_u(count as u128, &mut content)?;
-    content.extend_from_slice(&item.repeat(alloc, count)?)?;
-    Ok(content)
-}
-
-/// The code of a function of so many `nop`, behind its size.
-fn code_of(alloc: Global, words: usize) -> Result<Vec<u8>, NoMemory> {
-    let mut content = Vec::new(alloc);
-    write_u((words as u128).wrapping_add(2), &mut content)?;
-    content.push(0x00)?;
-    content.extend_from_slice(&b"\x01".repeat(alloc, words)?)?;
-    content.push(0x0B)?;
-    Ok(content)
-}
-
-/// The bytes of a module with so many functions of so many `nop` each.
-pub fn with_words(alloc: Global, functions: usize, words: usize) -> Result<Vec<u8>, NoMemory> {
-    let kinds = repeated(alloc, b"\x00", functions)?;
-    let codes = repeated(alloc, &code_of(alloc, words)?, functions)?;
-    bytes_of(alloc, &[PROCEDURE, (3, &kinds)], (10, &codes))
-}
-
-fn push_export(content: &mut Vec<u8>, export: &ExportRow) -> Result<(), NoMemory> {
-    let (name, function) = export;
-    push_sized(content, name)?;
-    content.extend_from_slice(&[0, *function])?;
-    Ok(())
-}
-
-/// The export section that exports functions under these names.
-fn exports_of(alloc: Global, exports: &[ExportRow]) -> Result<Vec<u8>, NoMemory> {
-    let mut content = Vec::new(alloc);
-    write_u(exports.len() as u128, &mut content)?;
-    for export in exports {
-        push_export(&mut content, export)?;
+    for (bytes, count) in parts {
+        content.extend_from_slice(&bytes.repeat(alloc, *count)?)?;
     }
     Ok(content)
 }
 
-/// The bytes of a module with six functions and these exports.
-pub fn exporting(alloc: Global, exports: &[ExportRow]) -> Result<Vec<u8>, NoMemory> {
-    let content = exports_of(alloc, exports)?;
-    bytes_of(alloc, tables::six_functions(), (7, &content))
+/// The bytes of a module with functions of type () -> ().
+pub fn large_bytes(
+    alloc: Global,
+    kinds: &[(&[u8], usize)],
+    codes: &[(&[u8], usize)],
+) -> Result<Vec<u8>, NoMemory> {
+    let kinds = repeated(alloc, kinds)?;
+    let codes = repeated(alloc, codes)?;
+    bytes_of(alloc, &[PROCEDURE, (3, &kinds)], (10, &codes), &[])
 }
 
 /// The bytes of the relay module.
