@@ -7,8 +7,6 @@ use Rattle.std.specs.declared.cmp.Ordering.{Ordering}
 use Rattle.std.specs.declared.cmp.Ordering.TheVariants.{Less, Equal, Greater}
 use Rattle.std.specs.Ordering.{nat_cmp, match_ordering}
 use Rattle.std.specs.Cmp.Lexicographic.{slice_cmp}
-use Rattle.std.proofs.lemmas.List.{map_push}
-use Rattle.std.proofs.lemmas.List.Sums.{fold-append}
 use Rattle.ic_behaviour.specs.declared.call.Message.{Message}
 use Rattle.ic_behaviour.specs.declared.call.Answered.{Answered}
 use Rattle.ic_behaviour.specs.declared.env.Env.{Env}
@@ -87,24 +85,6 @@ all-ready env w (slot ∷ slots) ready = (ready.0, all-ready env (settle env w (
 -- what came of a slot is put as the slot's message says
 put-same : (env : Env) (w : Stored) (slot : StoredSlot) (x : Turn) → IsTurn env slot x → put_turn w x ≡ settle env w (slot_of slot)
 put-same env w slot x is = let key = is.key in let handled = is.handled in λ i. put w (key i) (handled i)
-
-pub slot_fits : (env : Env) (w : Stored) (slots front : List StoredSlot) (x : StoredSlot) → AreReady env w slots → length front < length slots → x ≡ get_or slots (length front) x
-    → front ≡ take (length front) slots → IsReady x × ((fold (settle env) w (map slot_of front)).burned + (ran env (slot_of x)).burned ≤ 2 ^ 127 - 1)
-slot_fits env w [] front x ready inside is so_far = absurd (not-suc-le-zero inside)
-slot_fits env w (slot ∷ slots) [] x ready inside is so_far =
-    subst (λ (z : StoredSlot). IsReady z × (w.burned + (ran env (slot_of z)).burned ≤ 2 ^ 127 - 1)) (sym is) (ready.0, ready.1)
-slot_fits env w (slot ∷ slots) (z ∷ front) x ready inside is so_far =
-    let first : z ≡ slot = cc in
-    let rest : front ≡ take (length front) slots = cc in
-    subst (λ (y : StoredSlot). IsReady x × ((fold (settle env) (settle env w (slot_of y)) (map slot_of front)).burned + (ran env (slot_of x)).burned ≤ 2 ^ 127 - 1)) (sym first)
-    (slot_fits env (settle env w (slot_of slot)) slots front x ready.2 (omega (arith, inside)) is rest)
-
--- one slot more was handled
-pub slot_settled : (env : Env) (start before after : Stored) (front : List StoredSlot) (slot : StoredSlot) (x : Turn) → IsTurn env slot x → before ≡ fold (settle env) start (map slot_of front)
-    → after ≡ put_turn before x → after ≡ fold (settle env) start (map slot_of (front ++ slot ∷ []))
-slot_settled env start before after front slot x is so_far put_is =
-    put_is ∙ ap (λ (w : Stored). put_turn w x) so_far ∙ put-same env (fold (settle env) start (map slot_of front)) slot x is
-    ∙ sym (ap (fold (settle env) start) (map_push slot_of front slot) ∙ fold-append (settle env) start (map slot_of front) (slot_of slot ∷ []))
 
 pub turn_fits : (env : Env) (w : Stored) (slots : List StoredSlot) (all front : List Turn) (x : Turn) → AreReady env w slots → AllZip (IsTurn env) slots all
     → length front < length all → x ≡ get_or all (length front) x → front ≡ take (length front) all

@@ -32,8 +32,8 @@ impl Model for Filed {
     ghost invariant = { λ f. (turn : Turn) → f.content ≡ Ok turn → IsTurn f.env f.slot.value turn };
 }
 
-/// Handles the message of a slot.
-pub fn handled(alloc: Global, slot: Slot, env: Env) -> Result<Turn, NoMemory>
+// Handles the message of a slot.
+fn handled(alloc: Global, slot: Slot, env: Env) -> Result<Turn, NoMemory>
     requires ready { IsReady slot }
     requires limit { env.limit ≤ 1000000000000 }
     ensures { IfOk result (IsTurn env slot) }

@@ -5,7 +5,6 @@ ghost use Rattle.ic_state.specs.IsCanister.{IsCanister};
 ghost use Rattle.ic_rounds.specs.Settling.{stored_of, slot_of, settle, AreReady, AreCanisters, IsBack};
 ghost use Rattle.ic_rounds.specs.Turns.{put_turn};
 
-use crate::filed::handled;
 use crate::phase::turns_of;
 use crate::slot::Slot;
 use crate::turn::Turn;
@@ -69,36 +68,9 @@ fn settle(parts: Parts, turn: Turn) -> Result<Parts, NoMemory>
     route(parts, &key, calls, answers)
 }
 
-// One worker handles the messages of slots, one after another. Each canister is put back before the next
-// message is handled.
-fn settled_alone<G: Gate>(
-    alloc: Global,
-    parts: Parts,
-    slots: Vec<Slot>,
-    env: Env,
-    gate: &G,
-) -> Result<Parts, NoMemory>
-    requires few { vec_len slots ≤ 64 }
-    requires ready { AreReady env (stored_of parts) slots.items }
-    requires limit { env.limit ≤ 1000000000000 }
-    requires keep { AreCanisters parts }
-    ensures stored { IfOk result (λ p. stored_of p
-        ≡ fold (settle env) (stored_of parts) (map slot_of slots.items)) }
-    ensures keep { IfOk result AreCanisters }
-{
-    let mut parts = parts;
-    let mut number = 0;
-    for slot in slots {
-        gate.pass(0, number);
-        number += 1;
-        let turn = handled(alloc, slot, env)?;
-        parts = settle(parts, turn)?;
-    }
-    Ok(parts)
-}
-
-// Several workers share them out.
-fn settled_together<R: Threads + Sync, G: Gate + Sync>(
+/// Handles the messages of slots on up to `workers` workers, and puts back their canisters, in the
+/// order of the slots.
+pub fn settled<R: Threads + Sync, G: Gate + Sync>(
     alloc: Global,
     rt: &R,
     parts: Parts,
@@ -122,31 +94,4 @@ fn settled_together<R: Threads + Sync, G: Gate + Sync>(
         parts = settle(parts, turn)?;
     }
     Ok(parts)
-}
-
-/// Handles the messages of slots on up to `workers` workers, and puts back their canisters, in the
-/// order of the slots.
-pub fn settled<R: Threads + Sync, G: Gate + Sync>(
-    alloc: Global,
-    rt: &R,
-    parts: Parts,
-    slots: Vec<Slot>,
-    workers: u32,
-    env: Env,
-    gate: &G,
-) -> Result<Parts, NoMemory>
-    requires workers { (0 < workers) × (workers ≤ 64) }
-    requires few { vec_len slots ≤ 64 }
-    requires ready { AreReady env (stored_of parts) slots.items }
-    requires limit { env.limit ≤ 1000000000000 }
-    requires keep { AreCanisters parts }
-    ensures stored { IfOk result (λ p. stored_of p
-        ≡ fold (settle env) (stored_of parts) (map slot_of slots.items)) }
-    ensures keep { IfOk result AreCanisters }
-{
-    if workers == 1 {
-        settled_alone(alloc, parts, slots, env, gate)
-    } else {
-        settled_together(alloc, rt, parts, slots, workers, env, gate)
-    }
 }

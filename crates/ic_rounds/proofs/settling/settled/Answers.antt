@@ -6,7 +6,7 @@ use Rattle.std.proofs.lemmas.Iterator.Adapters.{YieldsList-from_vec}
 use Rattle.ic_rounds.specs.Settling.{Stored, stored_of}
 use Rattle.ic_rounds.specs.Turns.{put_turn}
 use Rattle.ic_rounds.proofs.Settles.{all-ready, turn_fits, turns_all}
-use Rattle.ic_rounds.proofs.settling.settled_together.Goals as goal
+use Rattle.ic_rounds.proofs.settling.settled.Goals as goal
 
 pub turns_of-requires-clause-ready : goal.turns_of-requires-clause-ready
 turns_of-requires-clause-ready g c κs within = all-ready c.args.env (stored_of c.args.parts) c.args.slots.items c.requires.ready
