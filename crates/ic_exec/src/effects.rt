@@ -153,6 +153,7 @@ pub fn answer_alone(
 }
 
 /// Code returned in the context at that place: its effects are applied.
+#[inline(always)]
 pub fn returned(
     alloc: Global,
     canister: &mut Canister,

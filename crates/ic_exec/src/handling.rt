@@ -81,6 +81,7 @@ fn close_after(
 }
 
 // What was used is paid, and contexts without calls close.
+#[inline(always)]
 fn finish(alloc: Global, canister: &mut Canister, work: Work, price: u64) -> Result<Done, NoMemory>
     requires keeps { IsCanister canister.old }
     ensures done { IfOk result (λ d. done_of canister.new d ≡ finished price (work_of canister.old work)) }
