@@ -101,21 +101,6 @@ def one_round_of_the_program():
     print(f"four times 2^18 calls take {took[2] / took[1]:.2f} times the time", flush=True)
 
 
-def drained_once():
-    for canisters, sizes, turns in [(64, [25_000, 100_000], 3), (1, [25_000], 1)]:
-        for size in sizes:
-            count = -(-size // canisters)
-            whole, without = rounds(canisters, size, ALL, 1, f"{size} 0 {count}"), rounds(canisters, size, 0, 1, f"0 {size} 0")
-            in_turns([whole, without], turns)
-            seconds = whole.best() - without.best()
-            print(
-                f"{size:,} messages to {canisters} canisters drained: {seconds:.2f} s in {count:,} rounds,"
-                f" {1e9 * seconds / size:.0f} ns a message",
-                flush=True,
-            )
-
-
 drained_again()
 one_round()
 one_round_of_the_program()
-drained_once()
