@@ -10,7 +10,7 @@ use crate::contexts::{has_open, is_same, remove_closed};
 use crate::responses::{empty_reply, no_response, trapped_by};
 use ic_base::NoMemory;
 use ic_state::{
-    Answered, AnsweredList, CallId, Canister, Context, Contexts, Phase, Response, Waiter,
+    Answered, AnsweredList, CallId, Canister, Context, Contexts, Origin, Phase, Response, Waiter,
 };
 use std::alloc::Global;
 use wm_semantics::Trap;
@@ -38,12 +38,22 @@ fn response_for(
     }
 }
 
-// Gives an answer.
+// Gives an answer. Room is made first, so that none has to be handed back.
 #[inline(always)]
-fn push(answers: &mut AnsweredList, answer: Answered) -> Result<(), NoMemory>
-    ensures { OnOk result (answers.new ≡ answers.old ++ answer ∷ []) }
+fn push(
+    answers: &mut AnsweredList,
+    origin: &Origin,
+    response: Response,
+    refund: u128,
+) -> Result<(), NoMemory>
+    ensures { OnOk result (answers.new ≡ answers.old ++ record { origin = origin.now; response = response; refund = refund } ∷ []) }
 {
-    answers.items.push(answer)?;
+    answers.items.reserve(1)?;
+    answers.items.push_reserved(Answered {
+        origin: *origin,
+        response,
+        refund,
+    });
     Ok(())
 }
 
@@ -61,14 +71,7 @@ fn reject_one(
         return Ok(());
     }
     let response = response_for(alloc, own, trap, &context.id)?;
-    push(
-        answers,
-        Answered {
-            origin: context.origin,
-            response,
-            refund: context.available,
-        },
-    )
+    push(answers, &context.origin, response, context.available)
 }
 
 // Rejects the contexts that must respond and await no call.
@@ -93,14 +96,7 @@ fn release(alloc: Global, waiters: &[Waiter], answers: &mut AnsweredList) -> Res
 {
     for waiter in waiters {
         let response = empty_reply(alloc)?;
-        push(
-            answers,
-            Answered {
-                origin: waiter.origin,
-                response,
-                refund: waiter.cycles,
-            },
-        )?;
+        push(answers, &waiter.origin, response, waiter.cycles)?;
     }
     Ok(())
 }
