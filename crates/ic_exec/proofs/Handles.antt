@@ -48,23 +48,27 @@ done_with (Ok k) n C g h code has done same = done code has ∙ same
 
 -- ---- a call that is taken
 
-module _ (a d : Canister) (from : Origin) (sender : List ℕ) (cycles place : ℕ) (x : Context) (fresh : find (is_own (id_of from)) a.contexts ≡ None)
-    (made : d ≡ record a { contexts = a.contexts ++ context_of from sender cycles ∷ [] }) (found : position (is_own (id_of from)) d.contexts ≡ Some place) (got : slice_get d.contexts place ≡ Some x) where
-  pub taken_is : x ≡ context_of from sender cycles
-  taken_is =
+module _ (a d : Canister) (from : Origin) (sender : List ℕ) (cycles place : ℕ) (fresh : find (is_own (id_of from)) a.contexts ≡ None)
+    (made : d ≡ record a { contexts = a.contexts ++ context_of from sender cycles ∷ [] }) (found : position (is_own (id_of from)) d.contexts ≡ Some place) where
+  there : slice_get d.contexts place ≡ Some (context_of from sender cycles)
+  there =
       let s = at_place (is_own (id_of from)) d.contexts place found in
       let g = get-split s.1 in
       let f = find-split s.1 in
       let e = ap (λ (b : Canister). find (is_own (id_of from)) b.contexts) made ∙ find-split (at_end (is_own (id_of from)) a.contexts (context_of from sender cycles) fresh (same_id-self (id_of from))) in
       cc
 
-  pub taken_place : position (is_own x.id) d.contexts ≡ Some place
-  taken_place = ap (λ (z : Context). position (is_own z.id) d.contexts) taken_is ∙ found
+  module _ (x : Context) (is : x ≡ context_of from sender cycles) where
+    pub taken_there : slice_get d.contexts place ≡ Some x
+    taken_there = there ∙ ap Some (sym is)
 
-  pub begun : (enters : Enters) (env : Env) (method arg : List ℕ) (entry : Admitted) (w : Work) (code : Code) → w ≡ called enters env (seen d) x.id x method arg code entry
-      → finished env.price w ≡ begin_call enters env (seen a) (context_of from sender cycles) method arg (code, entry)
-  begun enters env method arg entry w code is =
-      ap (finished env.price) (is ∙ (λ i. called enters env (seen (made i)) (taken_is i).id (taken_is i) method arg code entry))
+    pub taken_place : position (is_own x.id) d.contexts ≡ Some place
+    taken_place = ap (λ (z : Context). position (is_own z.id) d.contexts) is ∙ found
+
+    pub begun : (enters : Enters) (env : Env) (method arg : List ℕ) (entry : Admitted) (w : Work) (code : Code) → w ≡ called enters env (seen d) x.id x method arg code entry
+        → finished env.price w ≡ begin_call enters env (seen a) (context_of from sender cycles) method arg (code, entry)
+    begun enters env method arg entry w code w_is =
+        ap (finished env.price) (w_is ∙ (λ i. called enters env (seen (made i)) (is i).id (is i) method arg code entry))
 
 -- ---- a call
 

@@ -12,7 +12,7 @@ ghost use Rattle.ic_exec.specs.Cleanups.{after_cleanup};
 
 use crate::effects::returned;
 use crate::entering::{Entered, attempt};
-use crate::views::{view_in, with_answer};
+use crate::views::{copies_of, view_in, with_answer};
 use crate::work::{Work, silent};
 use ic_base::NoMemory;
 use ic_state::{Callback, Canister, Context, EntryKind, Env, Response};
@@ -63,7 +63,8 @@ fn clean_up(
     let Some((index, argument)) = cleanup else {
         return Ok(0);
     };
-    let view = view_in(alloc, env, canister, context)?;
+    let copies = copies_of(alloc, canister)?;
+    let view = view_in(alloc, env, canister, copies, context);
     let Some(code) = &canister.code else {
         unreachable!();
     };
@@ -108,7 +109,12 @@ pub fn run_callback(
     let _next_call = canister.next_call;
     let target = target_of(&callback, &response);
     let kind = kind_of(&response);
-    let view = with_answer(view_in(alloc, env, canister, context)?, response, refund);
+    let copies = copies_of(alloc, canister)?;
+    let view = with_answer(
+        view_in(alloc, env, canister, copies, context),
+        response,
+        refund,
+    );
     let Some(code) = &canister.code else {
         unreachable!();
     };

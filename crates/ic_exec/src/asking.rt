@@ -13,7 +13,7 @@ ghost use Rattle.ic_exec.specs.Query.{query_of, function_in, query_response, res
 ghost use Rattle.ic_exec.specs.Inspection.{inspection_of, is_accepted};
 
 use crate::entering::{Entered, attempt};
-use crate::views::{view_for, with_call};
+use crate::views::{copies_of, view_for, with_call};
 use ic_base::NoMemory;
 use ic_calls::{no_response, refused, trapped_by};
 use ic_principal::{Bytes, Principal, Text};
@@ -36,7 +36,8 @@ pub fn user_view(
     let method = Text {
         items: String::from_str(alloc, method)?,
     };
-    let view = view_for(alloc, env, canister, sender, 0, false)?;
+    let copies = copies_of(alloc, canister)?;
+    let view = view_for(alloc, env, canister, copies, sender, 0, false);
     Ok(with_call(view, method, arg))
 }
 

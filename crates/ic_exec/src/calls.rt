@@ -12,7 +12,7 @@ ghost use Rattle.ic_exec.specs.Entered.{parts_of};
 
 use crate::effects::{answer_alone, returned};
 use crate::entering::{Entered, attempt};
-use crate::views::{view_in, with_call};
+use crate::views::{copies_of, view_in, with_call};
 use crate::work::{Work, silent};
 use ic_base::NoMemory;
 use ic_principal::{Bytes, Principal, Text};
@@ -61,7 +61,8 @@ pub fn run_call(
     ensures used { IfOk result (λ w. w.used ≤ env.limit) }
 {
     let _next_call = canister.next_call;
-    let view = with_call(view_in(alloc, env, canister, context)?, method, arg);
+    let copies = copies_of(alloc, canister)?;
+    let view = with_call(view_in(alloc, env, canister, copies, context), method, arg);
     let (function, kind, keeps) = parts_of(entry);
     let Some(code) = &canister.code else {
         unreachable!();
@@ -81,7 +82,7 @@ pub fn run_call(
             if keeps {
                 returned(alloc, canister, place, context, effects, used)
             } else {
-                let effects = answer_alone(alloc, canister, context, effects)?;
+                let effects = answer_alone(alloc, canister, *context, effects)?;
                 returned(alloc, canister, place, context, effects, used)
             }
         }

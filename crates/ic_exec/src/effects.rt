@@ -43,7 +43,7 @@ fn message_of(id: Principal, own: &CallId, number: u64, call: OutCall) -> Messag
 }
 
 // The calls that go out, with numbers from this one on.
-fn numbered(
+fn number_all(
     alloc: Global,
     id: Principal,
     own: &CallId,
@@ -64,6 +64,29 @@ fn numbered(
     Ok(messages)
 }
 
+// The same. Most messages send nothing, which is seen where this is called; the id is lent on as a copy, so
+// that else it need not stand in memory.
+#[inline(always)]
+fn numbered(
+    alloc: Global,
+    id: Principal,
+    own: &CallId,
+    next: u64,
+    calls: OutCalls,
+) -> Result<Messages, NoMemory>
+    requires { next + length calls < 2 ^ 64 }
+    ensures { IfOk result (λ messages. messages ≡ numbered id own.now next calls) }
+{
+    if calls.items.is_empty() {
+        calls.items.destroy_empty();
+        return Ok(Messages {
+            items: Vec::new(alloc),
+        });
+    }
+    let copy = *own;
+    number_all(alloc, id, &copy, next, calls)
+}
+
 fn count_of(calls: &OutCalls) -> usize
     ensures { result ≡ length calls.now }
 {
@@ -71,6 +94,7 @@ fn count_of(calls: &OutCalls) -> usize
 }
 
 // The answer that was given, if there is one.
+#[inline(always)]
 fn given_answer(
     alloc: Global,
     to: &Origin,
@@ -78,17 +102,18 @@ fn given_answer(
 ) -> Result<AnsweredList, NoMemory>
     ensures { IfOk result (λ answers. answers ≡ given_answer to.now answer) }
 {
-    let mut answers = AnsweredList {
-        items: Vec::new(alloc),
+    let Some((response, refund)) = answer else {
+        return Ok(AnsweredList {
+            items: Vec::new(alloc),
+        });
     };
-    if let Some((response, refund)) = answer {
-        answers.items.push(Answered {
-            origin: *to,
-            response,
-            refund,
-        })?;
-    }
-    Ok(answers)
+    let mut items = Vec::with_capacity(alloc, 1)?;
+    items.push_reserved(Answered {
+        origin: *to,
+        response,
+        refund,
+    });
+    Ok(AnsweredList { items })
 }
 
 // The context was served.
@@ -129,10 +154,10 @@ fn serve_at(
 pub fn answer_alone(
     alloc: Global,
     canister: &Canister,
-    context: &Context,
+    context: Context,
     effects: Effects,
 ) -> Result<Effects, NoMemory>
-    ensures { IfOk result (λ e. e ≡ answer_alone (seen canister.now) context.now effects) }
+    ensures { IfOk result (λ e. e ≡ answer_alone (seen canister.now) context effects) }
 {
     let Effects {
         answer,

@@ -16,12 +16,14 @@ ghost use Rattle.ic_exec.specs.TrapLeaves.{TrapLeaves};
 use crate::answers::run_callback;
 use crate::calls::{TakenCall, run_call};
 use crate::executed::Executed;
-use crate::work::{Done, Work, silent, untouched};
+use crate::work::{Done, Work, silent};
 use ic_api::entries_are_lawful;
 use ic_base::NoMemory;
 use ic_calls::{
-    add_context, admit, close, context_at, out_of_cycles, refused as refusal_of, take_refund,
+    add_context, admit, call_id_of, close, context_at, out_of_cycles, refused as refusal_of,
+    take_refund,
 };
+use ic_principal::Principal;
 use ic_state::{
     Admitted, Answered, AnsweredList, CallId, Callback, Canister, Context, Env, Message, Messages,
     Origin, Response,
@@ -51,10 +53,12 @@ fn refuse(alloc: Global, origin: Origin, cycles: u128, response: Response) -> Re
 }
 
 // Both lists, one behind the other.
+#[inline(always)]
 fn joined(front: AnsweredList, back: AnsweredList) -> Result<AnsweredList, NoMemory>
     ensures { IfOk result (λ l. l ≡ front ++ back) }
 {
     if front.items.is_empty() {
+        front.items.destroy_empty();
         return Ok(back);
     }
     let mut items = front.items;
@@ -105,6 +109,22 @@ fn finish(alloc: Global, canister: &mut Canister, work: Work, price: u64) -> Res
     })
 }
 
+// The context of a call. It is made anew where code runs in it, since that costs less than to copy the
+// canister's.
+fn context_of(origin: &Origin, sender: &Principal, cycles: u128) -> Context
+    ensures { result ≡ context_of origin.now sender.now cycles }
+{
+    Context {
+        id: call_id_of(origin),
+        origin: *origin,
+        caller: *sender,
+        must_respond: true,
+        deleted: false,
+        available: cycles,
+        outstanding: 0,
+    }
+}
+
 // A call that the canister takes.
 fn begin_call(
     alloc: Global,
@@ -129,7 +149,7 @@ fn begin_call(
         cycles,
     } = call;
     let place = add_context(canister, &origin, &sender, cycles)?;
-    let context = context_at(&canister.contexts, place);
+    let context = context_of(&origin, &sender, cycles);
     let work = run_call(alloc, canister, place, &context, method, arg, entry, env)?;
     finish(alloc, canister, work, env.price)
 }
@@ -275,24 +295,21 @@ pub fn execute(
     ensures burned { IfOk result (λ e. e.burned ≡ min (e.canister.balance + e.burned) (env.price * e.used)) }
 {
     entries_are_lawful();
-    // It is handled where it is handed back, so that it is moved as seldom as can be.
-    let mut executed = untouched(alloc, canister);
-    match handle(alloc, &mut executed.canister, message, env) {
-        Ok(done) => {
-            let Done {
-                calls,
-                answers,
-                used,
-                burned,
-                trapped,
-            } = done;
-            executed.calls = calls;
-            executed.answers = answers;
-            executed.used = used;
-            executed.trapped = trapped;
-            executed.burned = burned;
-            Ok(executed)
-        }
-        Err(e) => Err(e),
-    }
+    let mut canister = canister;
+    let done = handle(alloc, &mut canister, message, env)?;
+    let Done {
+        calls,
+        answers,
+        used,
+        burned,
+        trapped,
+    } = done;
+    Ok(Executed {
+        canister,
+        calls,
+        answers,
+        used,
+        trapped,
+        burned,
+    })
 }

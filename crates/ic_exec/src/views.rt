@@ -42,21 +42,44 @@ fn no_text(alloc: Global) -> Text
     }
 }
 
+/// What code sees of a canister that is copied for it.
+#[derive(Drop)]
+pub struct Copies {
+    pub controllers: Controllers,
+    pub certified: Bytes,
+}
+
+/// Copied apart from the rest of what code sees, which is large.
+pub fn copies_of(alloc: Global, canister: &Canister) -> Result<Copies, NoMemory>
+    ensures controllers { IfOk result (λ c. c.controllers ≡ canister.now.controllers) }
+    ensures certified { IfOk result (λ c. c.certified ≡ canister.now.certified) }
+{
+    Ok(Copies {
+        controllers: copy_of(alloc, &canister.controllers)?,
+        certified: canister.certified.copy()?,
+    })
+}
+
 /// What code sees of the canister: for this caller, with the cycles that may be accepted, and
 /// whether the caller was answered.
 pub fn view_for(
     alloc: Global,
     env: Env,
     canister: &Canister,
+    copies: Copies,
     caller: Principal,
     available: u128,
     responded: bool,
-) -> Result<View, NoMemory>
-    ensures { IfOk result (λ v. v ≡ view_for env (seen canister.now) caller available responded) }
+) -> View
+    requires controllers { copies.controllers ≡ canister.now.controllers }
+    requires certified { copies.certified ≡ canister.now.certified }
+    ensures { result ≡ view_for env (seen canister.now) caller available responded }
 {
-    let controllers = copy_of(alloc, &canister.controllers)?;
-    let certified = canister.certified.copy()?;
-    Ok(View {
+    let Copies {
+        controllers,
+        certified,
+    } = copies;
+    View {
         time: env.time,
         id: canister.id,
         balance: canister.balance,
@@ -73,7 +96,7 @@ pub fn view_for(
         outstanding: canister.outstanding,
         next_call: canister.next_call,
         certified,
-    })
+    }
 }
 
 /// What code sees that runs in a call context.
@@ -81,14 +104,18 @@ pub fn view_in(
     alloc: Global,
     env: Env,
     canister: &Canister,
+    copies: Copies,
     context: &Context,
-) -> Result<View, NoMemory>
-    ensures { IfOk result (λ v. v ≡ view env (seen canister.now) context.now) }
+) -> View
+    requires controllers { copies.controllers ≡ canister.now.controllers }
+    requires certified { copies.certified ≡ canister.now.certified }
+    ensures { result ≡ view env (seen canister.now) context.now }
 {
     view_for(
         alloc,
         env,
         canister,
+        copies,
         context.caller,
         context.available,
         !context.must_respond,

@@ -1,7 +1,6 @@
 ghost use Rattle.std.specs.Prelude.{◌≡◌, [], None};
 
-use crate::executed::Executed;
-use ic_state::{AnsweredList, CallId, Canister, Messages};
+use ic_state::{AnsweredList, CallId, Messages};
 use std::alloc::Global;
 use wm_semantics::Trap;
 
@@ -38,23 +37,5 @@ pub fn silent(alloc: Global, used: u64, trapped: Option<(CallId, Trap)>) -> Work
         },
         used,
         trapped,
-    }
-}
-
-/// The canister, of which nothing came yet.
-pub fn untouched(alloc: Global, canister: Canister) -> Executed
-    ensures { result ≡ record { canister = canister; calls = []; answers = []; used = 0; trapped = None; burned = 0 } }
-{
-    Executed {
-        canister,
-        calls: Messages {
-            items: Vec::new(alloc),
-        },
-        answers: AnsweredList {
-            items: Vec::new(alloc),
-        },
-        used: 0,
-        trapped: None,
-        burned: 0,
     }
 }

@@ -2,33 +2,28 @@ use Rattle.std.proofs.Common.{ap, sym, ◌∙◌, subst}
 use Rattle.std.specs.Option.{IfSome}
 use Rattle.ic_behaviour.specs.Closing.{Handled}
 use Rattle.ic_behaviour.specs.Entry.{enters_by}
-use Rattle.ic_behaviour.specs.Local.{local}
 use Rattle.ic_behaviour.proofs.Weights.{each-map}
 use Rattle.ic_state.specs.declared.canister.Canister.{Canister}
 use Rattle.ic_state.specs.Seen.{seen}
 use Rattle.ic_state.specs.IsCanister.{IsContext}
 use Rattle.ic_api.specs.System.{system_api}
-use Rattle.ic_exec.specs.declared.executed.Executed.{Executed}
 use Rattle.ic_exec.specs.TrapLeaves.{TrapLeaves}
 use Rattle.ic_exec.proofs.Conserves.{Settled, handled_cycles, conserves}
 use Rattle.ic_exec.proofs.Trapped.{Burns, trap_leaves, burns}
 use Rattle.ic_exec.proofs.handling.execute.Goals as goal
 
-pub returns-in-Ok-clause-conserved : goal.returns-in-Ok-clause-conserved
-returns-in-Ok-clause-conserved c =
+pub returns-clause-conserved : goal.returns-clause-conserved
+returns-clause-conserved c =
     let a : Canister = c.args.canister in
-    let done = c.in-Ok.ensures.done ∙ ap (λ (e : Executed). local (enters_by system_api) c.args.env (seen e.canister) c.args.message) c.untouched-executed.ensures in
-    ap handled_cycles done
+    ap handled_cycles c.in_ok-done.ensures.done
     ∙ conserves (enters_by system_api) c.args.env c.entries_are_lawful.ensures (seen a) (each-map IsContext Settled (λ x h. h.answered) a.contexts c.requires.keeps.contexts) c.args.message c.requires.expected
 
-pub returns-in-Ok-clause-trapped : goal.returns-in-Ok-clause-trapped
-returns-in-Ok-clause-trapped c =
+pub returns-clause-trapped : goal.returns-clause-trapped
+returns-clause-trapped c =
     let a : Canister = c.args.canister in
-    let done = c.in-Ok.ensures.done ∙ ap (λ (e : Executed). local (enters_by system_api) c.args.env (seen e.canister) c.args.message) c.untouched-executed.ensures in
-    subst (λ (h : Handled). IfSome h.trapped (λ cause. TrapLeaves (seen a) c.args.message cause h)) (sym done) (trap_leaves (enters_by system_api) c.args.env (seen a) c.args.message)
+    subst (λ (h : Handled). IfSome h.trapped (λ cause. TrapLeaves (seen a) c.args.message cause h)) (sym c.in_ok-done.ensures.done) (trap_leaves (enters_by system_api) c.args.env (seen a) c.args.message)
 
-pub returns-in-Ok-clause-burned : goal.returns-in-Ok-clause-burned
-returns-in-Ok-clause-burned c =
+pub returns-clause-burned : goal.returns-clause-burned
+returns-clause-burned c =
     let a : Canister = c.args.canister in
-    let done = c.in-Ok.ensures.done ∙ ap (λ (e : Executed). local (enters_by system_api) c.args.env (seen e.canister) c.args.message) c.untouched-executed.ensures in
-    subst (Burns c.args.env.price) (sym done) (burns (enters_by system_api) c.args.env (seen a) c.args.message)
+    subst (Burns c.args.env.price) (sym c.in_ok-done.ensures.done) (burns (enters_by system_api) c.args.env (seen a) c.args.message)

@@ -1,6 +1,6 @@
 use Rattle.std.proofs.Common.{rules, sym, ◌∙◌}
 use Rattle.ic_exec.proofs.Numbers.{next_fits, next_numbered, all_numbered}
-use Rattle.ic_exec.proofs.effects.numbered.Goals as goal
+use Rattle.ic_exec.proofs.effects.number_all.Goals as goal
 
 pub loop-call-init : goal.loop-call-init
 loop-call-init c = record {
