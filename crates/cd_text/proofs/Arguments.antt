@@ -28,7 +28,7 @@ use Rattle.cd_text.specs.Said.{SaysParts, Says}
 use Rattle.cd_text.specs.ReadText.{values_of}
 use Rattle.cd_text.specs.Whole.{SaysArgument, Said}
 use Rattle.cd_text.specs.Placed.{placed}
-use Rattle.cd_text.specs.ReadPlain.{is_mark, starts}
+use Rattle.cd_plain.specs.ReadPlain.{is_mark, starts}
 use Rattle.cd_text.specs.ReadSaid.{then_make, annotated_at, after_field, parts_at, value_at, argument_at, all_said, arguments_at}
 use Rattle.cd_text.proofs.Parts.{true_or_false, is_equal, Consumes, Sound, Complete, started, sum_of, parts_take, parts_again}
 use Rattle.cd_text.proofs.Values.{both, Good, IsGood, fields_distinct, number_field, annotated_takes, value_takes}

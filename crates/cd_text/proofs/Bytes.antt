@@ -11,10 +11,10 @@ use Rattle.cd_codec.specs.Content.{Content, contents_of, parts_of}
 use Rattle.cd_codec.specs.Measure.{nesting_each, number_each}
 use Rattle.cd_codec.specs.View.{view, views, views_of_fields}
 use Rattle.cd_text.specs.HoldsBytes.{HoldsBytes, HoldsBytesAll, HoldsBytesParts}
-use Rattle.cd_text.specs.Printed.{printed}
+use Rattle.cd_plain.specs.Printed.{printed}
 use Rattle.cd_text.specs.Whole.{Said}
 use Rattle.cd_text.proofs.Written.{printed_says}
-use Rattle.cd_text.proofs.Pieces.{seen_more}
+use Rattle.cd_plain.proofs.Pieces.{seen_more}
 
 values_push : (vs : List Content) (v : Content) → HoldsBytesAll (contents_of vs) → HoldsBytes v → HoldsBytesAll (contents_of (vs ++ v ∷ []))
 values_push [] v all one = (one, tt)

@@ -5,8 +5,8 @@ use Rattle.ic_base.specs.declared.read_error.ReadError.{ReadError}
 use Rattle.ic_base.specs.declared.read_error.ReadError.TheVariants.{NoMemory, Refused}
 use Rattle.ic_base.specs.Gives.{Fails}
 use Rattle.cd_tokens.specs.Token.{Token}
-use Rattle.cd_text.specs.ReadPlain.{is_mark, starts}
-use Rattle.cd_text.specs.ReadSaid.{Budgeted, then_make, parts_at}
+use Rattle.cd_plain.specs.ReadPlain.{is_mark, starts, Budgeted}
+use Rattle.cd_text.specs.ReadSaid.{then_make, parts_at}
 
 -- what was read before, and what is still read
 abbrev pub with_front : {A : Type 0} → List A → Option (List A × ℕ × List Token) → Option (List A × ℕ × List Token)

@@ -5,8 +5,8 @@ use Rattle.ic_base.specs.Reader.{◌>>=◌}
 use Rattle.ic_base.proofs.Steps.{bind_some, some_is}
 use Rattle.cd_tokens.specs.Token.{Token, run, quoted, mark, arrow}
 use Rattle.cd_text.specs.Said.{Saying, SaysParts}
-use Rattle.cd_text.specs.ReadPlain.{is_mark, starts}
-use Rattle.cd_text.specs.ReadSaid.{Budgeted, then_make, behind_at, parts_at}
+use Rattle.cd_plain.specs.ReadPlain.{is_mark, starts, Budgeted}
+use Rattle.cd_text.specs.ReadSaid.{then_make, behind_at, parts_at}
 
 pub true_or_false : (b : Bool) → (b ≡ true) ⊎ (b ≡ false)
 true_or_false true = inl refl

@@ -10,7 +10,7 @@ use Rattle.cd_tokens.specs.Lexed.{IsTokens}
 use Rattle.cd_tokens.specs.Token.{Token, run, quoted, mark, begins_run, is_run, is_closed}
 use Rattle.cd_tokens.proofs.Labels.{words_are_ascii}
 use Rattle.cd_tokens.proofs.Streams.{gap_before}
-use Rattle.cd_text.specs.Printed.{joined, braced}
+use Rattle.cd_plain.specs.Printed.{joined, braced}
 use Rattle.cd_text.specs.Said.{Saying, SaysParts, InBraces}
 use Rattle.cd_text.proofs.Escapes.{ascii_before}
 use Rattle.cd_text.proofs.Values.{both}

@@ -32,10 +32,10 @@ use Rattle.cd_tokens.specs.Lexed.{IsTokens}
 use Rattle.cd_tokens.specs.ReadNumeral.{is_between}
 use Rattle.cd_tokens.specs.Token.{Token, run, quoted, mark, is_run}
 use Rattle.cd_text.specs.HoldsBytes.{HoldsBytes, HoldsBytesAll, HoldsBytesParts, NamesPrincipal}
-use Rattle.cd_text.specs.Printed.{hex_escape, escape, joined, braced, labelled as labelled_text, plain_text, value_text, item_texts, field_texts, argument_texts, printed}
+use Rattle.cd_plain.specs.Printed.{hex_escape, escape, joined, braced, labelled as labelled_text, plain_text, value_text, item_texts, field_texts, argument_texts, printed}
 use Rattle.cd_text.specs.Said.{Annotated, bare, SaysParts, no_place, type_of, SaysField, labelled, value_of, is_absent, are_distinct, filled, place_of, valued, SaysShape, Says}
 use Rattle.cd_text.specs.SaysPlain.{SaysNatural, SaysInteger, SaysPrincipal, SaysFunc, IsPrincipalText}
-use Rattle.cd_text.specs.Types.{inner_of, item_of, fields_of, nth_field, nth_type}
+use Rattle.cd_plain.specs.Types.{inner_of, item_of, fields_of, nth_field, nth_type}
 use Rattle.cd_text.specs.Whole.{SaysArgument, Said}
 use Rattle.cd_text.specs.Placed.{placed}
 use Rattle.cd_text.proofs.Arguments.{placed_values, placed_count}

@@ -1,11 +1,7 @@
-pub mod Types
-pub mod Printed
-pub mod Pieces
 pub mod Words
 pub mod SaysPlain
 pub mod Said
 pub mod Whole
-pub mod ReadPlain
 pub mod ReadSaid
 pub mod Placed
 pub mod ReadsText

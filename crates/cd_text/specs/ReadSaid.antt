@@ -12,25 +12,16 @@ use Rattle.cd_codec.specs.Content.{Content, plain, null, func, service, blob, no
 use Rattle.cd_codec.specs.Wire.{is_nat8}
 use Rattle.cd_tokens.specs.Token.{Token}
 use Rattle.cd_tokens.specs.ReadLabel.{label_of}
-use Rattle.cd_tokens.specs.ReadString.{unescaped_of}
 use Rattle.std.specs.Option.{option_or}
 use Rattle.cd_codec.specs.declared.value.Value.{Value}
 use Rattle.cd_codec.specs.View.{view}
 use Rattle.cd_text.specs.Words.{name_of}
 use Rattle.cd_text.specs.Said.{type_of, value_of, is_absent, left_out, filled, place_of}
-use Rattle.cd_text.specs.ReadPlain.{Taking, is_word, is_mark, starts, string_says, first_at, behind_word, natural_at, principal_text_at, func_at, primitive_at}
-
--- what reads a value: of the number of values allowed and the tokens, the value and what is left of both
-abbrev pub Budgeted : Type 0 → Type 0
-Budgeted A = ℕ → List Token → Option (A × ℕ × List Token)
+use Rattle.cd_plain.specs.ReadPlain.{is_word, is_mark, starts, behind_word, natural_at, string_at, principal_text_at, func_at, primitive_at, Budgeted, alone}
 
 -- what f makes of the value
 abbrev pub then_make : {A B : Type 0} → (A → B) → Option (A × ℕ × List Token) → Option (B × ℕ × List Token)
 then_make f read = read >>= λ x. Some (f x.0, x.1, x.2)
-
--- a value that is read without parts
-abbrev pub alone : {A : Type 0} → (A → Content) → Taking A → Budgeted Content
-alone f read left tokens = read tokens >>= λ x. Some (f x.0, left, x.1)
 
 -- behind the annotation, where one stands
 abbrev pub past_name : Primitive → List Token → Option (List Token)
@@ -98,10 +89,7 @@ byte_at item (suc depth) left tokens =
     if starts (is_mark 40) tokens then parenthesized_at item (byte_at item depth) left tokens
     else (natural_at (2 ^ 8) tokens >>= λ x. Some (x.0, left, x.1))
 
--- blob and a string
-unfoldable pub string_at : Taking (List ℕ)
-string_at = first_at (string_says unescaped_of)
-
+-- blob and a string, or numbers in braces
 abbrev pub blob_at : TyRef → ℕ → Budgeted Content
 blob_at item depth left tokens =
     if starts (is_word (codes "blob")) tokens then alone blob string_at left (drop 1 tokens)

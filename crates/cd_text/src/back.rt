@@ -9,9 +9,9 @@ ghost use Rattle.cd_codec.specs.View.{view, views, views_of_fields};
 ghost use Rattle.cd_text.specs.HoldsBytes.{HoldsBytes, HoldsBytesAll, HoldsBytesParts};
 
 use crate::fault::TextFault;
-use crate::printing::print;
 use crate::whole::read;
 use cd_codec::{Expected, Value, Values};
+use cd_plain::print;
 use ic_base::NoMemory;
 use ic_principal::Principal;
 use std::alloc::{AllocError, Global};

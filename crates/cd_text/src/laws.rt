@@ -8,7 +8,7 @@ ghost use Rattle.cd_codec.specs.AreValues.{HasTypes};
 ghost use Rattle.cd_codec.specs.Content.{Content, contents_of};
 ghost use Rattle.cd_codec.specs.Measure.{nesting_each, number_each};
 ghost use Rattle.cd_text.specs.HoldsBytes.{HoldsBytesAll};
-ghost use Rattle.cd_text.specs.Printed.{printed};
+ghost use Rattle.cd_plain.specs.Printed.{printed};
 ghost use Rattle.cd_text.specs.ReadText.{values_of};
 ghost use Rattle.cd_text.specs.Whole.{Said};
 

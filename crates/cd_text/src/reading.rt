@@ -7,13 +7,15 @@ ghost use Rattle.cd_codec.specs.View.{view, views, views_of_fields};
 ghost use Rattle.cd_tokens.specs.Token as token;
 ghost use Rattle.cd_tokens.specs.View.{token_views};
 ghost use Rattle.cd_text.specs.Words.{name_of};
-ghost use Rattle.cd_text.specs.ReadPlain.{is_mark, is_word, starts, behind_word, principal_text_at};
-ghost use Rattle.cd_text.specs.ReadSaid.{alone, past_annotation, annotated_at, braces_at, item_at, no_place_of, after_field, opt_at, list_at, byte_at, blob_at, typed_at, field_at, record_at, case_at, null_at, variant_ended, chosen_at, labelled_at, variant_at, entry_at, value_at};
+ghost use Rattle.cd_plain.specs.ReadPlain.{is_mark, is_word, starts, behind_word, principal_text_at, alone};
+ghost use Rattle.cd_text.specs.ReadSaid.{past_annotation, annotated_at, braces_at, item_at, no_place_of, after_field, opt_at, list_at, byte_at, blob_at, typed_at, field_at, record_at, case_at, null_at, variant_ended, chosen_at, labelled_at, variant_at, entry_at, value_at};
 
 use crate::fields::{find, record_made};
-use crate::plain_reader::{func_of, natural_below, primitive_of, principal_behind, string_of};
-use crate::tokens::{rest_of, starts_mark, starts_word};
 use cd_codec::Value;
+use cd_plain::{
+    func_of, natural_below, primitive_of, principal_behind, rest_of, starts_mark, starts_word,
+    string_of,
+};
 use cd_tokens::{Token, label_of};
 use cd_types::{Entry, Prim, TyRef, TypeTable};
 use ic_base::ReadError;

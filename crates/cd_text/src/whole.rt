@@ -14,8 +14,8 @@ ghost use Rattle.cd_text.specs.Whole.{Said};
 
 use crate::fault::TextFault;
 use crate::reading::annotated_of;
-use crate::tokens::{rest_of, starts_mark};
 use cd_codec::{Expected, Value, Values};
+use cd_plain::{rest_of, starts_mark};
 use cd_tokens::{Token, tokens_of};
 use cd_types::{TyRef, TypeTable};
 use ic_base::ReadError;

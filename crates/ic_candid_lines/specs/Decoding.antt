@@ -9,7 +9,7 @@ use Rattle.cd_codec.specs.ReadHeader.{header_at}
 use Rattle.cd_coerce.specs.declared.fault.DidlFault.{DidlFault}
 use Rattle.cd_coerce.specs.declared.fault.DidlFault.TheVariants.{NotHeader, Float, NotSubtype, BadValue, NoMemory}
 use Rattle.cd_coerce.specs.Decoded.{decoded}
-use Rattle.cd_text.specs.Printed.{printed}
+use Rattle.cd_plain.specs.Printed.{printed}
 
 -- what ends a printed line
 abbrev pub newline : List ℕ

@@ -6,7 +6,7 @@ ghost use Rattle.ic_candid_lines.specs.Decoding.{types_of, refused_text, decoded
 
 use cd_codec::{HeaderFault, Values, encode, read_header};
 use cd_coerce::{DidlFault, Expected, decode};
-use cd_text::print;
+use cd_plain::print;
 use ic_base::NoMemory;
 use ic_principal::Bytes;
 use std::alloc::{AllocError, Global};

@@ -5,7 +5,7 @@ use Rattle.cd_types.specs.IsOrdered.{is_ordered}
 use Rattle.cd_types.proofs.EntryLemmas.{entry_ordered}
 use Rattle.cd_codec.specs.View.{view, views, views_of_fields}
 use Rattle.cd_codec.proofs.Views.{view-Null}
-use Rattle.cd_text.specs.ReadPlain.{is_mark, starts}
+use Rattle.cd_plain.specs.ReadPlain.{is_mark, starts}
 use Rattle.cd_text.specs.Said.{type_of, place_of}
 use Rattle.cd_text.proofs.Narrow.{entry_value, not_ended, has_ended}
 use Rattle.cd_tokens.specs.View.{token_views}

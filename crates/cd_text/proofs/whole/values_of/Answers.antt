@@ -3,7 +3,7 @@ use Rattle.std.proofs.lemmas.List.{length-map}
 use Rattle.std.proofs.lemmas.Result.{err_from_is_err_and}
 use Rattle.cd_codec.specs.View.{view, views}
 use Rattle.cd_tokens.specs.View.{token_view, token_views}
-use Rattle.cd_text.specs.ReadPlain.{is_mark, starts}
+use Rattle.cd_plain.specs.ReadPlain.{is_mark, starts}
 use Rattle.cd_text.proofs.Arguments.{answers_all, answers_none, fails_here, no_paren}
 use Rattle.cd_text.proofs.whole.values_of.Goals as goal
 

@@ -1,6 +1,6 @@
-use Rattle.cd_text.specs.Printed.{value_text}
-use Rattle.cd_text.proofs.Pieces.{no_field, item_seen, items_seen, field_seen, fields_seen, list_text, case_text}
-use Rattle.cd_text.proofs.printing.+printer.Goals as goal
+use Rattle.cd_plain.specs.Printed.{value_text}
+use Rattle.cd_plain.proofs.Pieces.{no_field, item_seen, items_seen, field_seen, fields_seen, list_text, case_text}
+use Rattle.cd_plain.proofs.printing.+printer.Goals as goal
 
 pub write_value-returns-in-Seq : goal.write_value-returns-in-Seq
 write_value-returns-in-Seq t c = rw (list_text c.args.table.now c.args.ty c.args.value.now c.in-Seq.values.items _ c.item_of.result c.in-Seq.is c.deref-in-Seq.ensures.value c.item_of.ensures) c.write_list.ensures

@@ -4,10 +4,11 @@ use Rattle.ic_base.specs.Reader.{◌>>=◌}
 use Rattle.ic_principal.specs.Text.{principal_of}
 use Rattle.cd_types.specs.declared.primitive.Primitive.{Primitive}
 use Rattle.cd_types.specs.declared.primitive.Primitive.TheVariants as primitives
-use Rattle.cd_codec.specs.Content.{Plain, null, bool, nat, int, nat8, nat16, nat32, nat64, int8, int16, int32, int64, text, reserved, principal}
+use Rattle.cd_codec.specs.Content.{Content, Plain, null, bool, nat, int, nat8, nat16, nat32, nat64, int8, int16, int32, int64, text, reserved, principal}
 use Rattle.cd_tokens.specs.Token.{Token, run, quoted, mark, arrow}
 use Rattle.cd_tokens.specs.ReadNumeral.{natural_of, integer_of, below, between}
 use Rattle.cd_tokens.specs.ReadLabel.{text_of, name_of}
+use Rattle.cd_tokens.specs.ReadString.{unescaped_of}
 
 -- what reads a value of the front of the tokens
 abbrev pub Taking : Type 0 → Type 0
@@ -109,3 +110,15 @@ primitive_at primitives.Int64 = taken int64 (integer_at (2 ^ 63))
 primitive_at primitives.Text = taken text text_at
 primitive_at primitives.Principal = taken principal (behind_word (codes "principal") principal_text_at)
 primitive_at primitives.Empty = λ tokens. None
+
+-- the bytes of a string
+unfoldable pub string_at : Taking (List ℕ)
+string_at = first_at (string_says unescaped_of)
+
+-- what reads a value: of the number of values allowed and the tokens, the value and what is left of both
+abbrev pub Budgeted : Type 0 → Type 0
+Budgeted A = ℕ → List Token → Option (A × ℕ × List Token)
+
+-- a value that is read without parts
+abbrev pub alone : {A : Type 0} → (A → Content) → Taking A → Budgeted Content
+alone f read left tokens = read tokens >>= λ x. Some (f x.0, left, x.1)

@@ -1,8 +1,8 @@
 ghost use Rattle.std.specs.Prelude.{◌≡◌, ◌++◌, ◌∷◌, [], map, OnOk, IfOk, codes};
-ghost use Rattle.cd_text.specs.Pieces.{before, end_of_braces};
+ghost use Rattle.cd_plain.specs.Pieces.{before, end_of_braces};
 ghost use Rattle.cd_codec.specs.View.{view, views, views_of_fields};
 ghost use Rattle.cd_codec.specs.Content.{parts_of};
-ghost use Rattle.cd_text.specs.Printed.{value_text, field_texts, joined, braced, labelled, argument_texts, printed};
+ghost use Rattle.cd_plain.specs.Printed.{value_text, field_texts, joined, braced, labelled, argument_texts, printed};
 
 use crate::plain_writer::{
     write_blob, write_bool, write_integer, write_method, write_natural, write_principal, write_text,

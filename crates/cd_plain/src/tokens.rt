@@ -1,11 +1,11 @@
 ghost use Rattle.std.specs.Prelude.{◌≡◌, drop};
 ghost use Rattle.cd_tokens.specs.View.{token_views};
-ghost use Rattle.cd_text.specs.ReadPlain.{is_mark, is_word, starts};
+ghost use Rattle.cd_plain.specs.ReadPlain.{is_mark, is_word, starts};
 
 use cd_tokens::Token;
 
 /// Whether the mark stands first.
-pub(crate) fn starts_mark(tokens: &[Token<'_>], mark: u8) -> bool
+pub fn starts_mark(tokens: &[Token<'_>], mark: u8) -> bool
     ensures { result ≡ starts (is_mark mark) (token_views tokens.now) }
 {
     match tokens {
@@ -20,7 +20,7 @@ pub(crate) fn starts_mark(tokens: &[Token<'_>], mark: u8) -> bool
 }
 
 /// Whether the word stands first.
-pub(crate) fn starts_word(tokens: &[Token<'_>], word: &[u8]) -> bool
+pub fn starts_word(tokens: &[Token<'_>], word: &[u8]) -> bool
     ensures { result ≡ starts (is_word word.now) (token_views tokens.now) }
 {
     match tokens {
@@ -35,7 +35,7 @@ pub(crate) fn starts_word(tokens: &[Token<'_>], word: &[u8]) -> bool
 }
 
 /// The tokens behind the first.
-pub(crate) fn rest_of<'t, 'a>(tokens: &'t [Token<'a>]) -> &'t [Token<'a>]
+pub fn rest_of<'t, 'a>(tokens: &'t [Token<'a>]) -> &'t [Token<'a>]
     ensures { token_views result.now ≡ drop 1 (token_views tokens.now) }
 {
     match tokens {

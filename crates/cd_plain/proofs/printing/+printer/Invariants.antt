@@ -1,9 +1,9 @@
 use Rattle.std.proofs.Common.{◌≡◌, ◌++◌, take, codes, map}
 use Rattle.cd_codec.specs.Content.{parts_of}
 use Rattle.cd_codec.specs.View.{views, views_of_fields}
-use Rattle.cd_text.specs.Pieces.{pieces}
-use Rattle.cd_text.specs.Printed.{value_text, field_texts}
-use Rattle.cd_text.proofs.printing.+printer.Given as goal
+use Rattle.cd_plain.specs.Pieces.{pieces}
+use Rattle.cd_plain.specs.Printed.{value_text, field_texts}
+use Rattle.cd_plain.proofs.printing.+printer.Given as goal
 
 abbrev pub invariant-write_items-loop-place : goal.invariant-write_items-loop-place
 invariant-write_items-loop-place l = l.out.items ≡ l.fn.out.items ++ pieces (codes "{ ") (codes "; ") 0 (map (value_text l.table l.item) (views (take l.place l.values)))

@@ -8,7 +8,7 @@ use Rattle.cd_types.specs.declared.entry.TyRef.{TyRef}
 use Rattle.cd_types.specs.declared.entry.Entry.{Entry}
 use Rattle.cd_types.specs.Shape.{shape}
 use Rattle.cd_codec.specs.Content.{Content, Plain, null, bool, nat, int, nat8, nat16, nat32, nat64, int8, int16, int32, int64, text, reserved, func, service, principal, plain, blob, none, some, list, record_of, variant, Contents, no_content, content, Parts, no_part, part}
-use Rattle.cd_text.specs.Types.{inner_of, item_of, fields_of, nth_field, nth_type}
+use Rattle.cd_plain.specs.Types.{inner_of, item_of, fields_of, nth_field, nth_type}
 
 -- a byte by two lower hex digits behind a backslash
 abbrev pub hex_escape : ℕ → List ℕ

@@ -3,7 +3,7 @@ ghost use Rattle.std.specs.Char.{digit_char};
 ghost use Rattle.std.specs.Fmt.{decimal, signed_decimal};
 ghost use Rattle.std.specs.List.{flat_map};
 ghost use Rattle.ic_principal.specs.Text.{text_of as principal_text};
-ghost use Rattle.cd_text.specs.Printed.{hex_escape, escape, quoted, bool_text};
+ghost use Rattle.cd_plain.specs.Printed.{hex_escape, escape, quoted, bool_text};
 
 use ic_base::NoMemory;
 use ic_principal::{Principal, Text};

@@ -5,8 +5,7 @@ ghost use Rattle.cd_codec.specs.Content.{plain, func};
 ghost use Rattle.cd_codec.specs.View.{view};
 ghost use Rattle.cd_tokens.specs.ReadNumeral.{is_between};
 ghost use Rattle.cd_tokens.specs.View.{token_views};
-ghost use Rattle.cd_text.specs.ReadPlain.{first_at, word_at, principal_said, behind_word, natural_at, integer_at, text_at, principal_text_at, bool_at, func_at, method_at, primitive_at};
-ghost use Rattle.cd_text.specs.ReadSaid.{alone, string_at};
+ghost use Rattle.cd_plain.specs.ReadPlain.{first_at, word_at, principal_said, behind_word, natural_at, integer_at, text_at, principal_text_at, bool_at, func_at, method_at, primitive_at, alone, string_at};
 
 use crate::tokens::{rest_of, starts_mark, starts_word};
 use cd_codec::Value;
@@ -36,7 +35,7 @@ fn any_natural<'t, 'a>(tokens: &'t [Token<'a>]) -> Result<(u128, &'t [Token<'a>]
 
 /// A natural number below the limit.
 #[tactic(auto, using(crate::proofs::Narrow::narrower, crate::proofs::Narrow::too_large, crate::proofs::Narrow::no_number))]
-pub(crate) fn natural_below<'t, 'a>(
+pub fn natural_below<'t, 'a>(
     tokens: &'t [Token<'a>],
     limit: u128,
 ) -> Result<(u128, &'t [Token<'a>]), ReadError>
@@ -80,8 +79,8 @@ fn integer_within<'t, 'a>(
 }
 
 /// The bytes of a string.
-#[tactic(auto, unfolding(crate::specs::ReadSaid::string_at))]
-pub(crate) fn string_of<'t, 'a>(
+#[tactic(auto, unfolding(crate::specs::ReadPlain::string_at))]
+pub fn string_of<'t, 'a>(
     alloc: Global,
     tokens: &'t [Token<'a>],
 ) -> Result<(Vec<u8>, &'t [Token<'a>]), ReadError>
@@ -149,7 +148,7 @@ fn principal_at(alloc: Global, tokens: &[Token<'_>]) -> Result<Principal, ReadEr
 }
 
 /// A word, and the text of a principal.
-pub(crate) fn principal_behind(
+pub fn principal_behind(
     alloc: Global,
     word: &[u8],
     tokens: &[Token<'_>],
@@ -193,7 +192,7 @@ fn method_at<'t, 'a>(
 
 /// A method of a service.
 #[tactic(auto, using(cd_codec::proofs::Views::layers), unfolding(crate::specs::ReadPlain::func_at))]
-pub(crate) fn func_of<'t, 'a>(
+pub fn func_of<'t, 'a>(
     alloc: Global,
     left: u32,
     tokens: &'t [Token<'a>],
@@ -237,7 +236,7 @@ fn null_of<'t, 'a>(tokens: &'t [Token<'a>]) -> Result<&'t [Token<'a>], ReadError
 
 /// A value of a primitive type. `left` is answered as it is.
 #[tactic(auto, using(cd_codec::proofs::Views::layers), unfolding(crate::specs::ReadPlain::primitive_at))]
-pub(crate) fn primitive_of<'t, 'a>(
+pub fn primitive_of<'t, 'a>(
     alloc: Global,
     prim: Prim,
     left: u32,

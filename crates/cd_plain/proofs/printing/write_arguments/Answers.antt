@@ -1,5 +1,5 @@
-use Rattle.cd_text.proofs.Pieces.{argument_seen, arguments_seen}
-use Rattle.cd_text.proofs.printing.write_arguments.Goals as goal
+use Rattle.cd_plain.proofs.Pieces.{argument_seen, arguments_seen}
+use Rattle.cd_plain.proofs.printing.write_arguments.Goals as goal
 
 pub loop-place-preserved : goal.loop-place-preserved
 loop-place-preserved c =

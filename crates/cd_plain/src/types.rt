@@ -1,6 +1,6 @@
 ghost use Rattle.std.specs.Prelude.{◌≡◌};
 ghost use Rattle.cd_types.specs.Shape.{shape};
-ghost use Rattle.cd_text.specs.Types.{inner_of, item_of, fields_of, nth_field, nth_type};
+ghost use Rattle.cd_plain.specs.Types.{inner_of, item_of, fields_of, nth_field, nth_type};
 
 use cd_types::{Entry, Prim, TyRef, TypeTable};
 

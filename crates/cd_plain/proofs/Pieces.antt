@@ -15,9 +15,9 @@ use Rattle.cd_codec.specs.declared.value.FieldValues.{roll-FieldValues}
 use Rattle.cd_codec.specs.Content.{Content, contents_of, parts_of}
 use Rattle.cd_codec.specs.View.{view, views, views_of_fields}
 use Rattle.cd_codec.proofs.Views.{view-Some, view-Var, view-Seq, view-Rec}
-use Rattle.cd_text.specs.Types.{inner_of, item_of, fields_of, nth_field, nth_type}
-use Rattle.cd_text.specs.Pieces.{before, pieces, end_of_braces}
-use Rattle.cd_text.specs.Printed.{joined, braced, labelled, value_text, item_texts, field_texts, argument_texts}
+use Rattle.cd_plain.specs.Types.{inner_of, item_of, fields_of, nth_field, nth_type}
+use Rattle.cd_plain.specs.Pieces.{before, pieces, end_of_braces}
+use Rattle.cd_plain.specs.Printed.{joined, braced, labelled, value_text, item_texts, field_texts, argument_texts}
 
 -- one piece is appended, and then another
 two_pieces : (old middle new first second whole : List ℕ) → middle ≡ old ++ first → new ≡ middle ++ second → first ++ second ≡ whole → new ≡ old ++ whole

@@ -1,0 +1,4 @@
+pub mod Types
+pub mod Printed
+pub mod Pieces
+pub mod ReadPlain
