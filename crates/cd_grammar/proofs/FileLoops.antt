@@ -4,10 +4,13 @@ use Rattle.std.proofs.lemmas.List.{append-nil}
 use Rattle.ic_base.specs.declared.read_error.ReadError.{ReadError}
 use Rattle.ic_base.specs.declared.read_error.ReadError.TheVariants.{NoMemory, Refused}
 use Rattle.ic_base.specs.Gives.{Fails}
+use Rattle.ic_base.specs.Reader.{◌>>=◌}
 use Rattle.cd_tokens.specs.Token.{Token}
 use Rattle.cd_grammar.specs.declared.written.Part.{Part}
 use Rattle.cd_grammar.specs.declared.written.Written.{Written}
-use Rattle.cd_grammar.specs.Read.{is_mark, starts, then_make, is_word, is_type, are_none, definition_at, definitions_at}
+use Rattle.cd_grammar.specs.Grammar.{no_place}
+use Rattle.cd_grammar.specs.Read.{is_mark, starts, then_make, put_behind, is_word, is_type, are_none, definition_at, definitions_at}
+use Rattle.cd_grammar.proofs.Loops.{by_part, no_part}
 
 abbrev Definition : Type 0
 Definition = List ℕ × Part
@@ -32,42 +35,52 @@ none_follows front most i types tokens total below none so_far =
     let s : then_make (λ ds. front ++ ds) (definitions_at (most - i) types tokens) ≡ Some (front, types, tokens) = rw (more, none) (ap (λ (ds : List Definition). Some (ds, types, tokens)) (append-nil front)) in
     sym so_far ∙ s
 
+-- what a definition was put behind
+abbrev pub Defined : Type 0
+Defined = List (List ℕ × Part) × ℕ × List Written × List Token
+
 pub no_definition : (e : ReadError) (front : List (List ℕ × Part)) (most i : ℕ) (types : List Written) (tokens : List Token) (total : Option (List (List ℕ × Part) × List Written × List Token))
-    → i < most → starts (is_word is_type) tokens ≡ true → Fails e (definition_at types (drop 1 tokens)) → StillDefined front (most - i) types tokens total → Fails e total
+    → i < most → starts (is_word is_type) tokens ≡ true → Fails e (definition_at types (drop 1 tokens) >>= put_behind no_place front) → StillDefined front (most - i) types tokens total → Fails e total
 unfolding definitions_at
 no_definition NoMemory front most i types tokens total below found none so_far = tt
 no_definition Refused front most i types tokens total below found none so_far =
     let more : most - i ≡ suc (most - (i + 1)) = omega arith in
-    let s : then_make (λ ds. front ++ ds) (definitions_at (most - i) types tokens) ≡ None = rw (more, found, none) refl in
+    let s : then_make (λ ds. front ++ ds) (definitions_at (most - i) types tokens) ≡ None = rw (more, found, no_part (definition_at types (drop 1 tokens)) no_place front none) refl in
     sym so_far ∙ s
 
 -- the last definition, without a semicolon
-pub last_definition : (front : List (List ℕ × Part)) (most i : ℕ) (types : List Written) (tokens : List Token) (total : Option (List (List ℕ × Part) × List Written × List Token)) (d : List ℕ × Part) (types' : List Written) (after : List Token)
-    → i < most → starts (is_word is_type) tokens ≡ true → definition_at types (drop 1 tokens) ≡ Some (d, types', after) → are_none after ≡ true → StillDefined front (most - i) types tokens total
-    → total ≡ Some (front ++ d ∷ [], types', after)
+pub last_definition : (front : List (List ℕ × Part)) (most i : ℕ) (types : List Written) (tokens : List Token) (total : Option (List (List ℕ × Part) × List Written × List Token)) (y : Defined)
+    → i < most → starts (is_word is_type) tokens ≡ true → (definition_at types (drop 1 tokens) >>= put_behind no_place front) ≡ Some y → are_none y.3 ≡ true → StillDefined front (most - i) types tokens total
+    → total ≡ Some (y.0, y.2, y.3)
 unfolding definitions_at
-last_definition front most i types tokens total d types' after below found one none so_far =
+last_definition front most i types tokens total y below found one none so_far =
     let more : most - i ≡ suc (most - (i + 1)) = omega arith in
-    let s : then_make (λ ds. front ++ ds) (definitions_at (most - i) types tokens) ≡ Some (front ++ d ∷ [], types', after) = rw (more, found, one, none) refl in
-    sym so_far ∙ s
+    by_part (definition_at types (drop 1 tokens)) no_place front (λ (y : Defined). are_none y.3 ≡ true → total ≡ Some (y.0, y.2, y.3))
+    (λ x is ends.
+    let s : then_make (λ ds. front ++ ds) (definitions_at (most - i) types tokens) ≡ Some (front ++ x.0 ∷ [], x.1, x.2) = rw (more, found, is, ends) refl in
+    sym so_far ∙ s) y one none
 
-pub no_semicolon : (front : List (List ℕ × Part)) (most i : ℕ) (types : List Written) (tokens : List Token) (total : Option (List (List ℕ × Part) × List Written × List Token)) (d : List ℕ × Part) (types' : List Written) (after : List Token)
-    → i < most → starts (is_word is_type) tokens ≡ true → definition_at types (drop 1 tokens) ≡ Some (d, types', after) → are_none after ≡ false → starts (is_mark 59) after ≡ false → StillDefined front (most - i) types tokens total → total ≡ None
+pub no_semicolon : (front : List (List ℕ × Part)) (most i : ℕ) (types : List Written) (tokens : List Token) (total : Option (List (List ℕ × Part) × List Written × List Token)) (y : Defined)
+    → i < most → starts (is_word is_type) tokens ≡ true → (definition_at types (drop 1 tokens) >>= put_behind no_place front) ≡ Some y → are_none y.3 ≡ false → starts (is_mark 59) y.3 ≡ false → StillDefined front (most - i) types tokens total → total ≡ None
 unfolding definitions_at
-no_semicolon front most i types tokens total d types' after below found one some stuck so_far =
+no_semicolon front most i types tokens total y below found one some stuck so_far =
     let more : most - i ≡ suc (most - (i + 1)) = omega arith in
-    let s : then_make (λ ds. front ++ ds) (definitions_at (most - i) types tokens) ≡ None = rw (more, found, one, some, stuck) refl in
-    sym so_far ∙ s
+    by_part (definition_at types (drop 1 tokens)) no_place front (λ (y : Defined). are_none y.3 ≡ false → starts (is_mark 59) y.3 ≡ false → total ≡ None)
+    (λ x is goes stays.
+    let s : then_make (λ ds. front ++ ds) (definitions_at (most - i) types tokens) ≡ None = rw (more, found, is, goes, stays) refl in
+    sym so_far ∙ s) y one some stuck
 
-pub one_definition : (front : List (List ℕ × Part)) (most i : ℕ) (types : List Written) (tokens : List Token) (total : Option (List (List ℕ × Part) × List Written × List Token)) (d : List ℕ × Part) (types' : List Written) (after : List Token)
-    → i < most → starts (is_word is_type) tokens ≡ true → definition_at types (drop 1 tokens) ≡ Some (d, types', after) → are_none after ≡ false → starts (is_mark 59) after ≡ true → StillDefined front (most - i) types tokens total
-    → StillDefined (front ++ d ∷ []) (most - (i + 1)) types' (drop 1 after) total
+pub one_definition : (front : List (List ℕ × Part)) (most i : ℕ) (types : List Written) (tokens : List Token) (total : Option (List (List ℕ × Part) × List Written × List Token)) (y : Defined)
+    → i < most → starts (is_word is_type) tokens ≡ true → (definition_at types (drop 1 tokens) >>= put_behind no_place front) ≡ Some y → are_none y.3 ≡ false → starts (is_mark 59) y.3 ≡ true → StillDefined front (most - i) types tokens total
+    → StillDefined y.0 (most - (i + 1)) y.2 (drop 1 y.3) total
 unfolding definitions_at
-one_definition front most i types tokens total d types' after below found one some again so_far =
+one_definition front most i types tokens total y below found one some again so_far =
     let more : most - i ≡ suc (most - (i + 1)) = omega arith in
-    let s : then_make (λ ds. front ++ ds) (definitions_at (most - i) types tokens) ≡ then_make (λ ds. (front ++ d ∷ []) ++ ds) (definitions_at (most - (i + 1)) types' (drop 1 after)) =
-    rw (more, found, one, some, again) (regrouped front d (definitions_at (most - (i + 1)) types' (drop 1 after))) in
-    sym s ∙ so_far
+    by_part (definition_at types (drop 1 tokens)) no_place front (λ (y : Defined). are_none y.3 ≡ false → starts (is_mark 59) y.3 ≡ true → StillDefined y.0 (most - (i + 1)) y.2 (drop 1 y.3) total)
+    (λ x is goes parts.
+    let s : then_make (λ ds. front ++ ds) (definitions_at (most - i) types tokens) ≡ then_make (λ ds. (front ++ x.0 ∷ []) ++ ds) (definitions_at (most - (i + 1)) x.1 (drop 1 x.2)) =
+    rw (more, found, is, goes, parts) (regrouped front x.0 (definitions_at (most - (i + 1)) x.1 (drop 1 x.2))) in
+    sym s ∙ so_far) y one some again
 
 pub no_fuel : (front : List (List ℕ × Part)) (most i : ℕ) (types : List Written) (tokens : List Token) (total : Option (List (List ℕ × Part) × List Written × List Token)) → most ≤ i → StillDefined front (most - i) types tokens total → total ≡ None
 unfolding definitions_at

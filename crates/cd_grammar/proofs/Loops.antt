@@ -1,13 +1,15 @@
 -- Reading parts one after the other, as a loop does.
-use Rattle.std.proofs.Common.{◌≡◌, ℕ, zero, suc, ◌-◌, ◌+◌, ◌≤◌, ◌<◌, true, false, List, [], ◌∷◌, ◌++◌, drop, Option, Some, None, refl, sym, ap, ◌∙◌, append_assoc, arith}
+use Rattle.std.proofs.Common.{◌≡◌, ℕ, zero, suc, ◌-◌, ◌+◌, ◌≤◌, ◌<◌, true, false, List, [], ◌∷◌, ◌++◌, drop, Option, Some, None, refl, sym, ap, subst, ◌∙◌, append_assoc, arith}
 use Rattle.std.proofs.lemmas.List.{append-nil}
 use Rattle.ic_base.specs.declared.read_error.ReadError.{ReadError}
 use Rattle.ic_base.specs.declared.read_error.ReadError.TheVariants.{NoMemory, Refused}
 use Rattle.ic_base.specs.Gives.{Fails}
+use Rattle.ic_base.specs.Reader.{◌>>=◌}
+use Rattle.ic_base.proofs.Steps.{bind_some, some_is}
 use Rattle.cd_tokens.specs.Token.{Token}
 use Rattle.cd_grammar.specs.declared.word.Word.{Word}
 use Rattle.cd_grammar.specs.declared.written.Written.{Written}
-use Rattle.cd_grammar.specs.Read.{Reading, is_mark, starts, then_make, parts_at, token_note, first_note, notes_at, first_word, named_at, behind_word_at, type_at, method_type_at}
+use Rattle.cd_grammar.specs.Read.{Reading, is_mark, starts, then_make, put_behind, parts_at, token_note, first_note, notes_at, first_word, named_at, behind_word_at, type_at, method_type_at}
 
 -- what was read before, and what is still read
 abbrev pub with_front : {S A : Type 0} → List A → Option (List A × S × List Token) → Option (List A × S × List Token)
@@ -30,46 +32,63 @@ at_end {S} {A} separator end read step front most i next state tokens total belo
     let s : with_front front (parts_at separator end read step (most - i) next state tokens) ≡ Some (front, state, drop 1 tokens) = rw (more, ended) (ap (λ (xs : List A). Some (xs, state, drop 1 tokens)) (append-nil front)) in
     sym so_far ∙ s
 
+-- what a part was put behind tells of the part
+pub by_part : {S A : Type 0} (read : Option (A × S × List Token)) (step : A → ℕ) (front : List A) (P : List A × ℕ × S × List Token → Type 0) → ((x : A × S × List Token) → read ≡ Some x → P (front ++ x.0 ∷ [], step x.0, x.1, x.2))
+    → (y : List A × ℕ × S × List Token) → (read >>= put_behind step front) ≡ Some y → P y
+by_part {S} {A} read step front P law y e =
+    let a = bind_some read (put_behind step front) y e in
+    subst P (some_is {A = List A × ℕ × S × List Token} (front ++ a.0.0 ∷ [], step a.0.0, a.0.1, a.0.2) y a.2) (law a.0 a.1)
+
+pub no_part : {S A : Type 0} (read : Option (A × S × List Token)) (step : A → ℕ) (front : List A) → (read >>= put_behind step front) ≡ None → read ≡ None
+no_part None step front e = refl
+no_part (Some x) step front e = absurd cc
+
 -- no part stands there
 pub no_part_there : {S A : Type 0} (e : ReadError) (separator end : ℕ) (read : ℕ → Reading S A) (step : A → ℕ) (front : List A) (most i next : ℕ) (state : S) (tokens : List Token) (total : Option (List A × S × List Token))
-    → i < most → starts (is_mark end) tokens ≡ false → Fails e (read next state tokens) → Still separator end read step front (most - i) next state tokens total → Fails e total
+    → i < most → starts (is_mark end) tokens ≡ false → Fails e (read next state tokens >>= put_behind step front) → Still separator end read step front (most - i) next state tokens total → Fails e total
 unfolding parts_at
 no_part_there NoMemory separator end read step front most i next state tokens total below on none so_far = tt
 no_part_there Refused separator end read step front most i next state tokens total below on none so_far =
     let more : most - i ≡ suc (most - (i + 1)) = omega arith in
-    let s : with_front front (parts_at separator end read step (most - i) next state tokens) ≡ None = rw (more, on, none) refl in
+    let s : with_front front (parts_at separator end read step (most - i) next state tokens) ≡ None = rw (more, on, no_part (read next state tokens) step front none) refl in
     sym so_far ∙ s
 
 -- the last part
-pub last_part : {S A : Type 0} (separator end : ℕ) (read : ℕ → Reading S A) (step : A → ℕ) (front : List A) (most i next : ℕ) (state : S) (tokens : List Token) (total : Option (List A × S × List Token)) (x : A) (state' : S) (after : List Token)
-    → i < most → starts (is_mark end) tokens ≡ false → read next state tokens ≡ Some (x, state', after) → starts (is_mark end) after ≡ true → Still separator end read step front (most - i) next state tokens total
-    → total ≡ Some (front ++ x ∷ [], state', drop 1 after)
+pub last_part : {S A : Type 0} (separator end : ℕ) (read : ℕ → Reading S A) (step : A → ℕ) (front : List A) (most i next : ℕ) (state : S) (tokens : List Token) (total : Option (List A × S × List Token)) (y : List A × ℕ × S × List Token)
+    → i < most → starts (is_mark end) tokens ≡ false → (read next state tokens >>= put_behind step front) ≡ Some y → starts (is_mark end) y.3 ≡ true → Still separator end read step front (most - i) next state tokens total
+    → total ≡ Some (y.0, y.2, drop 1 y.3)
 unfolding parts_at
-last_part separator end read step front most i next state tokens total x state' after below on one ended so_far =
+last_part {S} {A} separator end read step front most i next state tokens total y below on one ended so_far =
     let more : most - i ≡ suc (most - (i + 1)) = omega arith in
-    let s : with_front front (parts_at separator end read step (most - i) next state tokens) ≡ Some (front ++ x ∷ [], state', drop 1 after) = rw (more, on, one, ended) refl in
-    sym so_far ∙ s
+    by_part (read next state tokens) step front (λ (y : List A × ℕ × S × List Token). starts (is_mark end) y.3 ≡ true → total ≡ Some (y.0, y.2, drop 1 y.3))
+    (λ x is ends.
+    let s : with_front front (parts_at separator end read step (most - i) next state tokens) ≡ Some (front ++ x.0 ∷ [], x.1, drop 1 x.2) = rw (more, on, is, ends) refl in
+    sym so_far ∙ s) y one ended
 
 -- neither an end nor a separator
-pub no_separator : {S A : Type 0} (separator end : ℕ) (read : ℕ → Reading S A) (step : A → ℕ) (front : List A) (most i next : ℕ) (state : S) (tokens : List Token) (total : Option (List A × S × List Token)) (x : A) (state' : S) (after : List Token)
-    → i < most → starts (is_mark end) tokens ≡ false → read next state tokens ≡ Some (x, state', after) → starts (is_mark end) after ≡ false → starts (is_mark separator) after ≡ false → Still separator end read step front (most - i) next state tokens total
+pub no_separator : {S A : Type 0} (separator end : ℕ) (read : ℕ → Reading S A) (step : A → ℕ) (front : List A) (most i next : ℕ) (state : S) (tokens : List Token) (total : Option (List A × S × List Token)) (y : List A × ℕ × S × List Token)
+    → i < most → starts (is_mark end) tokens ≡ false → (read next state tokens >>= put_behind step front) ≡ Some y → starts (is_mark end) y.3 ≡ false → starts (is_mark separator) y.3 ≡ false → Still separator end read step front (most - i) next state tokens total
     → total ≡ None
 unfolding parts_at
-no_separator separator end read step front most i next state tokens total x state' after below on one other stuck so_far =
+no_separator {S} {A} separator end read step front most i next state tokens total y below on one other stuck so_far =
     let more : most - i ≡ suc (most - (i + 1)) = omega arith in
-    let s : with_front front (parts_at separator end read step (most - i) next state tokens) ≡ None = rw (more, on, one, other, stuck) refl in
-    sym so_far ∙ s
+    by_part (read next state tokens) step front (λ (y : List A × ℕ × S × List Token). starts (is_mark end) y.3 ≡ false → starts (is_mark separator) y.3 ≡ false → total ≡ None)
+    (λ x is goes stays.
+    let s : with_front front (parts_at separator end read step (most - i) next state tokens) ≡ None = rw (more, on, is, goes, stays) refl in
+    sym so_far ∙ s) y one other stuck
 
 -- one more part
-pub part_read : {S A : Type 0} (separator end : ℕ) (read : ℕ → Reading S A) (step : A → ℕ) (front : List A) (most i next : ℕ) (state : S) (tokens : List Token) (total : Option (List A × S × List Token)) (x : A) (state' : S) (after : List Token)
-    → i < most → starts (is_mark end) tokens ≡ false → read next state tokens ≡ Some (x, state', after) → starts (is_mark end) after ≡ false → starts (is_mark separator) after ≡ true → Still separator end read step front (most - i) next state tokens total
-    → Still separator end read step (front ++ x ∷ []) (most - (i + 1)) (step x) state' (drop 1 after) total
+pub part_read : {S A : Type 0} (separator end : ℕ) (read : ℕ → Reading S A) (step : A → ℕ) (front : List A) (most i next : ℕ) (state : S) (tokens : List Token) (total : Option (List A × S × List Token)) (y : List A × ℕ × S × List Token)
+    → i < most → starts (is_mark end) tokens ≡ false → (read next state tokens >>= put_behind step front) ≡ Some y → starts (is_mark end) y.3 ≡ false → starts (is_mark separator) y.3 ≡ true → Still separator end read step front (most - i) next state tokens total
+    → Still separator end read step y.0 (most - (i + 1)) y.1 y.2 (drop 1 y.3) total
 unfolding parts_at
-part_read separator end read step front most i next state tokens total x state' after below on one other again so_far =
+part_read {S} {A} separator end read step front most i next state tokens total y below on one other again so_far =
     let more : most - i ≡ suc (most - (i + 1)) = omega arith in
-    let s : with_front front (parts_at separator end read step (most - i) next state tokens) ≡ with_front (front ++ x ∷ []) (parts_at separator end read step (most - (i + 1)) (step x) state' (drop 1 after)) =
-    rw (more, on, one, other, again) (regrouped front x (parts_at separator end read step (most - (i + 1)) (step x) state' (drop 1 after))) in
-    sym s ∙ so_far
+    by_part (read next state tokens) step front (λ (y : List A × ℕ × S × List Token). starts (is_mark end) y.3 ≡ false → starts (is_mark separator) y.3 ≡ true → Still separator end read step y.0 (most - (i + 1)) y.1 y.2 (drop 1 y.3) total)
+    (λ x is goes parts.
+    let s : with_front front (parts_at separator end read step (most - i) next state tokens) ≡ with_front (front ++ x.0 ∷ []) (parts_at separator end read step (most - (i + 1)) (step x.0) x.1 (drop 1 x.2)) =
+    rw (more, on, is, goes, parts) (regrouped front x.0 (parts_at separator end read step (most - (i + 1)) (step x.0) x.1 (drop 1 x.2))) in
+    sym s ∙ so_far) y one other again
 
 -- nothing more is looked at
 pub no_fuel : {S A : Type 0} (separator end : ℕ) (read : ℕ → Reading S A) (step : A → ℕ) (front : List A) (most i next : ℕ) (state : S) (tokens : List Token) (total : Option (List A × S × List Token))

@@ -5,6 +5,8 @@ use Rattle.cd_types.specs.declared.primitive.Primitive.TheVariants as primitives
 use Rattle.cd_tokens.specs.Token.{Token, run, quoted, mark, arrow}
 use Rattle.cd_tokens.specs.Label.{is_name}
 use Rattle.cd_tokens.specs.ReadLabel.{name_of, label_of}
+use Rattle.cd_grammar.specs.declared.reading.Rows.{Rows}
+use Rattle.cd_grammar.specs.declared.reading.Rows.TheVariants.{Fields, Cases}
 use Rattle.cd_grammar.specs.declared.word.Word.{Word}
 use Rattle.cd_grammar.specs.declared.word.Word.TheVariants as words
 use Rattle.cd_grammar.specs.declared.written.Part.{Part}
@@ -50,6 +52,13 @@ abbrev pub behind_at : {S A : Type 0} → ℕ → ℕ → (A → Reading S (List
 behind_at separator end more x =
     if starts (is_mark end) x.2 then Some (x.0 ∷ [], x.1, drop 1 x.2)
     else if starts (is_mark separator) x.2 then then_make (λ xs. x.0 ∷ xs) (more x.0 x.1 (drop 1 x.2)) else None
+
+-- a part behind those before it, and what `step` makes of it
+abbrev pub put_behind : {S A : Type 0} → (A → ℕ) → List A → A × S × List Token → Option (List A × ℕ × S × List Token)
+put_behind step front x = Some (front ++ x.0 ∷ [], step x.0, x.1, x.2)
+
+abbrev pub with_part : {S A : Type 0} → (A → ℕ) → List A → Option (A × S × List Token) → Option (List A × ℕ × S × List Token)
+with_part step front read = read >>= put_behind step front
 
 -- parts up to a closing mark, fewer than `fuel`
 unfoldable pub parts_at : {S A : Type 0} → ℕ → ℕ → (ℕ → Reading S A) → (A → ℕ) → ℕ → ℕ → Reading S (List A)
@@ -104,10 +113,28 @@ field_at read next types [] = None
 field_at read next types (t ∷ rest) =
     if starts (is_mark 58) rest then labelled_at read t types (drop 1 rest) else then_make (λ part. (next, part)) (read types (t ∷ rest))
 
+abbrev pub lone_case : Token → Reads (ℕ × Part)
+lone_case label types rest = label_of label >>= λ id. Some ((id, Prim primitives.Null), types, rest)
+
 abbrev pub case_at : Reads Part → ℕ → Reads (ℕ × Part)
 case_at read next types [] = None
-case_at read next types (t ∷ rest) =
-    if starts (is_mark 58) rest then labelled_at read t types (drop 1 rest) else (label_of t >>= λ id. Some ((id, Prim primitives.Null), types, rest))
+case_at read next types (t ∷ rest) = if starts (is_mark 58) rest then labelled_at read t types (drop 1 rest) else lone_case t types rest
+
+-- fields or cases
+abbrev pub row_at : Rows → Reads Part → ℕ → Reads (ℕ × Part)
+row_at Fields read = field_at read
+row_at Cases read = case_at read
+
+abbrev pub id_after : Rows → ℕ → ℕ
+id_after Fields id = suc id
+id_after Cases id = 0
+
+abbrev pub after_row : Rows → ℕ × Part → ℕ
+after_row rows row = id_after rows row.0
+
+abbrev pub rows_made : Rows → List (ℕ × Part) → Written
+rows_made Fields items = Rec items
+rows_made Cases items = Var items
 
 abbrev pub argument_at : Reads Part → ℕ → Reads Part
 argument_at read next types [] = None
@@ -190,10 +217,12 @@ unfoldable mutual
   method_type_at (suc depth) types tokens = if starts (is_mark 40) tokens then function_at (type_at depth) types tokens else named_at types tokens
 
 -- a definition behind the word `type`
+abbrev pub defined_as : List ℕ → Reads (List ℕ × Part)
+defined_as name types rest = if starts (is_mark 61) rest then then_make (λ part. (name, part)) (type_at max_depth types (drop 1 rest)) else None
+
 abbrev pub definition_at : Reads (List ℕ × Part)
 definition_at types [] = None
-definition_at types (t ∷ rest) =
-    free_name t >>= λ name. if starts (is_mark 61) rest then then_make (λ part. (name, part)) (type_at max_depth types (drop 1 rest)) else None
+definition_at types (t ∷ rest) = free_name t >>= λ name. defined_as name types rest
 
 abbrev pub is_type : Word → Bool
 is_type words.Definition = true
@@ -254,13 +283,16 @@ is_end (t ∷ u ∷ rest) = false
 abbrev pub main_of : List Part → Part × List Written × List Token → Option (Main × List Written)
 main_of tuple x = if is_end x.2 then Some (record { tuple = tuple; service = x.0 }, x.1) else None
 
+-- the service behind the types that it is installed with, and the end
+abbrev pub main_with : List Part → List Written → List Token → Option (Main × List Written)
+main_with tuple types tokens = served_at types tokens >>= main_of tuple
+
+abbrev pub main_behind : List Written → List Token → Option (Main × List Written)
+main_behind types tokens = installed_at types tokens >>= λ installed. main_with installed.0 installed.1 installed.2
+
 -- the service behind its word, and the end
 abbrev pub main_at : List Written → List Token → Option (Main × List Written)
-main_at types tokens = do
-  rest ← past_name tokens
-  installed ← installed_at types rest
-  served ← served_at installed.1 installed.2
-  main_of installed.0 served
+main_at types tokens = past_name tokens >>= main_behind types
 
 -- the service, if there is one, and the end
 abbrev pub rest_at : List Written → List Token → Option (Option Main × List Written)
@@ -271,5 +303,8 @@ rest_at types (t ∷ rest) = if is_word is_service t then (main_at types rest >>
 abbrev pub with_rest : List (List ℕ × Part) × List Written × List Token → Option File
 with_rest x = rest_at x.1 x.2 >>= λ y. Some (record { types = y.1; definitions = x.0; main = y.0 })
 
+abbrev pub file_from : List Written → List Token → Option File
+file_from types tokens = definitions_at (length tokens + 1) types tokens >>= with_rest
+
 unfoldable pub file_at : List Token → Option File
-file_at tokens = definitions_at (length tokens + 1) [] tokens >>= with_rest
+file_at tokens = file_from [] tokens

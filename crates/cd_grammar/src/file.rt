@@ -1,17 +1,17 @@
-ghost use Rattle.std.specs.Prelude.{◌≡◌, ◌≤◌, IfOk, length};
+ghost use Rattle.std.specs.Prelude.{◌≡◌, ◌≤◌, [], IfOk, length};
 ghost use Rattle.std.specs.Str.{is_utf8};
 ghost use Rattle.ic_base.specs.Gives.{Gives};
 ghost use Rattle.cd_tokens.specs.Lexed.{Agrees};
 ghost use Rattle.cd_tokens.specs.View.{token_view, token_views};
 ghost use Rattle.cd_grammar.specs.File as files;
 ghost use Rattle.cd_grammar.specs.Fits.{FitsFile};
-ghost use Rattle.cd_grammar.specs.Grammar.{IsFile};
-ghost use Rattle.cd_grammar.specs.Read.{starts, is_word, is_type, is_service, are_none, is_end, definition_at, definitions_at, past_colon, past_name, installed_at, served_at, main_at, rest_at, file_at};
+ghost use Rattle.cd_grammar.specs.Grammar.{IsFile, no_place};
+ghost use Rattle.cd_grammar.specs.Read.{starts, with_part, is_word, is_type, is_service, are_none, is_end, defined_as, definition_at, definitions_at, past_colon, past_name, installed_at, served_at, main_with, main_behind, main_at, rest_at, file_from, file_at};
 
 use crate::front::{name_of, rest_of, starts_arrow, starts_mark, word_of};
-use crate::reading::{named_of, service_of, tuple_of, type_of};
+use crate::reading::{Reader, named_of, service_of, tuple_of, type_of};
 use crate::word::Word;
-use crate::written::{File, Main, Part, Parts, Written};
+use crate::written::{File, Main, Part, Parts};
 use cd_tokens::{Token, tokens_of};
 use ic_base::ReadError;
 use ic_principal::Bytes;
@@ -58,111 +58,136 @@ fn starts_type(tokens: &[Token<'_>]) -> bool
 }
 
 // A definition behind the word `type`.
-fn definition_of<'t, 'a>(
-    alloc: Global,
-    types: &mut Vec<Written>,
-    tokens: &'t [Token<'a>],
-) -> Result<((Bytes, Part), &'t [Token<'a>]), ReadError>
-    ensures { Gives (λ x. (x.0, types.new.items, token_views x.1.now)) result (definition_at types.old.items (token_views tokens.now)) }
+fn definition_of(reader: &mut Reader<'_, '_>) -> Result<(Bytes, Part), ReadError>
+    ensures { Gives (λ x. (x, reader.new.types.items, token_views reader.new.rest.now)) result (definition_at reader.old.types.items (token_views reader.old.rest.now)) }
 {
+    let tokens = reader.rest;
     match tokens {
         [] => Err(ReadError::Refused),
         [first, rest @ ..] => {
-            let name = name_of(alloc, first)?;
-            if !starts_mark(rest, b'=') {
-                return Err(ReadError::Refused);
+            reader.rest = rest;
+            match name_of(reader.alloc, first) {
+                Ok(name) => defined_as(reader, name),
+                Err(e) => Err(e),
             }
-            let (part, rest) = type_of(alloc, MAX_DEPTH, types, rest_of(rest))?;
-            Ok(((name, part), rest))
         }
+    }
+}
+
+// What a name is defined as, behind `=`.
+fn defined_as(reader: &mut Reader<'_, '_>, name: Bytes) -> Result<(Bytes, Part), ReadError>
+    ensures { Gives (λ x. (x, reader.new.types.items, token_views reader.new.rest.now)) result (defined_as name reader.old.types.items (token_views reader.old.rest.now)) }
+{
+    if !starts_mark(reader.rest, b'=') {
+        return Err(ReadError::Refused);
+    }
+    reader.rest = rest_of(reader.rest);
+    match type_of(reader, MAX_DEPTH) {
+        Ok(part) => Ok((name, part)),
+        Err(e) => Err(e),
+    }
+}
+
+fn add_definition(
+    reader: &mut Reader<'_, '_>,
+    definitions: &mut Vec<(Bytes, Part)>,
+) -> Result<(), ReadError>
+    ensures { Gives (λ done. (definitions.new.items, 0, reader.new.types.items, token_views reader.new.rest.now)) result (with_part no_place definitions.old.items (definition_at reader.old.types.items (token_views reader.old.rest.now))) }
+{
+    match definition_of(reader) {
+        Ok(definition) => {
+            definitions.push(definition)?;
+            Ok(())
+        }
+        Err(e) => Err(e),
     }
 }
 
 // The definitions of a file.
-fn definitions_of<'t, 'a>(
-    alloc: Global,
+fn add_definitions(
+    reader: &mut Reader<'_, '_>,
     most: usize,
-    types: &mut Vec<Written>,
-    tokens: &'t [Token<'a>],
-) -> Result<(Vec<(Bytes, Part)>, &'t [Token<'a>]), ReadError>
-    ensures { Gives (λ x. (x.0.items, types.new.items, token_views x.1.now)) result (definitions_at most types.old.items (token_views tokens.now)) }
+    definitions: &mut Vec<(Bytes, Part)>,
+) -> Result<(), ReadError>
+    requires { definitions.old.items ≡ [] }
+    ensures { Gives (λ done. (definitions.new.items, reader.new.types.items, token_views reader.new.rest.now)) result (definitions_at most reader.old.types.items (token_views reader.old.rest.now)) }
 {
-    let mut definitions = Vec::new(alloc);
-    let mut rest = tokens;
     for _ in 0..most {
-        if !starts_type(rest) {
-            return Ok((definitions, rest));
+        if !starts_type(reader.rest) {
+            return Ok(());
         }
-        let (definition, after) = definition_of(alloc, types, rest_of(rest))?;
-        definitions.push(definition)?;
-        if are_none(after) {
-            return Ok((definitions, after));
+        reader.rest = rest_of(reader.rest);
+        add_definition(reader, definitions)?;
+        if are_none(reader.rest) {
+            return Ok(());
         }
-        if !starts_mark(after, b';') {
+        if !starts_mark(reader.rest, b';') {
             return Err(ReadError::Refused);
         }
-        rest = rest_of(after);
+        reader.rest = rest_of(reader.rest);
     }
     Err(ReadError::Refused)
 }
 
-fn past_colon<'t, 'a>(tokens: &'t [Token<'a>]) -> Result<&'t [Token<'a>], ReadError>
-    ensures { Gives (λ rest. token_views rest.now) result (past_colon (token_views tokens.now)) }
+fn past_colon(reader: &mut Reader<'_, '_>) -> Result<(), ReadError>
+    ensures rest { Gives (λ done. token_views reader.new.rest.now) result (past_colon (token_views reader.old.rest.now)) }
+    ensures types { reader.new.types.items ≡ reader.old.types.items }
 {
-    if starts_mark(tokens, b':') {
-        Ok(rest_of(tokens))
-    } else {
-        Err(ReadError::Refused)
+    if !starts_mark(reader.rest, b':') {
+        return Err(ReadError::Refused);
     }
+    reader.rest = rest_of(reader.rest);
+    Ok(())
 }
 
-// The tokens behind the service's name and its colon.
-fn past_name<'t, 'a>(alloc: Global, tokens: &'t [Token<'a>]) -> Result<&'t [Token<'a>], ReadError>
-    ensures { Gives (λ rest. token_views rest.now) result (past_name (token_views tokens.now)) }
+// Up to the tokens behind the service's name and its colon.
+fn past_name(reader: &mut Reader<'_, '_>) -> Result<(), ReadError>
+    ensures rest { Gives (λ done. token_views reader.new.rest.now) result (past_name (token_views reader.old.rest.now)) }
+    ensures types { reader.new.types.items ≡ reader.old.types.items }
 {
+    let tokens = reader.rest;
     match tokens {
         [] => Err(ReadError::Refused),
         [first, rest @ ..] => {
+            reader.rest = rest;
             if starts_mark(tokens, b':') {
-                return Ok(rest);
+                return Ok(());
             }
-            let _name = name_of(alloc, first)?;
-            past_colon(rest)
+            match name_of(reader.alloc, first) {
+                Ok(_name) => past_colon(reader),
+                Err(e) => Err(e),
+            }
         }
     }
 }
 
 // The types that the service is installed with.
-fn installed_of<'t, 'a>(
-    alloc: Global,
-    types: &mut Vec<Written>,
-    tokens: &'t [Token<'a>],
-) -> Result<(Vec<Part>, &'t [Token<'a>]), ReadError>
-    ensures { Gives (λ x. (x.0.items, types.new.items, token_views x.1.now)) result (installed_at types.old.items (token_views tokens.now)) }
+fn installed_of(reader: &mut Reader<'_, '_>) -> Result<Vec<Part>, ReadError>
+    ensures { Gives (λ x. (x.items, reader.new.types.items, token_views reader.new.rest.now)) result (installed_at reader.old.types.items (token_views reader.old.rest.now)) }
 {
-    if !starts_mark(tokens, b'(') {
-        return Ok((Vec::new(alloc), tokens));
+    if !starts_mark(reader.rest, b'(') {
+        return Ok(Vec::new(reader.alloc));
     }
-    let (parts, rest) = tuple_of(alloc, MAX_DEPTH, types, tokens)?;
-    if starts_arrow(rest) {
-        Ok((parts, rest_of(rest)))
-    } else {
-        Err(ReadError::Refused)
+    match tuple_of(reader, MAX_DEPTH) {
+        Ok(parts) => {
+            if !starts_arrow(reader.rest) {
+                return Err(ReadError::Refused);
+            }
+            reader.rest = rest_of(reader.rest);
+            Ok(parts)
+        }
+        Err(e) => Err(e),
     }
 }
 
 // The methods of the service, or its name.
-fn served_of<'t, 'a>(
-    alloc: Global,
-    types: &mut Vec<Written>,
-    tokens: &'t [Token<'a>],
-) -> Result<(Part, &'t [Token<'a>]), ReadError>
-    ensures { Gives (λ x. (x.0, types.new.items, token_views x.1.now)) result (served_at types.old.items (token_views tokens.now)) }
+fn served_of(reader: &mut Reader<'_, '_>) -> Result<Part, ReadError>
+    ensures { Gives (λ x. (x, reader.new.types.items, token_views reader.new.rest.now)) result (served_at reader.old.types.items (token_views reader.old.rest.now)) }
 {
-    if starts_mark(tokens, b'{') {
-        service_of(alloc, MAX_DEPTH, types, tokens)
+    if starts_mark(reader.rest, b'{') {
+        service_of(reader, MAX_DEPTH)
     } else {
-        named_of(alloc, types, tokens)
+        named_of(reader)
     }
 }
 
@@ -176,37 +201,74 @@ fn is_end(tokens: &[Token<'_>]) -> bool
     }
 }
 
-// The service behind its word, and the end of the file.
-fn main_of(alloc: Global, types: &mut Vec<Written>, tokens: &[Token<'_>]) -> Result<Main, ReadError>
-    ensures { Gives (λ main. (main, types.new.items)) result (main_at types.old.items (token_views tokens.now)) }
+// The service behind the types that it is installed with, and the end of the file.
+fn main_with(reader: &mut Reader<'_, '_>, tuple: Parts) -> Result<Main, ReadError>
+    ensures { Gives (λ main. (main, reader.new.types.items)) result (main_with tuple reader.old.types.items (token_views reader.old.rest.now)) }
 {
-    let rest = past_name(alloc, tokens)?;
-    let (items, rest) = installed_of(alloc, types, rest)?;
-    let (service, rest) = served_of(alloc, types, rest)?;
-    if !is_end(rest) {
-        return Err(ReadError::Refused);
+    match served_of(reader) {
+        Ok(service) => {
+            if is_end(reader.rest) {
+                Ok(Main { tuple, service })
+            } else {
+                Err(ReadError::Refused)
+            }
+        }
+        Err(e) => Err(e),
     }
-    let tuple = Parts { items };
-    Ok(Main { tuple, service })
+}
+
+// The service behind its colon, and the end of the file.
+fn main_behind(reader: &mut Reader<'_, '_>) -> Result<Main, ReadError>
+    ensures { Gives (λ main. (main, reader.new.types.items)) result (main_behind reader.old.types.items (token_views reader.old.rest.now)) }
+{
+    match installed_of(reader) {
+        Ok(items) => main_with(reader, Parts { items }),
+        Err(e) => Err(e),
+    }
+}
+
+// The service behind its word, and the end of the file.
+fn main_of(reader: &mut Reader<'_, '_>) -> Result<Main, ReadError>
+    ensures { Gives (λ main. (main, reader.new.types.items)) result (main_at reader.old.types.items (token_views reader.old.rest.now)) }
+{
+    match past_name(reader) {
+        Ok(()) => main_behind(reader),
+        Err(e) => Err(e),
+    }
 }
 
 // The service, if there is one, and the end of the file.
-fn rest_of_file(
-    alloc: Global,
-    types: &mut Vec<Written>,
-    tokens: &[Token<'_>],
-) -> Result<Option<Main>, ReadError>
-    ensures { Gives (λ main. (main, types.new.items)) result (rest_at types.old.items (token_views tokens.now)) }
+fn rest_of_file(reader: &mut Reader<'_, '_>) -> Result<Option<Main>, ReadError>
+    ensures { Gives (λ main. (main, reader.new.types.items)) result (rest_at reader.old.types.items (token_views reader.old.rest.now)) }
 {
+    let tokens = reader.rest;
     match tokens {
         [] => Ok(None),
         [first, rest @ ..] => {
             if !is_service(first) {
                 return Err(ReadError::Refused);
             }
-            let main = main_of(alloc, types, rest)?;
-            Ok(Some(main))
+            reader.rest = rest;
+            match main_of(reader) {
+                Ok(main) => Ok(Some(main)),
+                Err(e) => Err(e),
+            }
         }
+    }
+}
+
+// The definitions of a file go into the list, its types too, and its service is returned.
+fn read_file(
+    reader: &mut Reader<'_, '_>,
+    definitions: &mut Vec<(Bytes, Part)>,
+) -> Result<Option<Main>, ReadError>
+    requires { definitions.old.items ≡ [] }
+    ensures { Gives {B = files.File} (λ main. record { types = reader.new.types.items; definitions = definitions.new.items; main = main }) result (file_from reader.old.types.items (token_views reader.old.rest.now)) }
+{
+    let most = reader.rest.len() + 1;
+    match add_definitions(reader, most, definitions) {
+        Ok(()) => rest_of_file(reader),
+        Err(e) => Err(e),
     }
 }
 
@@ -215,14 +277,20 @@ fn rest_of_file(
 fn file_of_tokens(alloc: Global, tokens: &[Token<'_>]) -> Result<File, ReadError>
     ensures { Gives (λ file. file) result (file_at (token_views tokens.now)) }
 {
-    let mut types = Vec::new(alloc);
-    let (definitions, rest) = definitions_of(alloc, tokens.len() + 1, &mut types, tokens)?;
-    let main = rest_of_file(alloc, &mut types, rest)?;
-    Ok(File {
-        types,
-        definitions,
-        main,
-    })
+    let mut definitions = Vec::new(alloc);
+    let mut reader = Reader {
+        alloc,
+        types: Vec::new(alloc),
+        rest: tokens,
+    };
+    match read_file(&mut reader, &mut definitions) {
+        Ok(main) => Ok(File {
+            types: reader.types,
+            definitions,
+            main,
+        }),
+        Err(e) => Err(e),
+    }
 }
 
 fn is_utf8(text: &[u8]) -> bool
@@ -245,6 +313,8 @@ pub fn file_of(alloc: Global, text: &[u8]) -> Result<File, ReadError>
     if !is_utf8(text) {
         return Err(ReadError::Refused);
     }
-    let tokens = tokens_of(alloc, true, text)?;
-    file_of_tokens(alloc, &tokens)
+    match tokens_of(alloc, true, text) {
+        Ok(tokens) => file_of_tokens(alloc, &tokens),
+        Err(e) => Err(e),
+    }
 }

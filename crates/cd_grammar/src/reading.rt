@@ -1,13 +1,13 @@
-ghost use Rattle.std.specs.Prelude.{◌≡◌, ◌⊎◌, ◌<◌, ◌^◌, ◌++◌, ◌∷◌, [], List, suc, length, Some, IfOk, IfSome};
+ghost use Rattle.std.specs.Prelude.{◌≡◌, ◌⊎◌, ◌≤◌, ◌<◌, ◌^◌, ◌++◌, ◌∷◌, [], List, ℕ, suc, length, Some, IfOk, IfSome};
 ghost use Rattle.ic_base.specs.Gives.{Gives};
 ghost use Rattle.cd_tokens.specs.Token as token;
 ghost use Rattle.cd_tokens.specs.View.{token_view, token_views};
 ghost use Rattle.cd_grammar.specs.declared.written.Part.TheVariants.{Place};
 ghost use Rattle.cd_grammar.specs.declared.written.Part.{Part};
 ghost use Rattle.cd_grammar.specs.declared.written.Written.{Written};
-ghost use Rattle.cd_grammar.specs.Grammar.{after_field, no_place};
-ghost use Rattle.cd_grammar.specs.Read.{parts_at, named_at, labelled_at, field_at, case_at, argument_at, tuple_at, first_note, notes_at, function_at, method_at, service_at, fields_at, inner_at, behind_word_at, type_at, method_type_at};
-ghost use Rattle.cd_grammar.specs.declared.written.Written.TheVariants.{Opt, Seq, Rec, Var};
+ghost use Rattle.cd_grammar.specs.declared.written.Written.TheVariants.{Opt, Seq};
+ghost use Rattle.cd_grammar.specs.Grammar.{no_place};
+ghost use Rattle.cd_grammar.specs.Read.{parts_at, then_make, named_at, labelled_at, lone_case, row_at, id_after, after_row, rows_made, with_part, argument_at, tuple_at, first_note, notes_at, noted, results_at, function_at, method_at, service_at, fields_at, inner_at, behind_word_at, type_at, method_type_at};
 
 use crate::front::{first_word, name_of, note_of, rest_of, starts_arrow, starts_mark};
 use crate::word::Word;
@@ -18,32 +18,36 @@ use ic_base::ReadError;
 use ic_principal::{Bytes, Text};
 use std::alloc::Global;
 
-// One more type is written before these tokens: its place.
-fn add<'t, 'a>(
-    types: &mut Vec<Written>,
-    written: Written,
-    rest: &'t [Token<'a>],
-) -> Result<(Part, &'t [Token<'a>]), ReadError>
-    ensures { Gives {B = Part × List Written × List token.Token} (λ x. (x.0, types.new.items, token_views x.1.now)) result (Some (Place (length types.old.items), types.old.items ++ written ∷ [], token_views rest.now)) }
+/// The tokens of a file that are left, and the types with parts that were written so far.
+#[derive(Drop)]
+pub(crate) struct Reader<'t, 'a> {
+    pub(crate) alloc: Global,
+    pub(crate) types: Vec<Written>,
+    pub(crate) rest: &'t [Token<'a>],
+}
+
+// One more type is written: its place.
+fn add(reader: &mut Reader<'_, '_>, written: Written) -> Result<Part, ReadError>
+    ensures { Gives {B = Part × List Written × List token.Token} (λ x. (x, reader.new.types.items, token_views reader.new.rest.now)) result (Some (Place (length reader.old.types.items), reader.old.types.items ++ written ∷ [], token_views reader.old.rest.now)) }
 {
-    let place = types.len();
-    types.push(written)?;
-    Ok((Part::Place(place), rest))
+    let place = reader.types.len();
+    reader.types.push(written)?;
+    Ok(Part::Place(place))
 }
 
 /// A name that stands as a type.
-pub(crate) fn named_of<'t, 'a>(
-    alloc: Global,
-    types: &mut Vec<Written>,
-    tokens: &'t [Token<'a>],
-) -> Result<(Part, &'t [Token<'a>]), ReadError>
-    ensures { Gives (λ x. (x.0, types.new.items, token_views x.1.now)) result (named_at types.old.items (token_views tokens.now)) }
+pub(crate) fn named_of(reader: &mut Reader<'_, '_>) -> Result<Part, ReadError>
+    ensures { Gives (λ x. (x, reader.new.types.items, token_views reader.new.rest.now)) result (named_at reader.old.types.items (token_views reader.old.rest.now)) }
 {
+    let tokens = reader.rest;
     match tokens {
         [] => Err(ReadError::Refused),
         [first, rest @ ..] => {
-            let name = name_of(alloc, first)?;
-            Ok((Part::Name(name), rest))
+            reader.rest = rest;
+            match name_of(reader.alloc, first) {
+                Ok(name) => Ok(Part::Name(name)),
+                Err(e) => Err(e),
+            }
         }
     }
 }
@@ -60,92 +64,123 @@ fn first_note(tokens: &[Token<'_>]) -> Option<u8>
 }
 
 // The annotations that stand first.
-fn notes_of<'t, 'a>(
-    alloc: Global,
-    tokens: &'t [Token<'a>],
-) -> Result<(Bytes, &'t [Token<'a>]), ReadError>
-    ensures { Gives (λ x. (x.0, token_views x.1.now)) result (Some (notes_at (token_views tokens.now))) }
+fn notes_of(reader: &mut Reader<'_, '_>) -> Result<Bytes, ReadError>
+    ensures notes { Gives (λ x. (x, token_views reader.new.rest.now)) result (Some (notes_at (token_views reader.old.rest.now))) }
+    ensures types { reader.new.types.items ≡ reader.old.types.items }
 {
-    let mut notes = Vec::new(alloc);
-    let mut rest = tokens;
-    while let Some(note) = first_note(rest) {
+    let mut notes = Vec::new(reader.alloc);
+    while let Some(note) = first_note(reader.rest) {
         notes.push(note)?;
-        rest = rest_of(rest);
+        reader.rest = rest_of(reader.rest);
     }
-    Ok((Bytes { items: notes }, rest))
+    Ok(Bytes { items: notes })
 }
 
-// The id behind that of a field.
-fn id_after(id: u64) -> u64
-    requires { suc id < 2 ^ 64 }
-    ensures { result ≡ suc id }
+// A function type behind its results: the annotations.
+fn noted(reader: &mut Reader<'_, '_>, args: Parts, results: Parts) -> Result<Part, ReadError>
+    ensures { Gives (λ x. (x, reader.new.types.items, token_views reader.new.rest.now)) result (noted args (results, reader.old.types.items, token_views reader.old.rest.now)) }
 {
-    id + 1
+    match notes_of(reader) {
+        Ok(notes) => {
+            let written = Written::Func {
+                args,
+                results,
+                notes,
+            };
+            add(reader, written)
+        }
+        Err(e) => Err(e),
+    }
+}
+
+// Which rows stand between braces: the fields of a record, or the cases of a variant.
+#[derive(Clone, Copy)]
+enum Rows {
+    Fields,
+    Cases,
+}
+
+fn rows_made(rows: Rows, items: WrittenFields) -> Written
+    ensures { result ≡ rows_made rows items }
+{
+    match rows {
+        Rows::Fields => Written::Rec(items),
+        Rows::Cases => Written::Var(items),
+    }
+}
+
+// The id of a field behind one with this id. No case goes by it.
+fn id_after(rows: Rows, id: u64) -> u64
+    requires { suc id < 2 ^ 64 }
+    ensures { result ≡ id_after rows id }
+{
+    match rows {
+        Rows::Fields => id + 1,
+        Rows::Cases => 0,
+    }
+}
+
+// A case that is a label alone: its type is null.
+fn lone_case(reader: &mut Reader<'_, '_>, label: &Token<'_>) -> Result<(u64, Part), ReadError>
+    ensures value { Gives (λ x. (x, reader.new.types.items, token_views reader.new.rest.now)) result (lone_case (token_view label.now) reader.old.types.items (token_views reader.old.rest.now)) }
+    ensures bound { IfOk result (λ x. x.0 < 2 ^ 32) }
+{
+    match label_of(reader.alloc, label) {
+        Ok(id) => Ok((u64::from(id), Part::Prim(Primitive::Null))),
+        Err(e) => Err(e),
+    }
 }
 
 /// A type, within so many levels.
 #[cycle(reader)]
 #[tactic(auto, unfolding(crate::specs::Read::type_at))]
-pub(crate) fn type_of<'t, 'a>(
-    alloc: Global,
-    depth: u32,
-    types: &mut Vec<Written>,
-    tokens: &'t [Token<'a>],
-) -> Result<(Part, &'t [Token<'a>]), ReadError>
-    ensures { Gives (λ x. (x.0, types.new.items, token_views x.1.now)) result (type_at depth types.old.items (token_views tokens.now)) }
+pub(crate) fn type_of(reader: &mut Reader<'_, '_>, depth: u32) -> Result<Part, ReadError>
+    ensures { Gives (λ x. (x, reader.new.types.items, token_views reader.new.rest.now)) result (type_at depth reader.old.types.items (token_views reader.old.rest.now)) }
 {
     if depth == 0 {
         return Err(ReadError::Refused);
     }
-    match first_word(tokens) {
-        None => named_of(alloc, types, tokens),
-        Some(word) => behind_word(alloc, depth - 1, word, types, rest_of(tokens)),
+    match first_word(reader.rest) {
+        None => named_of(reader),
+        Some(word) => {
+            reader.rest = rest_of(reader.rest);
+            behind_word(reader, depth - 1, word)
+        }
     }
 }
 
 #[cycle(reader)]
 #[tactic(auto, unfolding(crate::specs::Read::method_type_at))]
-fn method_type_of<'t, 'a>(
-    alloc: Global,
-    depth: u32,
-    types: &mut Vec<Written>,
-    tokens: &'t [Token<'a>],
-) -> Result<(Part, &'t [Token<'a>]), ReadError>
-    ensures { Gives (λ x. (x.0, types.new.items, token_views x.1.now)) result (method_type_at depth types.old.items (token_views tokens.now)) }
+fn method_type_of(reader: &mut Reader<'_, '_>, depth: u32) -> Result<Part, ReadError>
+    ensures { Gives (λ x. (x, reader.new.types.items, token_views reader.new.rest.now)) result (method_type_at depth reader.old.types.items (token_views reader.old.rest.now)) }
 {
     if depth == 0 {
         return Err(ReadError::Refused);
     }
-    if starts_mark(tokens, b'(') {
-        function_of(alloc, depth - 1, types, tokens)
+    if starts_mark(reader.rest, b'(') {
+        function_of(reader, depth - 1)
     } else {
-        named_of(alloc, types, tokens)
+        named_of(reader)
     }
 }
 
 // A type behind its word.
 #[cycle(reader)]
 #[tactic(auto, unfolding(crate::specs::Read::behind_word_at))]
-fn behind_word<'t, 'a>(
-    alloc: Global,
-    depth: u32,
-    word: Word,
-    types: &mut Vec<Written>,
-    tokens: &'t [Token<'a>],
-) -> Result<(Part, &'t [Token<'a>]), ReadError>
-    ensures { Gives (λ x. (x.0, types.new.items, token_views x.1.now)) result (behind_word_at (type_at depth) (method_type_at depth) word types.old.items (token_views tokens.now)) }
+fn behind_word(reader: &mut Reader<'_, '_>, depth: u32, word: Word) -> Result<Part, ReadError>
+    ensures { Gives (λ x. (x, reader.new.types.items, token_views reader.new.rest.now)) result (behind_word_at (type_at depth) (method_type_at depth) word reader.old.types.items (token_views reader.old.rest.now)) }
 {
     match word {
-        Word::Prim(prim) => Ok((Part::Prim(prim), tokens)),
-        Word::Float32 => Ok((Part::Float, tokens)),
-        Word::Float64 => Ok((Part::Float, tokens)),
-        Word::Blob => add(types, Written::Seq(Part::Prim(Primitive::Nat8)), tokens),
-        Word::Opt => opt_of(alloc, depth, types, tokens),
-        Word::Seq => vec_of(alloc, depth, types, tokens),
-        Word::Rec => record_of(alloc, depth, types, tokens),
-        Word::Var => variant_of(alloc, depth, types, tokens),
-        Word::Func => function_of(alloc, depth, types, tokens),
-        Word::Service => service_of(alloc, depth, types, tokens),
+        Word::Prim(prim) => Ok(Part::Prim(prim)),
+        Word::Float32 => Ok(Part::Float),
+        Word::Float64 => Ok(Part::Float),
+        Word::Blob => add(reader, Written::Seq(Part::Prim(Primitive::Nat8))),
+        Word::Opt => opt_of(reader, depth),
+        Word::Seq => vec_of(reader, depth),
+        Word::Rec => rows_of(reader, depth, Rows::Fields),
+        Word::Var => rows_of(reader, depth, Rows::Cases),
+        Word::Func => function_of(reader, depth),
+        Word::Service => service_of(reader, depth),
         Word::Definition => Err(ReadError::Refused),
         Word::Query => Err(ReadError::Refused),
         Word::Oneway => Err(ReadError::Refused),
@@ -154,350 +189,361 @@ fn behind_word<'t, 'a>(
 }
 
 #[cycle(reader)]
-fn opt_of<'t, 'a>(
-    alloc: Global,
-    depth: u32,
-    types: &mut Vec<Written>,
-    tokens: &'t [Token<'a>],
-) -> Result<(Part, &'t [Token<'a>]), ReadError>
-    ensures { Gives (λ x. (x.0, types.new.items, token_views x.1.now)) result (inner_at (type_at depth) (λ t. Opt t) types.old.items (token_views tokens.now)) }
+fn opt_of(reader: &mut Reader<'_, '_>, depth: u32) -> Result<Part, ReadError>
+    ensures { Gives (λ x. (x, reader.new.types.items, token_views reader.new.rest.now)) result (inner_at (type_at depth) (λ t. Opt t) reader.old.types.items (token_views reader.old.rest.now)) }
 {
-    let (inner, rest) = type_of(alloc, depth, types, tokens)?;
-    add(types, Written::Opt(inner), rest)
+    match type_of(reader, depth) {
+        Ok(inner) => add(reader, Written::Opt(inner)),
+        Err(e) => Err(e),
+    }
 }
 
 #[cycle(reader)]
-fn vec_of<'t, 'a>(
-    alloc: Global,
-    depth: u32,
-    types: &mut Vec<Written>,
-    tokens: &'t [Token<'a>],
-) -> Result<(Part, &'t [Token<'a>]), ReadError>
-    ensures { Gives (λ x. (x.0, types.new.items, token_views x.1.now)) result (inner_at (type_at depth) (λ t. Seq t) types.old.items (token_views tokens.now)) }
+fn vec_of(reader: &mut Reader<'_, '_>, depth: u32) -> Result<Part, ReadError>
+    ensures { Gives (λ x. (x, reader.new.types.items, token_views reader.new.rest.now)) result (inner_at (type_at depth) (λ t. Seq t) reader.old.types.items (token_views reader.old.rest.now)) }
 {
-    let (inner, rest) = type_of(alloc, depth, types, tokens)?;
-    add(types, Written::Seq(inner), rest)
+    match type_of(reader, depth) {
+        Ok(inner) => add(reader, Written::Seq(inner)),
+        Err(e) => Err(e),
+    }
 }
 
+// A record or a variant behind its word.
 #[cycle(reader)]
-fn record_of<'t, 'a>(
-    alloc: Global,
-    depth: u32,
-    types: &mut Vec<Written>,
-    tokens: &'t [Token<'a>],
-) -> Result<(Part, &'t [Token<'a>]), ReadError>
-    ensures { Gives (λ x. (x.0, types.new.items, token_views x.1.now)) result (fields_at (field_at (type_at depth)) after_field (λ fs. Rec fs) types.old.items (token_views tokens.now)) }
+fn rows_of(reader: &mut Reader<'_, '_>, depth: u32, rows: Rows) -> Result<Part, ReadError>
+    ensures { Gives (λ x. (x, reader.new.types.items, token_views reader.new.rest.now)) result (fields_at (row_at rows (type_at depth)) (after_row rows) (rows_made rows) reader.old.types.items (token_views reader.old.rest.now)) }
 {
-    if !starts_mark(tokens, b'{') {
+    if !starts_mark(reader.rest, b'{') {
         return Err(ReadError::Refused);
     }
-    let (items, rest) = fields_of(alloc, depth, tokens.len(), types, rest_of(tokens))?;
-    add(types, Written::Rec(WrittenFields { items }), rest)
-}
-
-#[cycle(reader)]
-fn variant_of<'t, 'a>(
-    alloc: Global,
-    depth: u32,
-    types: &mut Vec<Written>,
-    tokens: &'t [Token<'a>],
-) -> Result<(Part, &'t [Token<'a>]), ReadError>
-    ensures { Gives (λ x. (x.0, types.new.items, token_views x.1.now)) result (fields_at (case_at (type_at depth)) no_place (λ fs. Var fs) types.old.items (token_views tokens.now)) }
-{
-    if !starts_mark(tokens, b'{') {
-        return Err(ReadError::Refused);
+    let most = reader.rest.len();
+    reader.rest = rest_of(reader.rest);
+    let mut items = Vec::new(reader.alloc);
+    match add_rows(reader, depth, rows, most, &mut items) {
+        Ok(()) => add(reader, rows_made(rows, WrittenFields { items })),
+        Err(e) => Err(e),
     }
-    let (items, rest) = cases_of(alloc, depth, tokens.len(), types, rest_of(tokens))?;
-    add(types, Written::Var(WrittenFields { items }), rest)
 }
 
-// The fields of a record, behind its brace.
+// The fields or cases behind the brace.
 #[cycle(reader)]
-fn fields_of<'t, 'a>(
-    alloc: Global,
+fn add_rows(
+    reader: &mut Reader<'_, '_>,
     depth: u32,
+    rows: Rows,
     most: usize,
-    types: &mut Vec<Written>,
-    tokens: &'t [Token<'a>],
-) -> Result<(Vec<(u64, Part)>, &'t [Token<'a>]), ReadError>
-    requires { most < 2 ^ 63 }
-    ensures { Gives (λ x. (x.0.items, types.new.items, token_views x.1.now)) result (parts_at 59 125 (field_at (type_at depth)) after_field most 0 types.old.items (token_views tokens.now)) }
+    items: &mut Vec<(u64, Part)>,
+) -> Result<(), ReadError>
+    requires most { most < 2 ^ 63 }
+    requires empty { items.old.items ≡ [] }
+    ensures { Gives (λ done. (items.new.items, reader.new.types.items, token_views reader.new.rest.now)) result (parts_at 59 125 (row_at rows (type_at depth)) (after_row rows) most 0 reader.old.types.items (token_views reader.old.rest.now)) }
 {
-    let mut fields = Vec::new(alloc);
     let mut next: u64 = 0;
-    let mut rest = tokens;
     for _ in 0..most {
-        if starts_mark(rest, b'}') {
-            return Ok((fields, rest_of(rest)));
+        if starts_mark(reader.rest, b'}') {
+            reader.rest = rest_of(reader.rest);
+            return Ok(());
         }
-        let (field, after) = field_of(alloc, depth, next, types, rest)?;
-        let id = field.0;
-        fields.push(field)?;
-        if starts_mark(after, b'}') {
-            return Ok((fields, rest_of(after)));
+        next = add_row(reader, depth, rows, next, items)?;
+        if starts_mark(reader.rest, b'}') {
+            reader.rest = rest_of(reader.rest);
+            return Ok(());
         }
-        if !starts_mark(after, b';') {
+        if !starts_mark(reader.rest, b';') {
             return Err(ReadError::Refused);
         }
-        next = id_after(id);
-        rest = rest_of(after);
+        reader.rest = rest_of(reader.rest);
     }
     Err(ReadError::Refused)
 }
 
-// The cases of a variant, behind its brace.
+// One field or case more: the id behind it.
 #[cycle(reader)]
-fn cases_of<'t, 'a>(
-    alloc: Global,
+fn add_row(
+    reader: &mut Reader<'_, '_>,
     depth: u32,
-    most: usize,
-    types: &mut Vec<Written>,
-    tokens: &'t [Token<'a>],
-) -> Result<(Vec<(u64, Part)>, &'t [Token<'a>]), ReadError>
-    ensures { Gives (λ x. (x.0.items, types.new.items, token_views x.1.now)) result (parts_at 59 125 (case_at (type_at depth)) no_place most 0 types.old.items (token_views tokens.now)) }
+    rows: Rows,
+    next: u64,
+    items: &mut Vec<(u64, Part)>,
+) -> Result<u64, ReadError>
+    requires { suc next < 2 ^ 64 }
+    ensures value { Gives (λ x. (items.new.items, x, reader.new.types.items, token_views reader.new.rest.now)) result (with_part (after_row rows) items.old.items (row_at rows (type_at depth) next reader.old.types.items (token_views reader.old.rest.now))) }
+    ensures bound { IfOk result (λ x. (x ≤ 2 ^ 32) ⊎ (x ≤ suc next)) }
 {
-    let mut cases = Vec::new(alloc);
-    let mut rest = tokens;
-    for _ in 0..most {
-        if starts_mark(rest, b'}') {
-            return Ok((cases, rest_of(rest)));
+    match row_of(reader, depth, rows, next) {
+        Ok(row) => {
+            let id = id_after(rows, row.0);
+            items.push(row)?;
+            Ok(id)
         }
-        let (case, after) = case_of(alloc, depth, types, rest)?;
-        cases.push(case)?;
-        if starts_mark(after, b'}') {
-            return Ok((cases, rest_of(after)));
-        }
-        if !starts_mark(after, b';') {
-            return Err(ReadError::Refused);
-        }
-        rest = rest_of(after);
+        Err(e) => Err(e),
     }
-    Err(ReadError::Refused)
+}
+
+// A field: a label, `:` and a type, or a type alone. A case: a label, and `:` and a type, or null
+// where nothing is written.
+#[cycle(reader)]
+fn row_of(
+    reader: &mut Reader<'_, '_>,
+    depth: u32,
+    rows: Rows,
+    next: u64,
+) -> Result<(u64, Part), ReadError>
+    ensures value { Gives (λ x. (x, reader.new.types.items, token_views reader.new.rest.now)) result (row_at rows (type_at depth) next reader.old.types.items (token_views reader.old.rest.now)) }
+    ensures bound { IfOk result (λ x. (x.0 < 2 ^ 32) ⊎ (x.0 ≡ next)) }
+{
+    let tokens = reader.rest;
+    match tokens {
+        [] => Err(ReadError::Refused),
+        [first, rest @ ..] => {
+            if starts_mark(rest, b':') {
+                reader.rest = rest_of(rest);
+                return labelled_of(reader, depth, first);
+            }
+            match rows {
+                Rows::Fields => typed_of(reader, depth, next),
+                Rows::Cases => {
+                    reader.rest = rest;
+                    lone_case(reader, first)
+                }
+            }
+        }
+    }
 }
 
 // A type behind its label and a colon.
 #[cycle(reader)]
-fn labelled_of<'t, 'a>(
-    alloc: Global,
+fn labelled_of(
+    reader: &mut Reader<'_, '_>,
     depth: u32,
     label: &Token<'_>,
-    types: &mut Vec<Written>,
-    tokens: &'t [Token<'a>],
-) -> Result<((u64, Part), &'t [Token<'a>]), ReadError>
-    ensures value { Gives (λ x. (x.0, types.new.items, token_views x.1.now)) result (labelled_at (type_at depth) (token_view label.now) types.old.items (token_views tokens.now)) }
-    ensures bound { IfOk result (λ x. x.0.0 < 2 ^ 32) }
+) -> Result<(u64, Part), ReadError>
+    ensures value { Gives (λ x. (x, reader.new.types.items, token_views reader.new.rest.now)) result (labelled_at (type_at depth) (token_view label.now) reader.old.types.items (token_views reader.old.rest.now)) }
+    ensures bound { IfOk result (λ x. x.0 < 2 ^ 32) }
 {
-    let id = label_of(alloc, label)?;
-    let (part, rest) = type_of(alloc, depth, types, tokens)?;
-    Ok(((u64::from(id), part), rest))
-}
-
-// A field: a label, `:` and a type, or a type alone.
-#[cycle(reader)]
-fn field_of<'t, 'a>(
-    alloc: Global,
-    depth: u32,
-    next: u64,
-    types: &mut Vec<Written>,
-    tokens: &'t [Token<'a>],
-) -> Result<((u64, Part), &'t [Token<'a>]), ReadError>
-    ensures value { Gives (λ x. (x.0, types.new.items, token_views x.1.now)) result (field_at (type_at depth) next types.old.items (token_views tokens.now)) }
-    ensures bound { IfOk result (λ x. (x.0.0 < 2 ^ 32) ⊎ (x.0.0 ≡ next)) }
-{
-    match tokens {
-        [] => Err(ReadError::Refused),
-        [first, rest @ ..] => {
-            if starts_mark(rest, b':') {
-                return labelled_of(alloc, depth, first, types, rest_of(rest));
-            }
-            let (part, rest) = type_of(alloc, depth, types, tokens)?;
-            Ok(((next, part), rest))
-        }
+    match label_of(reader.alloc, label) {
+        Ok(id) => typed_of(reader, depth, u64::from(id)),
+        Err(e) => Err(e),
     }
 }
 
-// A case: a label, and `:` and a type, or null where nothing is written.
+// A type with its id.
 #[cycle(reader)]
-fn case_of<'t, 'a>(
-    alloc: Global,
-    depth: u32,
-    types: &mut Vec<Written>,
-    tokens: &'t [Token<'a>],
-) -> Result<((u64, Part), &'t [Token<'a>]), ReadError>
-    ensures { Gives (λ x. (x.0, types.new.items, token_views x.1.now)) result (case_at (type_at depth) 0 types.old.items (token_views tokens.now)) }
+fn typed_of(reader: &mut Reader<'_, '_>, depth: u32, id: u64) -> Result<(u64, Part), ReadError>
+    ensures value { Gives (λ x. (x, reader.new.types.items, token_views reader.new.rest.now)) result (then_make (λ part. (id, part)) (type_at depth reader.old.types.items (token_views reader.old.rest.now))) }
+    ensures id { IfOk result (λ x. x.0 ≡ id) }
 {
-    match tokens {
-        [] => Err(ReadError::Refused),
-        [first, rest @ ..] => {
-            if starts_mark(rest, b':') {
-                return labelled_of(alloc, depth, first, types, rest_of(rest));
-            }
-            let id = label_of(alloc, first)?;
-            Ok(((u64::from(id), Part::Prim(Primitive::Null)), rest))
-        }
+    match type_of(reader, depth) {
+        Ok(part) => Ok((id, part)),
+        Err(e) => Err(e),
     }
 }
 
 /// The types of a tuple, within so many levels.
 #[cycle(reader)]
-pub(crate) fn tuple_of<'t, 'a>(
-    alloc: Global,
-    depth: u32,
-    types: &mut Vec<Written>,
-    tokens: &'t [Token<'a>],
-) -> Result<(Vec<Part>, &'t [Token<'a>]), ReadError>
-    ensures { Gives (λ x. (x.0.items, types.new.items, token_views x.1.now)) result (tuple_at (type_at depth) types.old.items (token_views tokens.now)) }
+pub(crate) fn tuple_of(reader: &mut Reader<'_, '_>, depth: u32) -> Result<Vec<Part>, ReadError>
+    ensures { Gives (λ x. (x.items, reader.new.types.items, token_views reader.new.rest.now)) result (tuple_at (type_at depth) reader.old.types.items (token_views reader.old.rest.now)) }
 {
-    if !starts_mark(tokens, b'(') {
+    if !starts_mark(reader.rest, b'(') {
         return Err(ReadError::Refused);
     }
-    arguments_of(alloc, depth, tokens.len(), types, rest_of(tokens))
+    let most = reader.rest.len();
+    reader.rest = rest_of(reader.rest);
+    let mut items = Vec::new(reader.alloc);
+    match add_arguments(reader, depth, most, &mut items) {
+        Ok(()) => Ok(items),
+        Err(e) => Err(e),
+    }
 }
 
 // The types of a tuple, behind its parenthesis.
 #[cycle(reader)]
-fn arguments_of<'t, 'a>(
-    alloc: Global,
+fn add_arguments(
+    reader: &mut Reader<'_, '_>,
     depth: u32,
     most: usize,
-    types: &mut Vec<Written>,
-    tokens: &'t [Token<'a>],
-) -> Result<(Vec<Part>, &'t [Token<'a>]), ReadError>
-    ensures { Gives (λ x. (x.0.items, types.new.items, token_views x.1.now)) result (parts_at 44 41 (argument_at (type_at depth)) no_place most 0 types.old.items (token_views tokens.now)) }
+    parts: &mut Vec<Part>,
+) -> Result<(), ReadError>
+    requires { parts.old.items ≡ [] }
+    ensures { Gives (λ done. (parts.new.items, reader.new.types.items, token_views reader.new.rest.now)) result (parts_at 44 41 (argument_at (type_at depth)) no_place most 0 reader.old.types.items (token_views reader.old.rest.now)) }
 {
-    let mut parts = Vec::new(alloc);
-    let mut rest = tokens;
     for _ in 0..most {
-        if starts_mark(rest, b')') {
-            return Ok((parts, rest_of(rest)));
+        if starts_mark(reader.rest, b')') {
+            reader.rest = rest_of(reader.rest);
+            return Ok(());
         }
-        let (part, after) = argument_of(alloc, depth, types, rest)?;
-        parts.push(part)?;
-        if starts_mark(after, b')') {
-            return Ok((parts, rest_of(after)));
+        add_argument(reader, depth, parts)?;
+        if starts_mark(reader.rest, b')') {
+            reader.rest = rest_of(reader.rest);
+            return Ok(());
         }
-        if !starts_mark(after, b',') {
+        if !starts_mark(reader.rest, b',') {
             return Err(ReadError::Refused);
         }
-        rest = rest_of(after);
+        reader.rest = rest_of(reader.rest);
     }
     Err(ReadError::Refused)
 }
 
+#[cycle(reader)]
+fn add_argument(
+    reader: &mut Reader<'_, '_>,
+    depth: u32,
+    parts: &mut Vec<Part>,
+) -> Result<(), ReadError>
+    ensures { Gives (λ done. (parts.new.items, 0, reader.new.types.items, token_views reader.new.rest.now)) result (with_part no_place parts.old.items (argument_at (type_at depth) 0 reader.old.types.items (token_views reader.old.rest.now))) }
+{
+    match argument_of(reader, depth) {
+        Ok(part) => {
+            parts.push(part)?;
+            Ok(())
+        }
+        Err(e) => Err(e),
+    }
+}
+
 // A type of a tuple, maybe behind a name and `:`.
 #[cycle(reader)]
-fn argument_of<'t, 'a>(
-    alloc: Global,
-    depth: u32,
-    types: &mut Vec<Written>,
-    tokens: &'t [Token<'a>],
-) -> Result<(Part, &'t [Token<'a>]), ReadError>
-    ensures { Gives (λ x. (x.0, types.new.items, token_views x.1.now)) result (argument_at (type_at depth) 0 types.old.items (token_views tokens.now)) }
+fn argument_of(reader: &mut Reader<'_, '_>, depth: u32) -> Result<Part, ReadError>
+    ensures { Gives (λ x. (x, reader.new.types.items, token_views reader.new.rest.now)) result (argument_at (type_at depth) 0 reader.old.types.items (token_views reader.old.rest.now)) }
 {
+    let tokens = reader.rest;
     match tokens {
         [] => Err(ReadError::Refused),
         [first, rest @ ..] => {
             if !starts_mark(rest, b':') {
-                return type_of(alloc, depth, types, tokens);
+                return type_of(reader, depth);
             }
-            let _name = name_of(alloc, first)?;
-            type_of(alloc, depth, types, rest_of(rest))
+            reader.rest = rest_of(rest);
+            match name_of(reader.alloc, first) {
+                Ok(_name) => type_of(reader, depth),
+                Err(e) => Err(e),
+            }
         }
     }
 }
 
 // A function type: arguments, `->`, results and annotations.
 #[cycle(reader)]
-fn function_of<'t, 'a>(
-    alloc: Global,
-    depth: u32,
-    types: &mut Vec<Written>,
-    tokens: &'t [Token<'a>],
-) -> Result<(Part, &'t [Token<'a>]), ReadError>
-    ensures { Gives (λ x. (x.0, types.new.items, token_views x.1.now)) result (function_at (type_at depth) types.old.items (token_views tokens.now)) }
+fn function_of(reader: &mut Reader<'_, '_>, depth: u32) -> Result<Part, ReadError>
+    ensures { Gives (λ x. (x, reader.new.types.items, token_views reader.new.rest.now)) result (function_at (type_at depth) reader.old.types.items (token_views reader.old.rest.now)) }
 {
-    let (args, rest) = tuple_of(alloc, depth, types, tokens)?;
-    if !starts_arrow(rest) {
+    match tuple_of(reader, depth) {
+        Ok(items) => results_of(reader, depth, Parts { items }),
+        Err(e) => Err(e),
+    }
+}
+
+// A function type behind its arguments.
+#[cycle(reader)]
+fn results_of(reader: &mut Reader<'_, '_>, depth: u32, args: Parts) -> Result<Part, ReadError>
+    ensures { Gives (λ x. (x, reader.new.types.items, token_views reader.new.rest.now)) result (results_at (type_at depth) (args, reader.old.types.items, token_views reader.old.rest.now)) }
+{
+    if !starts_arrow(reader.rest) {
         return Err(ReadError::Refused);
     }
-    let (results, rest) = tuple_of(alloc, depth, types, rest_of(rest))?;
-    let (notes, rest) = notes_of(alloc, rest)?;
-    let args = Parts { items: args };
-    let results = Parts { items: results };
-    let written = Written::Func {
-        args,
-        results,
-        notes,
-    };
-    add(types, written, rest)
+    reader.rest = rest_of(reader.rest);
+    match tuple_of(reader, depth) {
+        Ok(items) => noted(reader, args, Parts { items }),
+        Err(e) => Err(e),
+    }
 }
 
 /// A service behind its word: methods whose types have so many levels.
 #[cycle(reader)]
-pub(crate) fn service_of<'t, 'a>(
-    alloc: Global,
-    depth: u32,
-    types: &mut Vec<Written>,
-    tokens: &'t [Token<'a>],
-) -> Result<(Part, &'t [Token<'a>]), ReadError>
-    ensures { Gives (λ x. (x.0, types.new.items, token_views x.1.now)) result (service_at (method_type_at depth) types.old.items (token_views tokens.now)) }
+pub(crate) fn service_of(reader: &mut Reader<'_, '_>, depth: u32) -> Result<Part, ReadError>
+    ensures { Gives (λ x. (x, reader.new.types.items, token_views reader.new.rest.now)) result (service_at (method_type_at depth) reader.old.types.items (token_views reader.old.rest.now)) }
 {
-    if !starts_mark(tokens, b'{') {
+    if !starts_mark(reader.rest, b'{') {
         return Err(ReadError::Refused);
     }
-    let (items, rest) = methods_of(alloc, depth, tokens.len(), types, rest_of(tokens))?;
-    add(types, Written::Service(WrittenMethods { items }), rest)
+    let most = reader.rest.len();
+    reader.rest = rest_of(reader.rest);
+    let mut items = Vec::new(reader.alloc);
+    match add_methods(reader, depth, most, &mut items) {
+        Ok(()) => add(reader, Written::Service(WrittenMethods { items })),
+        Err(e) => Err(e),
+    }
 }
 
 // The methods of a service, behind its brace.
 #[cycle(reader)]
-fn methods_of<'t, 'a>(
-    alloc: Global,
+fn add_methods(
+    reader: &mut Reader<'_, '_>,
     depth: u32,
     most: usize,
-    types: &mut Vec<Written>,
-    tokens: &'t [Token<'a>],
-) -> Result<(Vec<(Text, Part)>, &'t [Token<'a>]), ReadError>
-    ensures { Gives (λ x. (x.0.items, types.new.items, token_views x.1.now)) result (parts_at 59 125 (method_at (method_type_at depth)) no_place most 0 types.old.items (token_views tokens.now)) }
+    methods: &mut Vec<(Text, Part)>,
+) -> Result<(), ReadError>
+    requires { methods.old.items ≡ [] }
+    ensures { Gives (λ done. (methods.new.items, reader.new.types.items, token_views reader.new.rest.now)) result (parts_at 59 125 (method_at (method_type_at depth)) no_place most 0 reader.old.types.items (token_views reader.old.rest.now)) }
 {
-    let mut methods = Vec::new(alloc);
-    let mut rest = tokens;
     for _ in 0..most {
-        if starts_mark(rest, b'}') {
-            return Ok((methods, rest_of(rest)));
+        if starts_mark(reader.rest, b'}') {
+            reader.rest = rest_of(reader.rest);
+            return Ok(());
         }
-        let (method, after) = method_of(alloc, depth, types, rest)?;
-        methods.push(method)?;
-        if starts_mark(after, b'}') {
-            return Ok((methods, rest_of(after)));
+        add_method(reader, depth, methods)?;
+        if starts_mark(reader.rest, b'}') {
+            reader.rest = rest_of(reader.rest);
+            return Ok(());
         }
-        if !starts_mark(after, b';') {
+        if !starts_mark(reader.rest, b';') {
             return Err(ReadError::Refused);
         }
-        rest = rest_of(after);
+        reader.rest = rest_of(reader.rest);
     }
     Err(ReadError::Refused)
 }
 
+#[cycle(reader)]
+fn add_method(
+    reader: &mut Reader<'_, '_>,
+    depth: u32,
+    methods: &mut Vec<(Text, Part)>,
+) -> Result<(), ReadError>
+    ensures { Gives (λ done. (methods.new.items, 0, reader.new.types.items, token_views reader.new.rest.now)) result (with_part no_place methods.old.items (method_at (method_type_at depth) 0 reader.old.types.items (token_views reader.old.rest.now))) }
+{
+    match method_of(reader, depth) {
+        Ok(method) => {
+            methods.push(method)?;
+            Ok(())
+        }
+        Err(e) => Err(e),
+    }
+}
+
 // A method: its name, `:` and its type.
 #[cycle(reader)]
-fn method_of<'t, 'a>(
-    alloc: Global,
-    depth: u32,
-    types: &mut Vec<Written>,
-    tokens: &'t [Token<'a>],
-) -> Result<((Text, Part), &'t [Token<'a>]), ReadError>
-    ensures { Gives (λ x. (x.0, types.new.items, token_views x.1.now)) result (method_at (method_type_at depth) 0 types.old.items (token_views tokens.now)) }
+fn method_of(reader: &mut Reader<'_, '_>, depth: u32) -> Result<(Text, Part), ReadError>
+    ensures { Gives (λ x. (x, reader.new.types.items, token_views reader.new.rest.now)) result (method_at (method_type_at depth) 0 reader.old.types.items (token_views reader.old.rest.now)) }
 {
+    let tokens = reader.rest;
     match tokens {
         [] => Err(ReadError::Refused),
         [first, rest @ ..] => {
             if !starts_mark(rest, b':') {
                 return Err(ReadError::Refused);
             }
-            let name = method_name(alloc, first)?;
-            let (part, rest) = method_type_of(alloc, depth, types, rest_of(rest))?;
-            Ok(((name, part), rest))
+            reader.rest = rest_of(rest);
+            match method_name(reader.alloc, first) {
+                Ok(name) => method_named(reader, depth, name),
+                Err(e) => Err(e),
+            }
         }
+    }
+}
+
+// The method of this name: its type.
+#[cycle(reader)]
+fn method_named(
+    reader: &mut Reader<'_, '_>,
+    depth: u32,
+    name: Text,
+) -> Result<(Text, Part), ReadError>
+    ensures { Gives (λ x. (x, reader.new.types.items, token_views reader.new.rest.now)) result (then_make (λ part. (name, part)) (method_type_at depth reader.old.types.items (token_views reader.old.rest.now))) }
+{
+    match method_type_of(reader, depth) {
+        Ok(part) => Ok((name, part)),
+        Err(e) => Err(e),
     }
 }
