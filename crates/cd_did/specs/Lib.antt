@@ -11,3 +11,4 @@ pub mod Entries
 pub mod Formed
 pub mod Interfaces
 pub mod InterfaceOf
+pub mod Judges

@@ -1,17 +1,20 @@
-ghost use Rattle.std.specs.Prelude.{◌≡◌, true, IfOk, IfErr};
+ghost use Rattle.std.specs.Prelude.{◌≡◌, ◌++◌, ◌∷◌, [], true, map, IfOk, IfErr};
 ghost use Rattle.std.specs.List.{list_all};
+ghost use Rattle.cd_types.specs.declared.entry.Entry.{Entry};
+ghost use Rattle.cd_grammar.specs.declared.written.Written.TheVariants.{Rec, Var, Func, Service};
 ghost use Rattle.cd_did.specs.Faults.{is_func, is_service, type_at_place};
 ghost use Rattle.cd_did.specs.Entries.{is_method, EntryOf, EntriesOf};
 ghost use Rattle.cd_did.specs.Formed.{IsFormed, AllFormed, is_served};
 ghost use Rattle.cd_did.specs.Sorted.{Refuses};
+ghost use Rattle.cd_did.specs.Targets.{target};
 
 use crate::named::methods_of;
 use crate::names::Names;
 use crate::sorted::fields_of;
 use crate::targets::{found_of, target_of, targets_of};
-use cd_grammar::{File, Main, Part, Written};
-use cd_types::Entry;
-use ic_base::ReadError;
+use cd_grammar::{File, Main, Part, Parts, Written, WrittenFields, WrittenMethods};
+use cd_types::{Entry, TyRefs};
+use ic_base::{NoMemory, ReadError};
 use ic_principal::{Bytes, Text};
 use std::alloc::Global;
 
@@ -75,6 +78,110 @@ fn are_methods(file: &File, names: &Names<'_>, ends: &[usize], methods: &[(Text,
     true
 }
 
+fn record_of(
+    alloc: Global,
+    file: &File,
+    names: &Names<'_>,
+    ends: &[usize],
+    fields: &WrittenFields,
+) -> Result<Entry, ReadError>
+    requires { names.now ≡ file.now.definitions }
+    ensures ok { IfOk result (λ entry. EntryOf file.now ends.now (Rec fields.now) entry × IsFormed file.now ends.now (Rec fields.now)) }
+    ensures refused { IfErr result (λ e. Refuses e (IsFormed file.now ends.now (Rec fields.now) → ⊥)) }
+{
+    match fields_of(alloc, names, ends, &fields.items) {
+        Ok(fields) => Ok(Entry::Rec(fields)),
+        Err(e) => Err(e),
+    }
+}
+
+fn variant_of(
+    alloc: Global,
+    file: &File,
+    names: &Names<'_>,
+    ends: &[usize],
+    cases: &WrittenFields,
+) -> Result<Entry, ReadError>
+    requires { names.now ≡ file.now.definitions }
+    ensures ok { IfOk result (λ entry. EntryOf file.now ends.now (Var cases.now) entry × IsFormed file.now ends.now (Var cases.now)) }
+    ensures refused { IfErr result (λ e. Refuses e (IsFormed file.now ends.now (Var cases.now) → ⊥)) }
+{
+    match fields_of(alloc, names, ends, &cases.items) {
+        Ok(cases) => Ok(Entry::Var(cases)),
+        Err(e) => Err(e),
+    }
+}
+
+// The arguments and the results of a function.
+fn tuples_of(
+    alloc: Global,
+    names: &Names<'_>,
+    ends: &[usize],
+    args: &[Part],
+    results: &[Part],
+) -> Result<(TyRefs, TyRefs), NoMemory>
+    ensures { IfOk result (λ x. (x.0 ≡ map (target names.now ends.now) args.now) × (x.1 ≡ map (target names.now ends.now) results.now)) }
+{
+    match targets_of(alloc, names, ends, args) {
+        Ok(args) => match targets_of(alloc, names, ends, results) {
+            Ok(results) => Ok((args, results)),
+            Err(e) => Err(e),
+        },
+        Err(e) => Err(e),
+    }
+}
+
+// The annotations stand in the order in which they are written.
+fn func_of(
+    alloc: Global,
+    file: &File,
+    names: &Names<'_>,
+    ends: &[usize],
+    args: &Parts,
+    results: &Parts,
+    notes: &Bytes,
+) -> Result<Entry, ReadError>
+    requires { names.now ≡ file.now.definitions }
+    ensures ok { IfOk result (λ entry. EntryOf file.now ends.now (Func args.now results.now notes.now) entry × IsFormed file.now ends.now (Func args.now results.now notes.now)) }
+    ensures refused { IfErr result (λ e. Refuses e (IsFormed file.now ends.now (Func args.now results.now notes.now) → ⊥)) }
+{
+    match tuples_of(alloc, names, ends, &args.items, &results.items) {
+        Ok(tuples) => match notes.copy() {
+            Ok(notes) => {
+                let (args, results) = tuples;
+                Ok(Entry::Func {
+                    args,
+                    results,
+                    notes,
+                })
+            }
+            Err(_) => Err(ReadError::NoMemory),
+        },
+        Err(_) => Err(ReadError::NoMemory),
+    }
+}
+
+// `Refused`: the type of a method is no function, or two methods have one name.
+fn service_of(
+    alloc: Global,
+    file: &File,
+    names: &Names<'_>,
+    ends: &[usize],
+    methods: &WrittenMethods,
+) -> Result<Entry, ReadError>
+    requires { names.now ≡ file.now.definitions }
+    ensures ok { IfOk result (λ entry. EntryOf file.now ends.now (Service methods.now) entry × IsFormed file.now ends.now (Service methods.now)) }
+    ensures refused { IfErr result (λ e. Refuses e (IsFormed file.now ends.now (Service methods.now) → ⊥)) }
+{
+    if !are_methods(file, names, ends, &methods.items) {
+        return Err(ReadError::Refused);
+    }
+    match methods_of(alloc, names, ends, &methods.items) {
+        Ok(methods) => Ok(Entry::Service(methods)),
+        Err(e) => Err(e),
+    }
+}
+
 // The entry of a type. `Refused`: it has not the shape of one.
 fn entry_of(
     alloc: Global,
@@ -90,37 +197,55 @@ fn entry_of(
     match written {
         Written::Opt(part) => Ok(Entry::Opt(target_of(names, ends, part))),
         Written::Seq(part) => Ok(Entry::Seq(target_of(names, ends, part))),
-        Written::Rec(fields) => {
-            let fields = fields_of(alloc, names, ends, &fields.items)?;
-            Ok(Entry::Rec(fields))
-        }
-        Written::Var(cases) => {
-            let cases = fields_of(alloc, names, ends, &cases.items)?;
-            Ok(Entry::Var(cases))
-        }
+        Written::Rec(fields) => record_of(alloc, file, names, ends, fields),
+        Written::Var(cases) => variant_of(alloc, file, names, ends, cases),
         Written::Func {
             args,
             results,
             notes,
-        } => {
-            let args = targets_of(alloc, names, ends, &args.items)?;
-            let results = targets_of(alloc, names, ends, &results.items)?;
-            let items = Vec::from_slice(alloc, &notes.items)?;
-            let notes = Bytes { items };
-            Ok(Entry::Func {
-                args,
-                results,
-                notes,
-            })
-        }
-        Written::Service(methods) => {
-            if !are_methods(file, names, ends, &methods.items) {
-                return Err(ReadError::Refused);
-            }
-            let methods = methods_of(alloc, names, ends, &methods.items)?;
-            Ok(Entry::Service(methods))
-        }
+        } => func_of(alloc, file, names, ends, args, results, notes),
+        Written::Service(methods) => service_of(alloc, file, names, ends, methods),
     }
+}
+
+// The entry of a type is put behind the others.
+fn add_entry(
+    alloc: Global,
+    file: &File,
+    names: &Names<'_>,
+    ends: &[usize],
+    written: &Written,
+    made: &mut Vec<Entry>,
+) -> Result<(), ReadError>
+    requires { names.now ≡ file.now.definitions }
+    ensures ok { IfOk result (λ done. (entry : Entry) × (made.new.items ≡ made.old.items ++ entry ∷ []) × EntryOf file.now ends.now written.now entry × IsFormed file.now ends.now written.now) }
+    ensures refused { IfErr result (λ e. Refuses e (IsFormed file.now ends.now written.now → ⊥)) }
+{
+    match entry_of(alloc, file, names, ends, written) {
+        Ok(entry) => {
+            made.push(entry)?;
+            Ok(())
+        }
+        Err(e) => Err(e),
+    }
+}
+
+fn add_entries(
+    alloc: Global,
+    file: &File,
+    names: &Names<'_>,
+    ends: &[usize],
+    made: &mut Vec<Entry>,
+) -> Result<(), ReadError>
+    requires names { names.now ≡ file.now.definitions }
+    requires none { made.old.items ≡ [] }
+    ensures ok { IfOk result (λ done. EntriesOf file.now ends.now made.new.items × AllFormed file.now ends.now) }
+    ensures refused { IfErr result (λ e. Refuses e (AllFormed file.now ends.now → ⊥)) }
+{
+    for written in &file.types {
+        add_entry(alloc, file, names, ends, written, made)?;
+    }
+    Ok(())
 }
 
 /// The entries of all types. `Refused`: one has not the shape of a type.
@@ -134,10 +259,9 @@ pub(crate) fn entries_of(
     ensures ok { IfOk result (λ made. EntriesOf file.now ends.now made.items × AllFormed file.now ends.now) }
     ensures refused { IfErr result (λ e. Refuses e (AllFormed file.now ends.now → ⊥)) }
 {
-    let mut made = Vec::with_capacity(alloc, file.types.len())?;
-    for written in &file.types {
-        let entry = entry_of(alloc, file, names, ends, written)?;
-        made.push(entry)?;
+    let mut made = Vec::new(alloc);
+    match add_entries(alloc, file, names, ends, &mut made) {
+        Ok(()) => Ok(made),
+        Err(e) => Err(e),
     }
-    Ok(made)
 }

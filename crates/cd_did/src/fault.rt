@@ -2,7 +2,7 @@ use cd_types::{TyRef, TypeTable};
 
 /// Why a text stands for no interface. Of several reasons the first in this order is answered;
 /// `definition` is a place among the definitions of the file, counted from 0.
-#[derive(Clone, Copy, Debug, PartialEq, Eq)]
+#[derive(Clone, Copy, PartialEq, Eq)]
 pub enum DidFault {
     /// The text is no interface file, or its types nest more than 128 deep.
     NotInterface,
@@ -23,7 +23,7 @@ pub enum DidFault {
 }
 
 /// What an interface file says: its types, each where it is written, and its service, if it has one.
-#[derive(Debug, Drop)]
+#[derive(Drop)]
 pub struct Interface {
     pub table: TypeTable,
     pub service: Option<TyRef>,

@@ -4,7 +4,8 @@ ghost use Rattle.cd_grammar.specs.Grammar.{IsFile};
 ghost use Rattle.cd_did.specs.Answers.{Answers, TellsOfAFile};
 ghost use Rattle.cd_grammar.specs.Fits.{FitsFile};
 ghost use Rattle.cd_did.specs.Interfaces.{HasEnded, service_at, IsTabled, IsWithin};
-ghost use Rattle.cd_did.specs.InterfaceOf.{interface_of as made_of, interface_in, IsAnswer};
+ghost use Rattle.cd_did.specs.InterfaceOf.{interface_in, IsAnswer};
+ghost use Rattle.cd_did.specs.Judges.{Judges};
 
 use crate::entries::{entries_of, is_served};
 use crate::fault::{DidFault, Interface};
@@ -47,9 +48,7 @@ fn interface_with(
     requires names { names.now ≡ file.now.definitions }
     requires ended { HasEnded file.now ends.now }
     requires fits { FitsFile file.now }
-    ensures answers { Answers file.now result }
-    ensures made { IfOk result (λ interface. interface ≡ made_of file.now) }
-    ensures within { IfOk result IsWithin }
+    ensures { Judges file.now result }
 {
     if !is_served(file, names, ends) {
         return Err(DidFault::Shape);
@@ -66,9 +65,7 @@ fn interface_named(alloc: Global, file: &File, names: &Names<'_>) -> Result<Inte
     requires names { names.now ≡ file.now.definitions }
     requires few { length file.now.definitions < 2 ^ 32 }
     requires fits { FitsFile file.now }
-    ensures answers { Answers file.now result }
-    ensures made { IfOk result (λ interface. interface ≡ made_of file.now) }
-    ensures within { IfOk result IsWithin }
+    ensures { Judges file.now result }
 {
     match settled(alloc, file, names) {
         Ok(ends) => interface_with(alloc, file, names, &ends),
@@ -80,9 +77,7 @@ fn interface_named(alloc: Global, file: &File, names: &Names<'_>) -> Result<Inte
 fn interface_of(alloc: Global, file: &File) -> Result<Interface, DidFault>
     requires few { length file.now.definitions < 2 ^ 32 }
     requires fits { FitsFile file.now }
-    ensures answers { Answers file.now result }
-    ensures made { IfOk result (λ interface. interface ≡ made_of file.now) }
-    ensures within { IfOk result IsWithin }
+    ensures { Judges file.now result }
 {
     match Names::of(alloc, &file.definitions) {
         Ok(names) => interface_named(alloc, file, &names),

@@ -8,30 +8,25 @@ use Rattle.cd_did.proofs.Interfaces.{all_formed, all_served, answered}
 use Rattle.cd_did.proofs.Said.{interface_is}
 use Rattle.cd_did.proofs.interface.interface_with.Goals as goal
 
-pub returns-then-not-is_served-clause-answers : goal.returns-then-not-is_served-clause-answers
-returns-then-not-is_served-clause-answers c = (
-  c.requires.ended.0,
-  λ shaped.
-      let f : true ≡ false = sym (all_served c.args.file.now c.args.ends.now c.requires.ended shaped) ∙ sym c.is_served.ensures ∙ c.if-not-is_served.true in
-      absurd cc,
+pub returns-then-not-is_served : goal.returns-then-not-is_served
+returns-then-not-is_served c = (
+  (
+    c.requires.ended.0,
+    λ shaped.
+        let f : true ≡ false = sym (all_served c.args.file.now c.args.ends.now c.requires.ended shaped) ∙ sym c.is_served.ensures ∙ c.if-not-is_served.true in
+        absurd cc,
+  ),
+  tt,
+  tt,
 )
 
-pub returns-in-Ok-clause-answers : goal.returns-in-Ok-clause-answers
-returns-in-Ok-clause-answers c =
+pub returns-in-Ok : goal.returns-in-Ok
+returns-in-Ok c =
     let tabled = subst (λ (s : Option TyRef). IsTabled c.in-Ok.entries.items s c.tabled.result) c.service_of.ensures c.tabled.ensures in
-    (answered c.args.file.now c.args.ends.now c.in-Ok.entries.items c.tabled.result c.requires.ended c.requires.fits c.in-Ok.ensures.ok (sym c.is_served.ensures ∙ c.if-not-is_served.false) tabled).0
+    let own = answered c.args.file.now c.args.ends.now c.in-Ok.entries.items c.tabled.result c.requires.ended c.requires.fits c.in-Ok.ensures.ok (sym c.is_served.ensures ∙ c.if-not-is_served.false) tabled in
+    (own.0, interface_is c.args.file.now c.args.ends.now c.in-Ok.entries.items c.tabled.result c.requires.ended c.in-Ok.ensures.ok.0 tabled, own.1)
 
-pub returns-in-Ok-clause-made : goal.returns-in-Ok-clause-made
-returns-in-Ok-clause-made c =
-    let tabled = subst (λ (s : Option TyRef). IsTabled c.in-Ok.entries.items s c.tabled.result) c.service_of.ensures c.tabled.ensures in
-    interface_is c.args.file.now c.args.ends.now c.in-Ok.entries.items c.tabled.result c.requires.ended c.in-Ok.ensures.ok.0 tabled
-
-pub returns-in-Ok-clause-within : goal.returns-in-Ok-clause-within
-returns-in-Ok-clause-within c =
-    let tabled = subst (λ (s : Option TyRef). IsTabled c.in-Ok.entries.items s c.tabled.result) c.service_of.ensures c.tabled.ensures in
-    (answered c.args.file.now c.args.ends.now c.in-Ok.entries.items c.tabled.result c.requires.ended c.requires.fits c.in-Ok.ensures.ok (sym c.is_served.ensures ∙ c.if-not-is_served.false) tabled).1
-
-pub returns-in-Err-Refused-clause-answers : goal.returns-in-Err-Refused-clause-answers
-returns-in-Err-Refused-clause-answers c =
+pub returns-in-Err-Refused : goal.returns-in-Err-Refused
+returns-in-Err-Refused c =
     let never = subst (λ (e : ReadError). Refuses e (AllFormed c.args.file.now c.args.ends.now → ⊥)) c.in-Err-Refused.field-0-is c.in-Err-Refused.ensures.refused in
-    (c.requires.ended.0, λ shaped. never (all_formed c.args.file.now c.args.ends.now c.requires.ended shaped))
+    ((c.requires.ended.0, λ shaped. never (all_formed c.args.file.now c.args.ends.now c.requires.ended shaped)), tt, tt)

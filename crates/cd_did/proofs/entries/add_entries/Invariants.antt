@@ -1,5 +1,5 @@
 use Rattle.cd_did.specs.Formed.{MadeSoFar}
-use Rattle.cd_did.proofs.entries.entries_of.Given as goal
+use Rattle.cd_did.proofs.entries.add_entries.Given as goal
 
 abbrev pub invariant-loop-written : goal.invariant-loop-written
 invariant-loop-written l = MadeSoFar l.file l.ends l.written-index l.made.items
