@@ -1,5 +1,4 @@
 ghost use Rattle.std.specs.Prelude.{◌≡◌, bytes_eq, find};
-ghost use Rattle.std.specs.Option.{option_copied};
 ghost use Rattle.cd_grammar.specs.Words.{spelling, word_of, note_of};
 
 use cd_types::Primitive;
@@ -58,10 +57,15 @@ const WORDS: [Word; 29] = [
 ];
 
 // The first of the words that is written so.
-fn find_word<'a>(words: &'a [Word], bytes: &[u8]) -> Option<&'a Word>
-    ensures { option_copied result ≡ find (λ w. bytes_eq bytes.now (spelling w)) words.now }
+fn find_word(words: &[Word], bytes: &[u8]) -> Option<Word>
+    ensures { result ≡ find (λ w. bytes_eq bytes.now (spelling w)) words.now }
 {
-    words.iter().find(|word| bytes == word.spelling())
+    for word in words {
+        if bytes == word.spelling() {
+            return Some(*word);
+        }
+    }
+    None
 }
 
 impl Word {
@@ -108,10 +112,7 @@ impl Word {
     pub(crate) fn of(bytes: &[u8]) -> Option<Word>
         ensures { result ≡ word_of bytes.now }
     {
-        match find_word(&WORDS, bytes) {
-            None => None,
-            Some(word) => Some(*word),
-        }
+        find_word(&WORDS, bytes)
     }
 
     /// The annotation that the word is.
