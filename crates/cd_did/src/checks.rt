@@ -48,7 +48,12 @@ fn passes(test: Test, names: &Names<'_>, part: &Part) -> bool
 fn all_pass(test: Test, names: &Names<'_>, parts: &[Part]) -> bool
     ensures { result ≡ list_all (passes test names.now) parts.now }
 {
-    parts.iter().all(|part| passes(test, names, part))
+    for part in parts {
+        if !passes(test, names, part) {
+            return false;
+        }
+    }
+    true
 }
 
 fn fields_pass(test: Test, names: &Names<'_>, fields: &[(u64, Part)]) -> bool
@@ -91,18 +96,24 @@ fn type_passes(test: Test, names: &Names<'_>, written: &Written) -> bool
 fn types_pass(test: Test, names: &Names<'_>, types: &[Written]) -> bool
     ensures { result ≡ list_all (λ written. list_all (passes test names.now) (parts_of written)) types.now }
 {
-    types
-        .iter()
-        .all(|written| type_passes(test, names, written))
+    for written in types {
+        if !type_passes(test, names, written) {
+            return false;
+        }
+    }
+    true
 }
 
 fn definitions_pass(test: Test, names: &Names<'_>) -> bool
     ensures { result ≡ list_all (λ d. passes test names.now d.1) names.now }
 {
-    names
-        .definitions()
-        .iter()
-        .all(|definition| passes(test, names, &definition.1))
+    let definitions = names.definitions();
+    for (_, part) in definitions {
+        if !passes(test, names, part) {
+            return false;
+        }
+    }
+    true
 }
 
 fn main_passes(test: Test, names: &Names<'_>, main: &Option<Main>) -> bool
