@@ -47,7 +47,8 @@ impl Drawn {
         ensures { OnOk result (self.new ≡ draw self.old key) }
     {
         if let Some(message) = self.queues.pop(&key) {
-            self.firsts.push((key, message))?;
+            self.firsts.reserve(1)?;
+            self.firsts.push_reserved((key, message));
         }
         Ok(())
     }

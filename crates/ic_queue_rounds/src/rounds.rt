@@ -22,13 +22,6 @@ const FEW: u32 = 8;
 /// at: a script that drains after each line would else make queues at each line.
 const SHORT: usize = 64;
 
-/// A longer list is gone through where at least one of so many messages is handled: a message costs more
-/// to put into a queue and to take out than to be passed so often.
-const PASSED: u64 = 16;
-
-/// As many messages as a first phase may handle.
-const MOST: u64 = 64;
-
 /// A round over queues.
 pub fn round<R: Threads + Sync, G: Gate + Sync>(
     alloc: Global,
@@ -79,16 +72,16 @@ fn queued_rounds<R: Threads + Sync, G: Gate + Sync>(
     Ok((world, count))
 }
 
-// Whether messages are under way, but few, or few against those that a round handles.
-fn has_few_messages(world: &World, handled: u64) -> bool
+// Whether messages are under way, but few.
+fn has_few_messages(world: &World) -> bool
     ensures { result ≡ true → 0 < length world.now.messages }
 {
     let messages = world.parts().messages.items.len();
-    0 < messages && (messages <= SHORT || messages as u64 / PASSED <= handled)
+    0 < messages && messages <= SHORT
 }
 
-// Rounds over the list, as long as it is short, or each handles its share: at most `count`, and what is left
-// to do leads to the end of `count` rounds.
+// Rounds over the list, as long as it is short: at most `count`, and what is left to do leads to the end
+// of `count` rounds.
 fn short_rounds<R: Threads + Sync, G: Gate + Sync>(
     alloc: Global,
     rt: &R,
@@ -110,14 +103,12 @@ fn short_rounds<R: Threads + Sync, G: Gate + Sync>(
     ensures few { IfOk result (λ r. r.1 ≤ count) }
 {
     let mut world = world;
-    let mut handled = MOST;
     for made in 0..count {
-        if !has_few_messages(&world, handled) {
+        if !has_few_messages(&world) {
             return Ok((world, made));
         }
-        let (next, now) = round_over_list(alloc, rt, world, workers, limit, price, gate)?;
+        let (next, _) = round_over_list(alloc, rt, world, workers, limit, price, gate)?;
         world = next;
-        handled = now;
     }
     Ok((world, count))
 }

@@ -52,11 +52,12 @@ impl Dealt {
         ensures { OnOk result (self.new ≡ deal self.old (key, message)) }
     {
         if let Some(canister) = self.canisters.remove(&key) {
-            self.slots.push(Slot {
+            self.slots.reserve(1)?;
+            self.slots.push_reserved(Slot {
                 key,
                 canister,
                 message,
-            })?;
+            });
         }
         Ok(())
     }

@@ -1,4 +1,4 @@
-ghost use Rattle.std.specs.Prelude.{◌≡◌, ◌+◌, ◌-◌, ◌<◌, ◌≤◌, ◌^◌, ℕ, List, map, IfOk, vec_len};
+ghost use Rattle.std.specs.Prelude.{◌≡◌, ◌+◌, ◌-◌, ◌<◌, ◌≤◌, ◌^◌, ℕ, List, map, IfOk, OnOk, vec_len};
 ghost use Rattle.std.specs.List.{fold, AllByRecursion};
 ghost use Rattle.ic_state.specs.declared.canister.Canister.{Canister as ACanister};
 ghost use Rattle.ic_state.specs.IsCanister.{IsCanister};
@@ -19,33 +19,17 @@ use std::thread::Threads;
 
 // Puts a canister into the map; what it burned was burned.
 fn put_back(
-    parts: Parts,
+    parts: &mut Parts,
     key: Principal,
     canister: Canister,
     burned: u128,
-) -> Result<Parts, NoMemory>
-    requires room { parts.burned + burned ≤ 2 ^ 127 - 1 }
-    ensures { IfOk result (λ p. IsBack parts key canister burned p) }
+) -> Result<(), NoMemory>
+    requires room { parts.old.burned + burned ≤ 2 ^ 127 - 1 }
+    ensures { OnOk result (IsBack parts.old key canister burned parts.new) }
 {
-    let Parts {
-        mut canisters,
-        messages,
-        requests,
-        time,
-        created,
-        burned: before,
-        next_canister,
-    } = parts;
-    canisters.insert(key, canister)?;
-    Ok(Parts {
-        canisters,
-        messages,
-        requests,
-        time,
-        created,
-        burned: before + burned,
-        next_canister,
-    })
+    parts.canisters.insert(key, canister)?;
+    parts.burned += burned;
+    Ok(())
 }
 
 // Puts what came of a slot where it belongs: its canister goes back, and what it sends goes on.
@@ -64,7 +48,8 @@ fn settle(parts: Parts, turn: Turn) -> Result<Parts, NoMemory>
         burned,
         ..
     } = executed;
-    let parts = put_back(parts, key, canister, burned)?;
+    let mut parts = parts;
+    put_back(&mut parts, key, canister, burned)?;
     route(parts, &key, calls, answers)
 }
 

@@ -63,7 +63,8 @@ impl Taken {
         ensures { IfOk result (λ w. w ≡ leave self message) }
     {
         let Taken { firsts, mut left } = self;
-        left.push(message)?;
+        left.reserve(1)?;
+        left.push_reserved(message);
         Ok(Taken { firsts, left })
     }
 

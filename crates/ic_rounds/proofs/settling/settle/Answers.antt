@@ -8,13 +8,13 @@ use Rattle.ic_rounds.proofs.settling.settle.Goals as goal
 pub returns-clause-stored : goal.returns-clause-stored
 returns-clause-stored c =
     let e = c.args.turn.executed in
-    IfOk-weaker c.route.result (λ p. p ≡ sent_from c.args.turn.key e.calls e.answers c.in_ok-parts.parts) _
-    (λ p is. put-is c.args.parts c.in_ok-parts.parts p c.args.turn.key e.canister e.calls e.answers e.burned (handled_of e) refl refl refl refl c.in_ok-parts.ensures is)
+    IfOk-weaker c.route.result (λ p. p ≡ sent_from c.args.turn.key e.calls e.answers c.put_back.new.parts) _
+    (λ p is. put-is c.args.parts c.put_back.new.parts p c.args.turn.key e.canister e.calls e.answers e.burned (handled_of e) refl refl refl refl c.in_ok-put_back.ensures is)
     c.route.ensures
 
 pub returns-clause-keep : goal.returns-clause-keep
 returns-clause-keep c =
     let e = c.args.turn.executed in
-    IfOk-weaker c.route.result (λ p. p ≡ sent_from c.args.turn.key e.calls e.answers c.in_ok-parts.parts) _
-    (λ p is. keep-is c.args.parts c.in_ok-parts.parts p c.args.turn.key e.canister e.calls e.answers e.burned c.requires.keeps c.requires.keep c.in_ok-parts.ensures is)
+    IfOk-weaker c.route.result (λ p. p ≡ sent_from c.args.turn.key e.calls e.answers c.put_back.new.parts) _
+    (λ p is. keep-is c.args.parts c.put_back.new.parts p c.args.turn.key e.canister e.calls e.answers e.burned c.requires.keeps c.requires.keep c.in_ok-put_back.ensures is)
     c.route.ensures
