@@ -1,5 +1,5 @@
 -- The refusals that every method has come first, and then the method's row.
-use Rattle.std.proofs.Common.{◌≡◌, ℕ, List, Option, Some, None, refl, sym, ap, ◌∙◌, subst}
+use Rattle.std.proofs.Common.{◌≡◌, ℕ, List, Option, Some, None, refl, sym, ap, ◌∙◌}
 use Rattle.std.specs.Prelude.{Result, Ok, Err, option_map}
 use Rattle.std.specs.Map.{lookup}
 use Rattle.ic_behaviour.specs.State.{at, Canister, State}
@@ -10,40 +10,13 @@ use Rattle.ic_state.specs.Seen.{seen, state_of}
 use Rattle.ic_orders.specs.declared.demand.Demand.{Demand}
 use Rattle.ic_orders.specs.declared.denial.Denial.{Denial}
 use Rattle.ic_orders.specs.declared.denial.Denial.TheVariants.{NoCanister, NotController}
-use Rattle.ic_orders.specs.declared.denial.Unmet.{Unmet}
-use Rattle.ic_orders.specs.declared.denial.Unmet.TheVariants.{Denied, NoMemory}
-use Rattle.ic_orders.specs.Checks.{◌>>=◌, Meets, or_else, unless, target, who, known, may as may_demand, demanded, permitted, ordered}
+use Rattle.ic_orders.specs.Checks.{◌>>=◌, or_else, unless, target, who, known, may as may_demand, permitted}
 use Rattle.ic_management.specs.Moves.{Incoming}
 use Rattle.ic_management.specs.Manage.{controllers_in, ended}
 use Rattle.ic_methods.specs.declared.ending.Ending.{Ending}
-use Rattle.ic_methods.specs.Ending.{ended_by, Does}
+use Rattle.ic_methods.specs.Ending.{ended_by}
 use Rattle.ic_methods.proofs.Entries.{seen_lookup}
 use Rattle.ic_methods.proofs.Worlds.{stands}
-
-module _ (s : State) (call : Incoming) (next : Demand → Result State Denial) where
-  abbrev given : Result Demand Denial
-  given = demanded call.origin call.method call.arg
-
-  abbrev may : Demand → Result (Unit {0}) Denial
-  may d = permitted (controllers_in s) call.sender d
-
-  abbrev checked : Demand → Result Demand Denial
-  checked d = may d >>= λ u. Ok d
-
-  abbrev pub whole : Result State Denial
-  whole = ordered (controllers_in s) call.origin call.sender call.method call.arg >>= next
-
-  pub not_demanded : (e : Unmet) (t : State) → Meets {A = Demand} (Err e) given → t ≡ s → Does (Err e) call s t whole
-  not_demanded (Denied denial) t is same = (ap (λ r. (r >>= checked) >>= next) is, same)
-  not_demanded NoMemory t is same = tt
-
-  module _ (d : Demand) (is : given ≡ Ok d) where
-    pub not_permitted : (e : Unmet) (t : State) → Meets {A = Unit {0}} (Err e) (may d) → t ≡ s → Does (Err e) call s t whole
-    not_permitted (Denied denial) t refuses same = (ap (λ r. (r >>= checked) >>= next) is ∙ ap (λ r. (r >>= (λ u. Ok d)) >>= next) refuses, same)
-    not_permitted NoMemory t refuses same = tt
-
-    pub all_passed : may d ≡ Ok tt → whole ≡ next d
-    all_passed passes = ap (λ r. (r >>= checked) >>= next) is ∙ ap (λ r. (r >>= (λ u. Ok d)) >>= next) passes
 
 -- the call has ended: it is met or refused
 module _ (s t : State) (call : Incoming) (e : Ending) (row : Result State Denial) where
@@ -64,8 +37,8 @@ module _ (p : Parts) (sender : List ℕ) (d : Demand) (id : List ℕ) (is : targ
   asks : permitted (controllers_in (state_of p)) sender d ≡ found_by (controllers_in (state_of p) id)
   asks = ap (λ o. known (controllers_in (state_of p)) o >>= judged) is
 
-  pub permits : (c : StoredCanister) → lookup (at id) p.canisters.entries ≡ Some c → (r : Result (Unit {0}) Unmet) → Meets r (judged (Some c.controllers)) → Meets r (permitted (controllers_in (state_of p)) sender d)
-  permits c found r meets = subst (Meets r) (sym (asks ∙ ap (λ o. found_by (option_map (λ (a : Canister). a.controllers) o)) (stands p id c found))) meets
+  pub permits : (c : StoredCanister) → lookup (at id) p.canisters.entries ≡ Some c → permitted (controllers_in (state_of p)) sender d ≡ judged (Some c.controllers)
+  permits c found = asks ∙ ap (λ o. found_by (option_map (λ (a : Canister). a.controllers) o)) (stands p id c found)
 
   pub permits_none : lookup (at id) p.canisters.entries ≡ None → permitted (controllers_in (state_of p)) sender d ≡ Err (NoCanister id)
   permits_none none = asks ∙ ap (λ o. found_by (option_map (λ (a : Canister). a.controllers) o)) (seen_lookup id p.canisters.entries ∙ ap (option_map (λ c. dropped (seen c))) none)

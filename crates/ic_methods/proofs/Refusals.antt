@@ -59,6 +59,10 @@ module _ {A B : Type 0} (seen : A → B) (comes : Result B Denial) (next : B →
   pub passed : (x : A) → MeetsBy seen (Ok x) comes → (comes >>= next) ≡ next (seen x)
   passed x is = ap (λ r. r >>= next) is
 
+-- a check that takes no memory, and fails, ends the row
+pub denied : {A B : Type 0} (comes : Result A Denial) (next : A → Result B Denial) (denial : Denial) → Err denial ≡ comes → (comes >>= next) ≡ Err denial
+denied comes next denial is = ap (λ r. r >>= next) (sym is)
+
 -- a check that fails refuses the row
 pub by_denial : {A B : Type 0} (seen : A → B) (comes : Result B Denial) (e : Unmet) (call : Incoming) (s : State) (row : Result State Denial) → MeetsBy seen (Err e) comes
     → ((denial : Denial) → comes ≡ Err denial → row ≡ Err denial) → Does (Err e) call s s row

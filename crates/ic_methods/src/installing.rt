@@ -6,7 +6,7 @@ ghost use Rattle.ic_behaviour.specs.Installing.{enters_after, installed};
 ghost use Rattle.ic_api.specs.System.{system_api};
 ghost use Rattle.ic_state.specs.Seen.{seen, code_of as seen_code};
 ghost use Rattle.ic_state.specs.IsCanister.{IsCanister};
-ghost use Rattle.ic_orders.specs.Checks.{Meets, MeetsBy};
+ghost use Rattle.ic_orders.specs.Checks.{MeetsBy};
 ghost use Rattle.ic_orders.specs.Modules.{code_of};
 ghost use Rattle.ic_management.specs.Rows.{installs, unless_unsuited, unless_refused};
 ghost use Rattle.ic_exec.specs.Installed.{is_upgrade};
@@ -35,13 +35,13 @@ fn code_of(alloc: Global, bytes: &Bytes) -> Result<Code, Unmet>
 }
 
 // The mode suits a canister with this code, or without.
-fn unless_unsuited(mode: Mode, code: &Option<CodePlace>) -> Result<(), Unmet>
-    ensures suits { Meets result (unless_unsuited mode (option_map seen_code code.now)) }
+fn unless_unsuited(mode: Mode, code: &Option<CodePlace>) -> Result<(), Denial>
+    ensures suits { result ≡ unless_unsuited mode (option_map seen_code code.now) }
     ensures upgraded { OnOk result (is_upgrade mode ≡ true → IsSome code.now) }
 {
     match mode {
-        Mode::Install if code.is_some() => Err(Unmet::Denied(Denial::HasModule)),
-        Mode::Upgrade { .. } if code.is_none() => Err(Unmet::Denied(Denial::NoModule)),
+        Mode::Install if code.is_some() => Err(Denial::HasModule),
+        Mode::Upgrade { .. } if code.is_none() => Err(Denial::NoModule),
         _ => Ok(()),
     }
 }

@@ -44,16 +44,16 @@ fn first_controllers(
 }
 
 // A canister more may be made.
-fn unless_full(parts: &Parts) -> Result<(), Unmet>
-    ensures { Meets result (unless_full (state_of parts.now)) }
+fn unless_full(parts: &Parts) -> Result<(), Denial>
+    ensures { result ≡ unless_full (state_of parts.now) }
 {
     let room = parts.canisters.len() < MOST_CANISTERS && parts.next_canister < u64::MAX;
     unless(room, Denial::TooManyCanisters)
 }
 
 /// So many cycles more may be created.
-pub fn unless_above(created: u128, amount: u128) -> Result<(), Unmet>
-    ensures { Meets result (unless (nat_le (created + amount) (2 ^ 127 - 1)) denial.TooManyCycles) }
+pub fn unless_above(created: u128, amount: u128) -> Result<(), Denial>
+    ensures { result ≡ unless (nat_le (created + amount) (2 ^ 127 - 1)) denial.TooManyCycles }
 {
     let room = amount <= MOST_CYCLES && created <= MOST_CYCLES - amount;
     unless(room, Denial::TooManyCycles)

@@ -4,7 +4,7 @@ ghost use Rattle.ic_orders.specs.declared.demand.Demand.TheVariants.{InstallCode
 ghost use Rattle.ic_behaviour.specs.Installing.{enters_after};
 ghost use Rattle.ic_api.specs.System.{system_api};
 ghost use Rattle.ic_state.specs.Seen.{state_of};
-ghost use Rattle.ic_orders.specs.Checks.{Meets, permitted};
+ghost use Rattle.ic_orders.specs.Checks.{permitted};
 ghost use Rattle.ic_management.specs.Rows.{row, at_canister};
 ghost use Rattle.ic_management.specs.Manage.{controllers_in, ended, handled};
 ghost use Rattle.ic_methods.specs.Taken.{incoming_of, Taken, AreCanisters, HaveCounts, HoldsCycles};
@@ -27,15 +27,15 @@ use std::alloc::{AllocError, Global};
 const DEFAULT_AMOUNT: u128 = 100_000_000_000_000;
 
 // The sender may make the demand, and the canister that it is for is there.
-fn permit(parts: &Parts, sender: &Principal, demand: &Demand) -> Result<(), Unmet>
-    ensures { Meets result (permitted (controllers_in (state_of parts.now)) sender.now demand.now) }
+fn permit(parts: &Parts, sender: &Principal, demand: &Demand) -> Result<(), Denial>
+    ensures { result ≡ permitted (controllers_in (state_of parts.now)) sender.now demand.now }
 {
     let Some(id) = demand.target() else {
         return permitted(demand, sender, None);
     };
     match parts.canisters.get(&id) {
         Some(canister) => permitted(demand, sender, Some(&canister.controllers)),
-        None => Err(Unmet::Denied(Denial::NoCanister(id))),
+        None => Err(Denial::NoCanister(id)),
     }
 }
 

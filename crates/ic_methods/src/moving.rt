@@ -2,7 +2,6 @@ ghost use Rattle.std.specs.Prelude.{◌≡◌, ◌+◌, ◌-◌, ◌≤◌, ◌^
 ghost use Rattle.std.specs.Map.{lookup, set_value};
 ghost use Rattle.ic_behaviour.specs.State.{at};
 ghost use Rattle.ic_state.specs.Seen.{state_of};
-ghost use Rattle.ic_orders.specs.Checks.{Meets};
 ghost use Rattle.ic_management.specs.Rows.{tops_up, unless_stopped, deletes, at_canister};
 ghost use Rattle.ic_methods.specs.Taken.{incoming_of, HoldsCycles};
 ghost use Rattle.ic_methods.specs.Ending.{IfMemory, Does, Keeps};
@@ -49,12 +48,12 @@ pub fn top_up(
     Ok(done(alloc, call.cycles)?)
 }
 
-fn unless_stopped(phase: &Phase) -> Result<(), Unmet>
-    ensures { Meets result (unless_stopped phase.now) }
+fn unless_stopped(phase: &Phase) -> Result<(), Denial>
+    ensures { result ≡ unless_stopped phase.now }
 {
     match phase {
         Phase::Stopped => Ok(()),
-        _ => Err(Unmet::Denied(Denial::NotStopped)),
+        _ => Err(Denial::NotStopped),
     }
 }
 

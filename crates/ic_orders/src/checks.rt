@@ -14,14 +14,10 @@ use ic_principal::Principal;
 use std::alloc::Global;
 
 /// Nothing, where the test holds; else the call is refused.
-pub fn unless(holds: bool, denial: Denial) -> Result<(), Unmet>
-    ensures { Meets result (unless holds denial) }
+pub fn unless(holds: bool, denial: Denial) -> Result<(), Denial>
+    ensures { result ≡ unless holds denial }
 {
-    if holds {
-        Ok(())
-    } else {
-        Err(Unmet::Denied(denial))
-    }
+    if holds { Ok(()) } else { Err(denial) }
 }
 
 fn is_canisters(origin: &Origin) -> bool
@@ -90,8 +86,8 @@ pub fn permitted(
     demand: &Demand,
     sender: &Principal,
     controllers: Option<&Controllers>,
-) -> Result<(), Unmet>
-    ensures { Meets result (unless (may (who demand.now) sender.now (target demand.now) (option_copied controllers.entry)) NotController) }
+) -> Result<(), Denial>
+    ensures { result ≡ unless (may (who demand.now) sender.now (target demand.now) (option_copied controllers.entry)) NotController }
 {
     unless(
         may(demand.who(), sender, demand.target(), controllers),

@@ -1,6 +1,6 @@
 ghost use Rattle.std.specs.Prelude.{◌≡◌, IfOk};
 ghost use Rattle.ic_orders.specs.Denials.{code_of, text_of, denies};
-ghost use Rattle.ic_orders.specs.declared.denial.Unmet.TheVariants.{NoMemory as OutOfMemory};
+ghost use Rattle.ic_orders.specs.declared.denial.Unmet.TheVariants.{Denied as IsDenied, NoMemory as OutOfMemory};
 
 use crate::cause::Cause;
 use ic_base::NoMemory;
@@ -107,6 +107,14 @@ impl Denial {
 pub enum Unmet {
     Denied(Denial),
     NoMemory,
+}
+
+impl From<Denial> for Unmet {
+    ghost from_gives = { λ denial e. e ≡ IsDenied denial };
+
+    fn from(denial: Denial) -> Unmet {
+        Unmet::Denied(denial)
+    }
 }
 
 impl From<AllocError> for Unmet {

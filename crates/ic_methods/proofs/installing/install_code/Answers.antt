@@ -1,4 +1,4 @@
-use Rattle.std.proofs.Common.{refl}
+use Rattle.std.proofs.Common.{refl, sym}
 use Rattle.std.proofs.lemmas.Result.{err_from_is_err_and}
 use Rattle.ic_behaviour.specs.State.{Canister, State}
 use Rattle.ic_behaviour.specs.Counted.{dropped}
@@ -6,6 +6,7 @@ use Rattle.ic_behaviour.specs.Deliver.{env_at}
 use Rattle.ic_behaviour.specs.Installing.{enters_after, installed}
 use Rattle.ic_api.specs.System.{system_api}
 use Rattle.ic_state.specs.Seen.{seen, code_of as seen_code}
+use Rattle.ic_orders.specs.declared.denial.Unmet.TheVariants.{Denied}
 use Rattle.ic_management.specs.Rows.{installs}
 use Rattle.ic_methods.specs.Taken.{incoming_of}
 use Rattle.ic_methods.specs.Changes.{asked_of}
@@ -30,9 +31,8 @@ returns-in_err-unless_unsuited-clause-does c =
     let a = dropped (seen c.args.canister.now) in
     let row = λ (now s : State) (b : Canister). installs (enters_after system_api) c.args.env.limit (record now { time = c.args.env.time }) s call asked b in
     let p = err_from_is_err_and c.from_residual-in_err-unless_unsuited.result c.from_residual-in_err-unless_unsuited.ensures.1 in
-    rw (p.1, p.2) (refused_at call c.args.id c.args.canister.now c.in_err-unless_unsuited.field-0.0 c.args.canister.now row
-    (λ now s. by_denial {A = Unit {0}} (λ u. u) _ c.in_err-unless_unsuited.field-0.0 call s (row now s a) c.in_err-unless_unsuited.ensures.suits
-    (λ denial is. unsuited (enters_after system_api) c.args.env.limit (record now { time = c.args.env.time }) s call asked a (seen_code c.in_ok-code.code) c.in_ok-code.ensures denial is)) refl)
+    rw (p.1, p.2) (refused_at call c.args.id c.args.canister.now (Denied c.in_err-unless_unsuited.field-0.0) c.args.canister.now row
+    (λ now s. (unsuited (enters_after system_api) c.args.env.limit (record now { time = c.args.env.time }) s call asked a (seen_code c.in_ok-code.code) c.in_ok-code.ensures c.in_err-unless_unsuited.field-0.0 (sym c.in_err-unless_unsuited.ensures.suits), refl)) refl)
 
 pub returns-in_err-put-clause-does : goal.returns-in_err-put-clause-does
 returns-in_err-put-clause-does c =
@@ -45,4 +45,4 @@ returns-in_err-put-clause-does c =
     let p = err_from_is_err_and c.from_residual-in_err-put.result c.from_residual-in_err-put.ensures.1 in
     rw (p.1, p.2) (by_installation call c.args.id stored c.put.new.canister row c.in_err-put.field-0.0 i c.in_err-put.ensures.installed (λ denial is now s stands.
     not_installed (enters_after system_api) c.args.env.limit (record now { time = c.args.env.time }) s call asked (dropped (seen stored)) code c.in_ok-code.ensures
-    c.in_ok-unless_unsuited.ensures.suits i (seen stored) stands.counts refl denial is))
+    (sym c.in_ok-unless_unsuited.ensures.suits) i (seen stored) stands.counts refl denial is))

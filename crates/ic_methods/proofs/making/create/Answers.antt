@@ -1,3 +1,4 @@
+use Rattle.std.proofs.Common.{sym}
 use Rattle.ic_state.specs.Seen.{state_of}
 use Rattle.ic_methods.specs.Taken.{incoming_of}
 use Rattle.ic_methods.proofs.Makes.{creates_is}
@@ -5,5 +6,5 @@ use Rattle.ic_methods.proofs.making.create.Goals as goal
 
 pub returns-clause-does : goal.returns-clause-does
 returns-clause-does c =
-    creates_is (incoming_of c.args.call.now) (state_of c.args.parts.now) (state_of c.add.new.parts) c.args.named c.in_ok-controllers.controllers c.in_ok-controllers.ensures.value c.in_ok-unless_full.ensures
+    creates_is (incoming_of c.args.call.now) (state_of c.args.parts.now) (state_of c.add.new.parts) c.args.named c.in_ok-controllers.controllers c.in_ok-controllers.ensures.value (sym c.in_ok-unless_full.ensures)
     c.replied.result c.in_ok-id.id c.in_ok-told.told c.in_ok-id.ensures.id c.in_ok-id.ensures.made c.replied.ensures c.in_ok-told.ensures

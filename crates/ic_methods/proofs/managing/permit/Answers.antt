@@ -4,8 +4,8 @@ use Rattle.ic_methods.proofs.managing.permit.Goals as goal
 
 pub returns-in-Some-get : goal.returns-in-Some-get
 returns-in-Some-get c =
-    permits c.args.parts.now c.args.sender.now c.args.demand.now c.in-Some.id (sym c.target.ensures ∙ c.in-Some.is) c.in-Some-get.canister.now (sym c.in-Some-get.ensures.value) c.permitted-in-Some-get.result
     c.permitted-in-Some-get.ensures
+    ∙ sym (permits c.args.parts.now c.args.sender.now c.args.demand.now c.in-Some.id (sym c.target.ensures ∙ c.in-Some.is) c.in-Some-get.canister.now (sym c.in-Some-get.ensures.value))
 
 pub returns-in-None : goal.returns-in-None
-returns-in-None c = permits_none c.args.parts.now c.args.sender.now c.args.demand.now c.in-Some.id (sym c.target.ensures ∙ c.in-Some.is) (sym c.in-None.ensures.value)
+returns-in-None c = sym (permits_none c.args.parts.now c.args.sender.now c.args.demand.now c.in-Some.id (sym c.target.ensures ∙ c.in-Some.is) (sym c.in-None.ensures.value))

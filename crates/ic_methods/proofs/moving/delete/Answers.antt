@@ -1,10 +1,9 @@
 use Rattle.std.proofs.Common.{refl, sym, ◌∙◌, arith}
-use Rattle.std.specs.Prelude.{Err}
 use Rattle.std.proofs.lemmas.Result.{err_from_is_err_and}
 use Rattle.ic_state.specs.Seen.{state_of}
 use Rattle.ic_management.specs.Rows.{deletes}
 use Rattle.ic_methods.specs.Taken.{incoming_of}
-use Rattle.ic_methods.proofs.Refusals.{does_as, refused}
+use Rattle.ic_methods.proofs.Refusals.{denied}
 use Rattle.ic_methods.proofs.Worlds.{at_none, at_some}
 use Rattle.ic_methods.proofs.Makes.{burned_fits, gone_is, deletes_is, keeps_gone}
 use Rattle.ic_methods.proofs.moving.delete.Goals as goal
@@ -17,10 +16,8 @@ pub returns-in_err-unless_stopped-clause-does : goal.returns-in_err-unless_stopp
 returns-in_err-unless_stopped-clause-does c =
     let call = incoming_of c.args.call.now in
     let s = state_of c.args.parts.now in
-    let e = c.in_err-unless_stopped.field-0.0 in
     let p = err_from_is_err_and c.from_residual.result c.from_residual.ensures.1 in
-    rw (p.1, p.2) (does_as (Err e) call s s s _ _ refl (at_some c.args.parts.now c.args.id c.in-Some.canister.now (sym c.in-Some.ensures.value) (deletes s call c.args.id))
-    (refused {A = Unit {0}} (λ u. u) _ _ e call s s c.in_err-unless_stopped.ensures refl))
+    rw (p.1, p.2) (at_some c.args.parts.now c.args.id c.in-Some.canister.now (sym c.in-Some.ensures.value) (deletes s call c.args.id) ∙ denied _ _ _ c.in_err-unless_stopped.ensures, refl)
 
 pub overflow_add-parts : goal.overflow_add-parts
 overflow_add-parts c = omega (arith, burned_fits c.args.parts.now c.args.id c.args.call.now.cycles c.requires.holds c.in-Some.canister.now (sym c.in-Some.ensures.value))
@@ -30,7 +27,7 @@ returns-clause-does c =
     let call = incoming_of c.args.call.now in
     let d = c.in-Some.canister.now in
     at_some c.args.parts.now c.args.id d (sym c.in-Some.ensures.value) (deletes (state_of c.args.parts.now) call c.args.id)
-    ∙ deletes_is call c.args.parts.now c.args.id d c.remove.new.self _ c.in_ok-done.field-0 c.in_ok-unless_stopped.ensures
+    ∙ deletes_is call c.args.parts.now c.args.id d c.remove.new.self _ c.in_ok-done.field-0 (sym c.in_ok-unless_stopped.ensures)
     (gone_is call c.args.parts.now c.args.id d c.remove.new.self c.remove.ensures.entries) c.in_ok-done.ensures
 
 pub returns-clause-keeps : goal.returns-clause-keeps
