@@ -98,3 +98,18 @@ one_before n defs p name e = before_place n defs 0 p name e ∙ ap (nat_lt p) (o
 pub found_within : (o : Option ℕ) (defs : Definitions) (name : List ℕ) → o ≡ place_from defs 0 name → IfSome o (λ p. p < length defs)
 found_within None defs name e = tt
 found_within (Some p) defs name e = let less = place_within defs 0 p name (sym e) in omega (arith, less)
+
+-- a name is defined where it has a place
+pub none_there : (defs : Definitions) (start : ℕ) (name : List ℕ) → place_from defs start name ≡ None → is_defined defs name ≡ false
+none_there [] start name e = refl
+none_there (d ∷ defs) start name e = elim (true_or_false (bytes_eq d.0 name)) [
+  | inl same ↦ let f : Some start ≡ None = rw same at e in absurd cc
+  | inr other ↦ let f : place_from defs (suc start) name ≡ None = rw other at e in rw other (none_there defs (suc start) name f)
+]
+
+pub one_there : (defs : Definitions) (start p : ℕ) (name : List ℕ) → place_from defs start name ≡ Some p → is_defined defs name ≡ true
+one_there [] start p name e = absurd cc
+one_there (d ∷ defs) start p name e = elim (true_or_false (bytes_eq d.0 name)) [
+  | inl same ↦ rw same refl
+  | inr other ↦ let f : place_from defs (suc start) name ≡ Some p = rw other at e in rw other (one_there defs (suc start) p name f)
+]

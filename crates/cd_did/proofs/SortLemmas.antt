@@ -1,6 +1,6 @@
 -- Ids that rise, and ids that differ.
 use Rattle.std.proofs.Common.{◌≡◌, ℕ, suc, ◌≤◌, ◌<◌, ◌^◌, Bool, true, false, List, [], ◌∷◌, length, map, get_or, refl, sym, ap, subst, ◌∙◌, arith}
-use Rattle.std.specs.Prelude.{◌&&◌, nat_eq, nat_lt, nat_le}
+use Rattle.std.specs.Prelude.{◌&&◌, nat_eq, nat_lt, nat_le, Result, Ok, Err, IfErr}
 use Rattle.std.specs.List.{list_all, IsDistinct, AllByRecursion}
 use Rattle.std.specs.List.Sorted.{IsPermutation, IsNonDecreasingBy}
 use Rattle.std.proofs.lemmas.List.Sorted.{IsPermutation-map, IsPermutation-sym, All-permutation}
@@ -105,6 +105,12 @@ no_rise rows sorted moved up small fails distinct =
 pub refuses_too : (e : ReadError) (P Q : Type 0) → (P → Q) → Refuses e P → Refuses e Q
 refuses_too NoMemory P Q law p = tt
 refuses_too Refused P Q law p = law p
+
+-- want of memory refuses nothing
+pub no_refusal : {A : Type 0} (r : Result A ReadError) (P : Type 0) → IfErr r (λ e. e ≡ NoMemory) → IfErr r (λ e. Refuses e P)
+no_refusal (Ok x) P none = tt
+no_refusal (Err NoMemory) P none = tt
+no_refusal (Err Refused) P none = absurd cc
 
 -- ---- rows of fields
 

@@ -12,3 +12,4 @@ pub mod Formed
 pub mod Interfaces
 pub mod InterfaceOf
 pub mod Judges
+pub mod Kinds

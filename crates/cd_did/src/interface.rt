@@ -7,24 +7,24 @@ ghost use Rattle.cd_did.specs.Interfaces.{HasEnded, service_at, IsTabled, IsWith
 ghost use Rattle.cd_did.specs.InterfaceOf.{interface_in, IsAnswer};
 ghost use Rattle.cd_did.specs.Judges.{Judges};
 
-use crate::entries::{entries_of, is_served};
+use crate::entries::entries_of;
 use crate::fault::{DidFault, Interface};
+use crate::kinds::is_served;
 use crate::names::Names;
 use crate::settled::settled;
-use crate::targets::target_of;
+use crate::targets::{Ended, target_of};
 use cd_grammar::{File, file_of};
 use cd_types::{Entry, TyRef, TypeTable};
 use ic_base::ReadError;
 use std::alloc::Global;
 
 // The reference to the service, if there is one.
-fn service_of(file: &File, names: &Names<'_>, ends: &[usize]) -> Option<TyRef>
-    requires { names.now ≡ file.now.definitions }
-    ensures { result ≡ service_at file.now ends.now }
+fn service_of(ended: &Ended<'_, '_>) -> Option<TyRef>
+    ensures { result ≡ service_at ended.now.names.now ended.now.ends.now }
 {
-    match &file.main {
+    match &ended.names.file().main {
         None => None,
-        Some(main) => Some(target_of(names, ends, &main.service)),
+        Some(main) => Some(target_of(ended, &main.service)),
     }
 }
 
@@ -38,37 +38,34 @@ fn tabled(entries: Vec<Entry>, service: Option<TyRef>) -> Result<Interface, DidF
     }
 }
 
-// The interface of a file whose definitions have these ends.
-fn interface_with(
-    alloc: Global,
-    file: &File,
-    names: &Names<'_>,
-    ends: &[usize],
-) -> Result<Interface, DidFault>
-    requires names { names.now ≡ file.now.definitions }
-    requires ended { HasEnded file.now ends.now }
-    requires fits { FitsFile file.now }
-    ensures { Judges file.now result }
+// The interface of a file whose definitions have ends.
+fn interface_with(ended: &Ended<'_, '_>) -> Result<Interface, DidFault>
+    requires ended { HasEnded ended.now.names.now ended.now.ends.now }
+    requires fits { FitsFile ended.now.names.now }
+    ensures { Judges ended.now.names.now result }
 {
-    if !is_served(file, names, ends) {
+    if !is_served(ended) {
         return Err(DidFault::Shape);
     }
-    match entries_of(alloc, file, names, ends) {
-        Ok(entries) => tabled(entries, service_of(file, names, ends)),
+    match entries_of(ended) {
+        Ok(entries) => tabled(entries, service_of(ended)),
         Err(ReadError::Refused) => Err(DidFault::Shape),
         Err(ReadError::NoMemory) => Err(DidFault::NoMemory),
     }
 }
 
-// The interface of a file with these definitions.
-fn interface_named(alloc: Global, file: &File, names: &Names<'_>) -> Result<Interface, DidFault>
-    requires names { names.now ≡ file.now.definitions }
-    requires few { length file.now.definitions < 2 ^ 32 }
-    requires fits { FitsFile file.now }
-    ensures { Judges file.now result }
+// The interface of a file whose definitions are looked up.
+fn interface_named(alloc: Global, names: &Names<'_>) -> Result<Interface, DidFault>
+    requires few { length names.now.definitions < 2 ^ 32 }
+    requires fits { FitsFile names.now }
+    ensures { Judges names.now result }
 {
-    match settled(alloc, file, names) {
-        Ok(ends) => interface_with(alloc, file, names, &ends),
+    match settled(alloc, names) {
+        Ok(ends) => interface_with(&Ended {
+            alloc,
+            names,
+            ends: &ends,
+        }),
         Err(fault) => Err(fault),
     }
 }
@@ -79,8 +76,8 @@ fn interface_of(alloc: Global, file: &File) -> Result<Interface, DidFault>
     requires fits { FitsFile file.now }
     ensures { Judges file.now result }
 {
-    match Names::of(alloc, &file.definitions) {
-        Ok(names) => interface_named(alloc, file, &names),
+    match Names::of(alloc, file) {
+        Ok(names) => interface_named(alloc, &names),
         Err(_) => Err(DidFault::NoMemory),
     }
 }
@@ -98,7 +95,11 @@ pub fn read_interface(alloc: Global, text: &[u8]) -> Result<Interface, DidFault>
     ensures within { IfOk result IsWithin }
 {
     match file_of(alloc, text) {
-        Ok(file) => interface_of(alloc, &file),
+        Ok(file) => {
+            let answer = interface_of(alloc, &file);
+            file.close();
+            answer
+        }
         Err(ReadError::Refused) => Err(DidFault::NotInterface),
         Err(ReadError::NoMemory) => Err(DidFault::NoMemory),
     }

@@ -11,6 +11,7 @@ mod checks;
 mod entries;
 mod fault;
 mod interface;
+mod kinds;
 mod named;
 mod names;
 mod rings;

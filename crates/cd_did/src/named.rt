@@ -1,20 +1,18 @@
-ghost use Rattle.std.specs.Prelude.{◌≡◌, bytes_eq, map, true, IfOk, IfErr};
+ghost use Rattle.std.specs.Prelude.{◌≡◌, [], List, ℕ, bytes_eq, map, true, false, IfOk, IfErr};
 ghost use Rattle.std.specs.List.{list_all, IsDistinct};
-ghost use Rattle.std.specs.List.Sorted.{IsPermutation, IsSortedBy};
-ghost use Rattle.std.specs.Cmp.Lexicographic.{slice_cmp};
-ghost use Rattle.std.specs.Ordering.{is_lt, nat_cmp};
 ghost use Rattle.std.specs.Str.{is_utf8};
+ghost use Rattle.cd_types.specs.declared.entry.TyRef.{TyRef};
+ghost use Rattle.cd_types.specs.declared.entry.Entry.TheVariants as entries;
 ghost use Rattle.cd_types.specs.IsOrdered.{names_rise, names_rise_after};
-ghost use Rattle.cd_did.specs.Entries.{AreNamed};
+ghost use Rattle.cd_did.specs.Entries.{AreNamed, is_method};
 ghost use Rattle.cd_did.specs.Sorted.{Refuses, row};
 
-use crate::names::Names;
-use crate::targets::target_of;
+use crate::kinds::is_method;
+use crate::targets::{Ended, target_of};
 use cd_grammar::Part;
-use cd_types::{Methods, TyRef};
-use ic_base::{NoMemory, ReadError};
+use cd_types::{Entry, Methods, TyRef};
+use ic_base::ReadError;
 use ic_principal::Text;
-use std::alloc::Global;
 
 fn text_of(name: &Text) -> &str
     ensures value { result.now ≡ name.now }
@@ -25,28 +23,18 @@ fn text_of(name: &Text) -> &str
     text
 }
 
+// Names are UTF-8.
 fn names_rise_after(last: &Text, rows: &[(Text, TyRef)]) -> bool
-    ensures { result ≡ names_rise_after last.now (map (λ m. m.0) rows.now) }
+    ensures value { result ≡ names_rise_after last.now (map (λ m. m.0) rows.now) }
+    ensures utf8 { list_all is_utf8 (map (λ m. m.0) rows.now) ≡ true }
 {
     let mut last = last;
+    let mut rise = true;
     for (name, _) in rows {
-        if text_of(last) >= text_of(name) {
-            return false;
-        }
+        rise &= text_of(last) < text_of(name);
         last = name;
     }
-    true
-}
-
-// Names are UTF-8.
-fn are_utf8(rows: &[(Text, TyRef)]) -> bool
-    ensures value { result ≡ list_all is_utf8 (map (λ m. m.0) rows.now) }
-    ensures holds { result ≡ true }
-{
-    for (name, _) in rows {
-        let _utf8 = text_of(name);
-    }
-    true
+    rise
 }
 
 // Whether the names strictly rise.
@@ -54,7 +42,6 @@ fn names_rise(rows: &[(Text, TyRef)]) -> bool
     ensures value { result ≡ names_rise (map (λ m. m.0) rows.now) }
     ensures utf8 { list_all is_utf8 (map (λ m. m.0) rows.now) ≡ true }
 {
-    let _utf8 = are_utf8(rows);
     match rows {
         [] => true,
         [(first, _), rest @ ..] => {
@@ -64,55 +51,52 @@ fn names_rise(rows: &[(Text, TyRef)]) -> bool
     }
 }
 
-fn by_name(rows: Vec<(Text, TyRef)>) -> Result<Vec<(Text, TyRef)>, NoMemory>
-    ensures permutation { IfOk result (λ sorted. IsPermutation rows.items sorted.items) }
-    ensures sorted { IfOk result (λ sorted. IsSortedBy (λ x y. is_lt (slice_cmp nat_cmp x.0 y.0)) sorted.items) }
+// The rows are put in the order of their names. `Refused`: two are equal.
+fn sort_rows(rows: &mut Vec<(Text, TyRef)>) -> Result<(), ReadError>
+    ensures ok { IfOk result (λ done. AreNamed rows.old.items rows.new.items) }
+    ensures refused { IfErr result (λ e. Refuses e (IsDistinct bytes_eq (map (λ r. r.0) rows.old.items) → ⊥)) }
 {
-    let mut rows = rows;
     rows.sort_by(|a, b| text_of(&a.0).cmp(text_of(&b.0)))?;
-    Ok(rows)
-}
-
-// The rows in the order of their names. `Refused`: two are equal.
-fn sorted(rows: Vec<(Text, TyRef)>) -> Result<Methods, ReadError>
-    ensures ok { IfOk result (λ methods. AreNamed rows.items methods) }
-    ensures refused { IfErr result (λ e. Refuses e (IsDistinct bytes_eq (map (λ r. r.0) rows.items) → ⊥)) }
-{
-    let items = by_name(rows)?;
-    if names_rise(&items) {
-        Ok(Methods { items })
+    if names_rise(rows) {
+        Ok(())
     } else {
         Err(ReadError::Refused)
     }
 }
 
-// The references that stand for the types of some methods.
-fn rows_of(
-    alloc: Global,
-    names: &Names<'_>,
-    ends: &[usize],
+// The references that stand for the types of some methods. `Refused`: one is no function.
+fn add_rows(
+    ended: &Ended<'_, '_>,
     methods: &[(Text, Part)],
-) -> Result<Vec<(Text, TyRef)>, NoMemory>
-    ensures { IfOk result (λ rows. rows.items ≡ map (row names.now ends.now) methods.now) }
+    rows: &mut Vec<(Text, TyRef)>,
+) -> Result<(), ReadError>
+    requires { rows.old.items ≡ [] }
+    ensures ok { IfOk result (λ done. (rows.new.items ≡ map (row ended.now.names.now.definitions ended.now.ends.now) methods.now) × (list_all (λ m. is_method ended.now.names.now ended.now.ends.now m.1) methods.now ≡ true)) }
+    ensures refused { IfErr result (λ e. Refuses e (list_all (λ m. is_method ended.now.names.now ended.now.ends.now m.1) methods.now ≡ false)) }
 {
-    let mut rows = Vec::with_capacity(alloc, methods.len())?;
     for (name, part) in methods {
-        rows.push((name.copy()?, target_of(names, ends, part)))?;
+        if !is_method(ended, part) {
+            return Err(ReadError::Refused);
+        }
+        rows.push((name.copy()?, target_of(ended, part)))?;
     }
-    Ok(rows)
+    Ok(())
 }
 
-/// The methods of a table's entry. `Refused`: two names are equal.
+/// The entry of a service. `Refused`: two names are equal, or the type of a method is no function.
 pub(crate) fn methods_of(
-    alloc: Global,
-    names: &Names<'_>,
-    ends: &[usize],
+    ended: &Ended<'_, '_>,
     methods: &[(Text, Part)],
-) -> Result<Methods, ReadError>
-    ensures ok { IfOk result (λ sorted. AreNamed (map (row names.now ends.now) methods.now) sorted × IsDistinct bytes_eq (map (λ m. m.0) methods.now)) }
-    ensures refused { IfErr result (λ e. Refuses e (IsDistinct bytes_eq (map (λ m. m.0) methods.now) → ⊥)) }
+) -> Result<Entry, ReadError>
+    ensures ok { IfOk result (λ entry. ((sorted : List (List ℕ × TyRef)) × (entry ≡ entries.Service sorted) × AreNamed (map (row ended.now.names.now.definitions ended.now.ends.now) methods.now) sorted × (list_all (λ m. is_method ended.now.names.now ended.now.ends.now m.1) methods.now ≡ true)) × (IsDistinct bytes_eq (map (λ m. m.0) methods.now) × (list_all (λ m. is_method ended.now.names.now ended.now.ends.now m.1) methods.now ≡ true))) }
+    ensures refused { IfErr result (λ e. Refuses e (IsDistinct bytes_eq (map (λ m. m.0) methods.now) × (list_all (λ m. is_method ended.now.names.now ended.now.ends.now m.1) methods.now ≡ true) → ⊥)) }
 {
-    let rows = rows_of(alloc, names, ends, methods)?;
-    let methods = sorted(rows)?;
-    Ok(methods)
+    let mut items = Vec::new(ended.alloc);
+    match add_rows(ended, methods, &mut items) {
+        Ok(()) => match sort_rows(&mut items) {
+            Ok(()) => Ok(Entry::Service(Methods { items })),
+            Err(e) => Err(e),
+        },
+        Err(e) => Err(e),
+    }
 }

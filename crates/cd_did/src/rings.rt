@@ -1,5 +1,5 @@
 ghost use Rattle.std.specs.Prelude.{◌≡◌, ◌<◌, length, map, IfOk, None};
-ghost use Rattle.cd_did.specs.Rings.{Apart, AllBound, leads_to, next_place, firsts, jump_from, HasEnds, is_named_at, smaller, with_place, least_from};
+ghost use Rattle.cd_did.specs.Rings.{Apart, AllBound, leads_to, next_place, firsts, jump_from, HasEnds, is_named_at, with_place, least_from};
 
 use crate::names::Names;
 use cd_grammar::Part;
@@ -9,7 +9,7 @@ use std::alloc::Global;
 
 // The place that a definition leads to, which stands at a place.
 fn leads_to(names: &Names<'_>, here: usize, part: &Part) -> usize
-    ensures { result ≡ leads_to names.now here part.now }
+    ensures { result ≡ leads_to names.now.definitions here part.now }
 {
     match part {
         Part::Name(name) => match names.place_of(&name.items) {
@@ -21,7 +21,7 @@ fn leads_to(names: &Names<'_>, here: usize, part: &Part) -> usize
 }
 
 fn next_place(names: &Names<'_>, place: usize) -> usize
-    ensures { result ≡ next_place names.now place }
+    ensures { result ≡ next_place names.now.definitions place }
 {
     match names.definitions().get(place) {
         None => place,
@@ -31,9 +31,9 @@ fn next_place(names: &Names<'_>, place: usize) -> usize
 
 // The next place of each definition.
 fn first_jumps(alloc: Global, names: &Names<'_>) -> Result<Vec<usize>, NoMemory>
-    ensures { IfOk result (λ jumps. jumps.items ≡ firsts names.now (length names.now)) }
+    ensures { IfOk result (λ jumps. jumps.items ≡ firsts names.now.definitions (length names.now.definitions)) }
 {
-    let mut jumps = Vec::with_capacity(alloc, names.definitions().len())?;
+    let mut jumps = Vec::new(alloc);
     for place in 0..names.definitions().len() {
         jumps.push(next_place(names, place))?;
     }
@@ -53,7 +53,7 @@ pub(crate) fn jump_from(jumps: &[usize], place: usize) -> usize
 fn doubled(alloc: Global, jumps: &[usize]) -> Result<Vec<usize>, NoMemory>
     ensures { IfOk result (λ longer. longer.items ≡ map (jump_from jumps.now) jumps.now) }
 {
-    let mut longer = Vec::with_capacity(alloc, jumps.len())?;
+    let mut longer = Vec::new(alloc);
     for place in jumps {
         longer.push(jump_from(jumps, *place))?;
     }
@@ -62,11 +62,10 @@ fn doubled(alloc: Global, jumps: &[usize]) -> Result<Vec<usize>, NoMemory>
 
 /// For each definition the place that one comes to from it through names alone, by at least as many
 /// steps as there are definitions. Time grows with n log n steps and n look-ups of names.
-#[tactic(auto, using(crate::proofs::Ends::firsts_jump, crate::proofs::Ends::twice_jump))]
 pub(crate) fn ends_of(alloc: Global, names: &Names<'_>) -> Result<Vec<usize>, NoMemory>
-    requires apart { Apart names.now }
-    requires bound { AllBound names.now }
-    ensures { IfOk result (λ ends. HasEnds names.now ends.items) }
+    requires apart { Apart names.now.definitions }
+    requires bound { AllBound names.now.definitions }
+    ensures { IfOk result (λ ends. HasEnds names.now.definitions ends.items) }
 {
     let mut jumps = first_jumps(alloc, names)?;
     let mut steps: usize = 1;
@@ -89,22 +88,21 @@ fn is_named_at(definitions: &[(Bytes, Part)], place: usize) -> bool
     }
 }
 
-fn smaller(least: Option<usize>, place: usize) -> usize
-    ensures { result ≡ smaller least place }
-{
-    match least {
-        None => place,
-        Some(other) => { if place < other { place } else { other } }
-    }
-}
-
 fn with_place(definitions: &[(Bytes, Part)], least: Option<usize>, place: usize) -> Option<usize>
     ensures { result ≡ with_place (is_named_at definitions.now) least place }
 {
-    if is_named_at(definitions, place) {
-        Some(smaller(least, place))
-    } else {
-        least
+    if !is_named_at(definitions, place) {
+        return least;
+    }
+    match least {
+        None => Some(place),
+        Some(other) => {
+            if place < other {
+                Some(place)
+            } else {
+                Some(other)
+            }
+        }
     }
 }
 

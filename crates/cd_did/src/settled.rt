@@ -5,24 +5,23 @@ use crate::checks::{Test, file_passes, repeated_of};
 use crate::fault::DidFault;
 use crate::names::Names;
 use crate::rings::{ends_of, vacuous_of};
-use cd_grammar::File;
 use std::alloc::Global;
 
 /// The ends of a file's definitions, or the first of its faults up to `Vacuous`.
 #[tactic(auto, using(crate::proofs::ApartLemmas::apart, crate::proofs::ApartLemmas::all_bound, crate::proofs::Ends::vacuous_found, crate::proofs::Ends::vacuous_inside))]
-pub(crate) fn settled(alloc: Global, file: &File, names: &Names<'_>) -> Result<Vec<usize>, DidFault>
-    requires names { names.now ≡ file.now.definitions }
-    requires few { length file.now.definitions < 2 ^ 32 }
-    ensures { Settles file.now result }
+pub(crate) fn settled(alloc: Global, names: &Names<'_>) -> Result<Vec<usize>, DidFault>
+    requires { length names.now.definitions < 2 ^ 32 }
+    ensures { Settles names.now result }
 {
-    if !file_passes(Test::NoFloat, file, names) {
+    let file = names.file();
+    if !file_passes(&Test::NoFloat, file) {
         return Err(DidFault::Float);
     }
     if let Some(place) = repeated_of(names) {
         let definition = place as u32;
         return Err(DidFault::Repeated { definition });
     }
-    if !file_passes(Test::Bound, file, names) {
+    if !file_passes(&Test::Bound(names), file) {
         return Err(DidFault::Unbound);
     }
     match ends_of(alloc, names) {

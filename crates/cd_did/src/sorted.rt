@@ -1,16 +1,30 @@
-ghost use Rattle.std.specs.Prelude.{◌≡◌, ◌+◌, ◌^◌, ◌<◌, nat_eq, map, true, false, IfOk, IfErr};
+ghost use Rattle.std.specs.Prelude.{◌≡◌, ◌+◌, ◌^◌, ◌<◌, [], List, ℕ, nat_eq, map, true, false, IfOk, IfErr};
 ghost use Rattle.std.specs.List.{list_all, IsDistinct};
-ghost use Rattle.std.specs.List.Sorted.{IsPermutation, IsNonDecreasingBy};
+ghost use Rattle.cd_types.specs.declared.entry.TyRef.{TyRef};
 ghost use Rattle.cd_types.specs.IsOrdered.{ids_rise_from};
 ghost use Rattle.cd_did.specs.Faults.{AreIds};
-ghost use Rattle.cd_did.specs.Sorted.{Refuses, row, fits, AreSorted};
+ghost use Rattle.cd_did.specs.Sorted.{Refuses, row, fits, AreSorted, rows_made};
 
-use crate::names::Names;
-use crate::targets::target_of;
+use crate::targets::{Ended, target_of};
 use cd_grammar::Part;
-use cd_types::{Fields, TyRef};
-use ic_base::{NoMemory, ReadError};
-use std::alloc::Global;
+use cd_types::{Entry, Fields, TyRef};
+use ic_base::ReadError;
+
+/// Which rows: the fields of a record, or the cases of a variant.
+#[derive(Drop)]
+pub(crate) enum Rows {
+    Fields,
+    Cases,
+}
+
+fn rows_made(rows: Rows, items: Fields) -> Entry
+    ensures { result ≡ rows_made rows items }
+{
+    match rows {
+        Rows::Fields => Entry::Rec(items),
+        Rows::Cases => Entry::Var(items),
+    }
+}
 
 // Whether the ids strictly rise.
 fn ids_rise(rows: &[(u32, TyRef)]) -> bool
@@ -27,61 +41,54 @@ fn ids_rise(rows: &[(u32, TyRef)]) -> bool
     true
 }
 
-fn by_id(rows: Vec<(u32, TyRef)>) -> Result<Vec<(u32, TyRef)>, NoMemory>
-    ensures permutation { IfOk result (λ sorted. IsPermutation rows.items sorted.items) }
-    ensures sorted { IfOk result (λ sorted. IsNonDecreasingBy (λ r. r.0) sorted.items) }
+// The rows are put in the order of their ids. `Refused`: two are equal.
+fn sort_rows(rows: &mut Vec<(u32, TyRef)>) -> Result<(), ReadError>
+    requires { list_all fits (map (λ r. r.0) rows.old.items) ≡ true }
+    ensures ok { IfOk result (λ done. AreSorted rows.old.items rows.new.items) }
+    ensures refused { IfErr result (λ e. Refuses e (IsDistinct nat_eq (map (λ r. r.0) rows.old.items) → ⊥)) }
 {
-    let mut rows = rows;
     rows.sort_by_key(|row| row.0)?;
-    Ok(rows)
-}
-
-// The rows in the order of their ids. `Refused`: two are equal.
-fn sorted(rows: Vec<(u32, TyRef)>) -> Result<Fields, ReadError>
-    requires { list_all fits (map (λ r. r.0) rows.items) ≡ true }
-    ensures ok { IfOk result (λ fields. AreSorted rows.items fields) }
-    ensures refused { IfErr result (λ e. Refuses e (IsDistinct nat_eq (map (λ r. r.0) rows.items) → ⊥)) }
-{
-    let items = by_id(rows)?;
-    if ids_rise(&items) {
-        Ok(Fields { items })
+    if ids_rise(rows) {
+        Ok(())
     } else {
         Err(ReadError::Refused)
     }
 }
 
 // The references that stand for the types of some fields. `Refused`: an id is 2^32 or more.
-fn rows_of(
-    alloc: Global,
-    names: &Names<'_>,
-    ends: &[usize],
+fn add_rows(
+    ended: &Ended<'_, '_>,
     fields: &[(u64, Part)],
-) -> Result<Vec<(u32, TyRef)>, ReadError>
-    ensures ok { IfOk result (λ rows. (rows.items ≡ map (row names.now ends.now) fields.now) × (list_all fits (map (λ f. f.0) fields.now) ≡ true)) }
+    rows: &mut Vec<(u32, TyRef)>,
+) -> Result<(), ReadError>
+    requires { rows.old.items ≡ [] }
+    ensures ok { IfOk result (λ done. (rows.new.items ≡ map (row ended.now.names.now.definitions ended.now.ends.now) fields.now) × (list_all fits (map (λ f. f.0) fields.now) ≡ true)) }
     ensures refused { IfErr result (λ e. Refuses e (list_all fits (map (λ f. f.0) fields.now) ≡ false)) }
 {
-    let mut rows = Vec::with_capacity(alloc, fields.len())?;
     for (id, part) in fields {
         if *id >= 1 << 32 {
             return Err(ReadError::Refused);
         }
-        rows.push((*id as u32, target_of(names, ends, part)))?;
+        rows.push((*id as u32, target_of(ended, part)))?;
     }
-    Ok(rows)
+    Ok(())
 }
 
-/// The fields or cases of a table's entry. `Refused`: two ids are equal, or one is 2^32 or more.
-#[tactic(auto, using(crate::proofs::SortLemmas::no_fit))]
+/// The entry of a record or a variant. `Refused`: two ids are equal, or one is 2^32 or more.
 pub(crate) fn fields_of(
-    alloc: Global,
-    names: &Names<'_>,
-    ends: &[usize],
+    ended: &Ended<'_, '_>,
+    rows: Rows,
     fields: &[(u64, Part)],
-) -> Result<Fields, ReadError>
-    ensures ok { IfOk result (λ sorted. AreSorted (map (row names.now ends.now) fields.now) sorted × AreIds (map (λ f. f.0) fields.now)) }
+) -> Result<Entry, ReadError>
+    ensures ok { IfOk result (λ entry. ((sorted : List (ℕ × TyRef)) × (entry ≡ rows_made rows sorted) × AreSorted (map (row ended.now.names.now.definitions ended.now.ends.now) fields.now) sorted) × AreIds (map (λ f. f.0) fields.now)) }
     ensures refused { IfErr result (λ e. Refuses e (AreIds (map (λ f. f.0) fields.now) → ⊥)) }
 {
-    let rows = rows_of(alloc, names, ends, fields)?;
-    let fields = sorted(rows)?;
-    Ok(fields)
+    let mut items = Vec::new(ended.alloc);
+    match add_rows(ended, fields, &mut items) {
+        Ok(()) => match sort_rows(&mut items) {
+            Ok(()) => Ok(rows_made(rows, Fields { items })),
+            Err(e) => Err(e),
+        },
+        Err(e) => Err(e),
+    }
 }

@@ -1,51 +1,42 @@
 ghost use Rattle.std.specs.Prelude.{◌≡◌, IfOk, map, slice_get};
 ghost use Rattle.cd_did.specs.Rings.{jump_from};
-ghost use Rattle.cd_did.specs.Targets.{row_or, found_at, place_ref, ref_of, target};
+ghost use Rattle.cd_did.specs.Targets.{row_or, found_at, ref_of, target};
 
 use crate::names::Names;
 use crate::rings::jump_from;
 use cd_grammar::Part;
 use cd_types::{Primitive, TyRef, TyRefs};
 use ic_base::NoMemory;
-use ic_principal::Bytes;
 use std::alloc::Global;
 
+/// A file, where its definitions lead, and where what stands for its types is made.
+#[derive(Drop)]
+pub(crate) struct Ended<'n, 'a> {
+    pub(crate) alloc: Global,
+    pub(crate) names: &'n Names<'a>,
+    pub(crate) ends: &'n [usize],
+}
+
 // The type of the definition that the one at a place leads to.
-fn end_of<'a>(
-    definitions: &'a [(Bytes, Part)],
-    ends: &[usize],
-    part: &'a Part,
-    place: usize,
-) -> &'a Part
-    ensures { result.now ≡ row_or part.now (slice_get definitions.now (jump_from ends.now place)) }
+fn end_of<'a>(ended: &Ended<'_, 'a>, part: &'a Part, place: usize) -> &'a Part
+    ensures { result.now ≡ row_or part.now (slice_get ended.now.names.now.definitions (jump_from ended.now.ends.now place)) }
 {
-    match definitions.get(jump_from(ends, place)) {
+    match ended.names.definitions().get(jump_from(ended.ends, place)) {
         None => part,
         Some(definition) => &definition.1,
     }
 }
 
-/// What a part is once each name is replaced by its definition, where the definitions have these
-/// ends.
-pub(crate) fn found_of<'a>(names: &Names<'a>, ends: &[usize], part: &'a Part) -> &'a Part
-    ensures { result.now ≡ found_at names.now ends.now part.now }
+/// What a part is once each name is replaced by its definition.
+pub(crate) fn found_of<'a>(ended: &Ended<'_, 'a>, part: &'a Part) -> &'a Part
+    ensures { result.now ≡ found_at ended.now.names.now.definitions ended.now.ends.now part.now }
 {
     match part {
-        Part::Name(name) => match names.place_of(&name.items) {
+        Part::Name(name) => match ended.names.place_of(&name.items) {
             None => part,
-            Some(place) => end_of(names.definitions(), ends, part, place),
+            Some(place) => end_of(ended, part, place),
         },
         _ => part,
-    }
-}
-
-fn place_ref(place: usize) -> TyRef
-    ensures { result ≡ place_ref place }
-{
-    if place < 1 << 32 {
-        TyRef::Index(place as u32)
-    } else {
-        TyRef::Prim(Primitive::Null)
     }
 }
 
@@ -54,31 +45,32 @@ fn ref_of(part: &Part) -> TyRef
 {
     match part {
         Part::Prim(prim) => TyRef::Prim(*prim),
-        Part::Place(place) => place_ref(*place),
+        Part::Place(place) => {
+            if *place < 1 << 32 {
+                TyRef::Index(*place as u32)
+            } else {
+                TyRef::Prim(Primitive::Null)
+            }
+        }
         Part::Float => TyRef::Prim(Primitive::Null),
         Part::Name(_) => TyRef::Prim(Primitive::Null),
     }
 }
 
 /// The reference that stands for a part.
-pub(crate) fn target_of(names: &Names<'_>, ends: &[usize], part: &Part) -> TyRef
-    ensures { result ≡ target names.now ends.now part.now }
+pub(crate) fn target_of(ended: &Ended<'_, '_>, part: &Part) -> TyRef
+    ensures { result ≡ target ended.now.names.now.definitions ended.now.ends.now part.now }
 {
-    ref_of(found_of(names, ends, part))
+    ref_of(found_of(ended, part))
 }
 
 /// The references that stand for some parts.
-pub(crate) fn targets_of(
-    alloc: Global,
-    names: &Names<'_>,
-    ends: &[usize],
-    parts: &[Part],
-) -> Result<TyRefs, NoMemory>
-    ensures { IfOk result (λ refs. refs ≡ map (target names.now ends.now) parts.now) }
+pub(crate) fn targets_of(ended: &Ended<'_, '_>, parts: &[Part]) -> Result<TyRefs, NoMemory>
+    ensures { IfOk result (λ refs. refs ≡ map (target ended.now.names.now.definitions ended.now.ends.now) parts.now) }
 {
-    let mut items = Vec::with_capacity(alloc, parts.len())?;
+    let mut items = Vec::new(ended.alloc);
     for part in parts {
-        items.push(target_of(names, ends, part))?;
+        items.push(target_of(ended, part))?;
     }
     Ok(TyRefs { items })
 }

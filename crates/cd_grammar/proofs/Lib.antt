@@ -1,4 +1,5 @@
 pub mod Words
+pub mod WordTable
 pub mod PartLemmas
 pub mod Loops
 pub mod Takes

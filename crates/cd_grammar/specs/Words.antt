@@ -1,5 +1,5 @@
 -- The words and marks of interface files (Candid specification, "Core Grammar").
-use Rattle.std.specs.Prelude.{◌≡◌, ℕ, true, bytes_eq, find, List, [], ◌∷◌, Option, Some, None, codes}
+use Rattle.std.specs.Prelude.{◌≡◌, ℕ, true, bytes_eq, find, if◌then◌else◌, List, [], ◌∷◌, Option, Some, None, codes}
 use Rattle.cd_types.specs.declared.primitive.Primitive.TheVariants as primitives
 use Rattle.cd_tokens.specs.Token.{Token, run, mark}
 use Rattle.cd_tokens.specs.Label.{is_name}
@@ -47,6 +47,11 @@ words =
 -- the word that is written so
 unfoldable pub word_of : List ℕ → Option Word
 word_of bytes = find (λ w. bytes_eq bytes (spelling w)) words
+
+-- the first of some words with their spellings that is written so
+abbrev pub word_in : List (List ℕ × Word) → List ℕ → Option Word
+word_in [] bytes = None
+word_in (row ∷ rows) bytes = if bytes_eq bytes row.0 then Some row.1 else word_in rows bytes
 
 -- a word as a token
 abbrev pub word : Word → Token

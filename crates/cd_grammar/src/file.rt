@@ -6,7 +6,7 @@ ghost use Rattle.cd_tokens.specs.View.{token_view, token_views};
 ghost use Rattle.cd_grammar.specs.File as files;
 ghost use Rattle.cd_grammar.specs.Fits.{FitsFile};
 ghost use Rattle.cd_grammar.specs.Grammar.{IsFile, no_place};
-ghost use Rattle.cd_grammar.specs.Read.{starts, with_part, is_word, is_type, is_service, are_none, is_end, defined_as, definition_at, definitions_at, past_colon, past_name, installed_at, served_at, main_with, main_behind, main_at, rest_at, file_from, file_at};
+ghost use Rattle.cd_grammar.specs.Read.{starts, with_part, is_word, is_type, is_service, are_none, is_end, defined_as, definition_at, definitions_at, past_colon, past_name, installed_at, served_at, main_with, main_at, rest_at, file_from, file_at};
 
 use crate::front::{name_of, rest_of, starts_arrow, starts_mark, word_of};
 use crate::reading::{Reader, named_of, service_of, tuple_of, type_of};
@@ -29,15 +29,6 @@ fn are_none(tokens: &[Token<'_>]) -> bool
     }
 }
 
-fn is_type(token: &Token<'_>) -> bool
-    ensures { result ≡ is_word is_type (token_view token.now) }
-{
-    match word_of(token) {
-        None => false,
-        Some(word) => matches!(word, Word::Definition),
-    }
-}
-
 fn is_service(token: &Token<'_>) -> bool
     ensures { result ≡ is_word is_service (token_view token.now) }
 {
@@ -53,7 +44,10 @@ fn starts_type(tokens: &[Token<'_>]) -> bool
 {
     match tokens {
         [] => false,
-        [first, ..] => is_type(first),
+        [first, ..] => match word_of(first) {
+            None => false,
+            Some(word) => matches!(word, Word::Definition),
+        },
     }
 }
 
@@ -217,22 +211,15 @@ fn main_with(reader: &mut Reader<'_, '_>, tuple: Parts) -> Result<Main, ReadErro
     }
 }
 
-// The service behind its colon, and the end of the file.
-fn main_behind(reader: &mut Reader<'_, '_>) -> Result<Main, ReadError>
-    ensures { Gives (λ main. (main, reader.new.types.items)) result (main_behind reader.old.types.items (token_views reader.old.rest.now)) }
-{
-    match installed_of(reader) {
-        Ok(items) => main_with(reader, Parts { items }),
-        Err(e) => Err(e),
-    }
-}
-
 // The service behind its word, and the end of the file.
 fn main_of(reader: &mut Reader<'_, '_>) -> Result<Main, ReadError>
     ensures { Gives (λ main. (main, reader.new.types.items)) result (main_at reader.old.types.items (token_views reader.old.rest.now)) }
 {
     match past_name(reader) {
-        Ok(()) => main_behind(reader),
+        Ok(()) => match installed_of(reader) {
+            Ok(items) => main_with(reader, Parts { items }),
+            Err(e) => Err(e),
+        },
         Err(e) => Err(e),
     }
 }

@@ -2,7 +2,7 @@ ghost use Rattle.std.specs.Prelude.{◌≡◌, drop};
 ghost use Rattle.ic_base.specs.Gives.{Gives};
 ghost use Rattle.cd_tokens.specs.View.{token_view, token_views};
 ghost use Rattle.cd_grammar.specs.Words.{word_of};
-ghost use Rattle.cd_grammar.specs.Read.{is_mark, is_arrow, starts, first_word, token_word, token_note, free_name, unless_word};
+ghost use Rattle.cd_grammar.specs.Read.{is_mark, is_arrow, starts, first_word, token_word, free_name, unless_word};
 
 use crate::word::Word;
 use cd_tokens::{Token, is_name};
@@ -69,16 +69,6 @@ pub(crate) fn first_word(tokens: &[Token<'_>]) -> Option<Word>
     match tokens {
         [] => None,
         [first, ..] => word_of(first),
-    }
-}
-
-/// The annotation that the token is.
-pub(crate) fn note_of(token: &Token<'_>) -> Option<u8>
-    ensures { result ≡ token_note (token_view token.now) }
-{
-    match word_of(token) {
-        None => None,
-        Some(word) => word.note(),
     }
 }
 

@@ -1,5 +1,5 @@
-ghost use Rattle.std.specs.Prelude.{◌≡◌, bytes_eq, find};
-ghost use Rattle.cd_grammar.specs.Words.{spelling, word_of, note_of};
+ghost use Rattle.std.specs.Prelude.{◌≡◌, map};
+ghost use Rattle.cd_grammar.specs.Words.{word_of, word_in, note_of};
 
 use cd_types::Primitive;
 
@@ -23,45 +23,45 @@ pub(crate) enum Word {
     CompositeQuery,
 }
 
-/// All words.
-const WORDS: [Word; 29] = [
-    Word::Prim(Primitive::Null),
-    Word::Prim(Primitive::Bool),
-    Word::Prim(Primitive::Nat),
-    Word::Prim(Primitive::Int),
-    Word::Prim(Primitive::Nat8),
-    Word::Prim(Primitive::Nat16),
-    Word::Prim(Primitive::Nat32),
-    Word::Prim(Primitive::Nat64),
-    Word::Prim(Primitive::Int8),
-    Word::Prim(Primitive::Int16),
-    Word::Prim(Primitive::Int32),
-    Word::Prim(Primitive::Int64),
-    Word::Prim(Primitive::Text),
-    Word::Prim(Primitive::Reserved),
-    Word::Prim(Primitive::Empty),
-    Word::Prim(Primitive::Principal),
-    Word::Float32,
-    Word::Float64,
-    Word::Blob,
-    Word::Opt,
-    Word::Seq,
-    Word::Rec,
-    Word::Var,
-    Word::Func,
-    Word::Service,
-    Word::Definition,
-    Word::Query,
-    Word::Oneway,
-    Word::CompositeQuery,
+/// All words, as they are written.
+const WORDS: [(&[u8], Word); 29] = [
+    (b"null", Word::Prim(Primitive::Null)),
+    (b"bool", Word::Prim(Primitive::Bool)),
+    (b"nat", Word::Prim(Primitive::Nat)),
+    (b"int", Word::Prim(Primitive::Int)),
+    (b"nat8", Word::Prim(Primitive::Nat8)),
+    (b"nat16", Word::Prim(Primitive::Nat16)),
+    (b"nat32", Word::Prim(Primitive::Nat32)),
+    (b"nat64", Word::Prim(Primitive::Nat64)),
+    (b"int8", Word::Prim(Primitive::Int8)),
+    (b"int16", Word::Prim(Primitive::Int16)),
+    (b"int32", Word::Prim(Primitive::Int32)),
+    (b"int64", Word::Prim(Primitive::Int64)),
+    (b"text", Word::Prim(Primitive::Text)),
+    (b"reserved", Word::Prim(Primitive::Reserved)),
+    (b"empty", Word::Prim(Primitive::Empty)),
+    (b"principal", Word::Prim(Primitive::Principal)),
+    (b"float32", Word::Float32),
+    (b"float64", Word::Float64),
+    (b"blob", Word::Blob),
+    (b"opt", Word::Opt),
+    (b"vec", Word::Seq),
+    (b"record", Word::Rec),
+    (b"variant", Word::Var),
+    (b"func", Word::Func),
+    (b"service", Word::Service),
+    (b"type", Word::Definition),
+    (b"query", Word::Query),
+    (b"oneway", Word::Oneway),
+    (b"composite_query", Word::CompositeQuery),
 ];
 
 // The first of the words that is written so.
-fn find_word(words: &[Word], bytes: &[u8]) -> Option<Word>
-    ensures { result ≡ find (λ w. bytes_eq bytes.now (spelling w)) words.now }
+fn find_word(words: &[(&[u8], Word)], bytes: &[u8]) -> Option<Word>
+    ensures { result ≡ word_in (map (λ w. (w.0.now, w.1)) words.now) bytes.now }
 {
-    for word in words {
-        if bytes == word.spelling() {
+    for (spelling, word) in words {
+        if bytes == *spelling {
             return Some(*word);
         }
     }
@@ -69,46 +69,7 @@ fn find_word(words: &[Word], bytes: &[u8]) -> Option<Word>
 }
 
 impl Word {
-    /// How the word is written.
-    #[tactic(auto, unfolding(crate::specs::Words::spelling))]
-    fn spelling(self) -> &'static [u8]
-        ensures { result.now ≡ spelling self }
-    {
-        match self {
-            Word::Prim(Primitive::Null) => b"null",
-            Word::Prim(Primitive::Bool) => b"bool",
-            Word::Prim(Primitive::Nat) => b"nat",
-            Word::Prim(Primitive::Int) => b"int",
-            Word::Prim(Primitive::Nat8) => b"nat8",
-            Word::Prim(Primitive::Nat16) => b"nat16",
-            Word::Prim(Primitive::Nat32) => b"nat32",
-            Word::Prim(Primitive::Nat64) => b"nat64",
-            Word::Prim(Primitive::Int8) => b"int8",
-            Word::Prim(Primitive::Int16) => b"int16",
-            Word::Prim(Primitive::Int32) => b"int32",
-            Word::Prim(Primitive::Int64) => b"int64",
-            Word::Prim(Primitive::Text) => b"text",
-            Word::Prim(Primitive::Reserved) => b"reserved",
-            Word::Prim(Primitive::Empty) => b"empty",
-            Word::Prim(Primitive::Principal) => b"principal",
-            Word::Float32 => b"float32",
-            Word::Float64 => b"float64",
-            Word::Blob => b"blob",
-            Word::Opt => b"opt",
-            Word::Seq => b"vec",
-            Word::Rec => b"record",
-            Word::Var => b"variant",
-            Word::Func => b"func",
-            Word::Service => b"service",
-            Word::Definition => b"type",
-            Word::Query => b"query",
-            Word::Oneway => b"oneway",
-            Word::CompositeQuery => b"composite_query",
-        }
-    }
-
     /// The word that is written so.
-    #[tactic(auto, unfolding(crate::specs::Words::word_of))]
     pub(crate) fn of(bytes: &[u8]) -> Option<Word>
         ensures { result ≡ word_of bytes.now }
     {

@@ -4,4 +4,4 @@ use Rattle.cd_did.specs.Tests.{passes}
 use Rattle.cd_did.proofs.checks.all_pass.Given as goal
 
 abbrev pub invariant-loop-part : goal.invariant-loop-part
-invariant-loop-part l = list_all (passes l.test l.names) (drop l.part-index l.parts) ≡ list_all (passes l.test l.names) l.parts
+invariant-loop-part l = list_all (passes l.test) (drop l.part-index l.parts) ≡ list_all (passes l.test) l.parts

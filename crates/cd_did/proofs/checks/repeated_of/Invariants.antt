@@ -4,4 +4,4 @@ use Rattle.cd_did.proofs.checks.repeated_of.Given as goal
 
 -- no name was repeated so far
 abbrev pub invariant-loop-place : goal.invariant-loop-place
-invariant-loop-place l = repeated (take l.place l.names) l.place (drop l.place l.names) ≡ repeated [] 0 l.names
+invariant-loop-place l = repeated (take l.place l.names.definitions) l.place (drop l.place l.names.definitions) ≡ repeated [] 0 l.names.definitions

@@ -5,4 +5,4 @@ use Rattle.cd_did.specs.Tests.{passes}
 use Rattle.cd_did.proofs.checks.types_pass.Given as goal
 
 abbrev pub invariant-loop-written : goal.invariant-loop-written
-invariant-loop-written l = list_all (λ w. list_all (passes l.test l.names) (parts_of w)) (drop l.written-index l.types) ≡ list_all (λ w. list_all (passes l.test l.names) (parts_of w)) l.types
+invariant-loop-written l = list_all (λ w. list_all (passes l.test) (parts_of w)) (drop l.written-index l.types) ≡ list_all (λ w. list_all (passes l.test) (parts_of w)) l.types

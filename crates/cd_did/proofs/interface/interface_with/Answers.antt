@@ -13,7 +13,7 @@ returns-then-not-is_served c = (
   (
     c.requires.ended.0,
     λ shaped.
-        let f : true ≡ false = sym (all_served c.args.file.now c.args.ends.now c.requires.ended shaped) ∙ sym c.is_served.ensures ∙ c.if-not-is_served.true in
+        let f : true ≡ false = sym (all_served c.args.ended.now.names.now c.args.ended.now.ends.now c.requires.ended shaped) ∙ sym c.is_served.ensures ∙ c.if-not-is_served.true in
         absurd cc,
   ),
   tt,
@@ -23,10 +23,10 @@ returns-then-not-is_served c = (
 pub returns-in-Ok : goal.returns-in-Ok
 returns-in-Ok c =
     let tabled = subst (λ (s : Option TyRef). IsTabled c.in-Ok.entries.items s c.tabled.result) c.service_of.ensures c.tabled.ensures in
-    let own = answered c.args.file.now c.args.ends.now c.in-Ok.entries.items c.tabled.result c.requires.ended c.requires.fits c.in-Ok.ensures.ok (sym c.is_served.ensures ∙ c.if-not-is_served.false) tabled in
-    (own.0, interface_is c.args.file.now c.args.ends.now c.in-Ok.entries.items c.tabled.result c.requires.ended c.in-Ok.ensures.ok.0 tabled, own.1)
+    let own = answered c.args.ended.now.names.now c.args.ended.now.ends.now c.in-Ok.entries.items c.tabled.result c.requires.ended c.requires.fits c.in-Ok.ensures.ok (sym c.is_served.ensures ∙ c.if-not-is_served.false) tabled in
+    (own.0, interface_is c.args.ended.now.names.now c.args.ended.now.ends.now c.in-Ok.entries.items c.tabled.result c.requires.ended c.in-Ok.ensures.ok.0 tabled, own.1)
 
 pub returns-in-Err-Refused : goal.returns-in-Err-Refused
 returns-in-Err-Refused c =
-    let never = subst (λ (e : ReadError). Refuses e (AllFormed c.args.file.now c.args.ends.now → ⊥)) c.in-Err-Refused.field-0-is c.in-Err-Refused.ensures.refused in
-    ((c.requires.ended.0, λ shaped. never (all_formed c.args.file.now c.args.ends.now c.requires.ended shaped)), tt, tt)
+    let never = subst (λ (e : ReadError). Refuses e (AllFormed c.args.ended.now.names.now c.args.ended.now.ends.now → ⊥)) c.in-Err-Refused.field-0-is c.in-Err-Refused.ensures.refused in
+    ((c.requires.ended.0, λ shaped. never (all_formed c.args.ended.now.names.now c.args.ended.now.ends.now c.requires.ended shaped)), tt, tt)

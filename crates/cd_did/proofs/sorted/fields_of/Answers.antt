@@ -1,14 +1,17 @@
-use Rattle.std.proofs.lemmas.Result.{err_from_is_err_and}
-use Rattle.cd_did.proofs.SortLemmas.{refuses_too, rows_fit, made_ids, no_ids}
+use Rattle.cd_did.proofs.SortLemmas.{refuses_too, rows_fit, made_ids, no_ids, no_fit}
 use Rattle.cd_did.proofs.sorted.fields_of.Goals as goal
 
-pub sorted-requires : goal.sorted-requires
-sorted-requires c = rows_fit c.args.names.now c.args.ends.now c.args.fields.now c.in_ok-rows.rows.items c.in_ok-rows.ensures.ok
+pub sort_rows-requires : goal.sort_rows-requires
+sort_rows-requires c = rows_fit c.args.ended.now.names.now.definitions c.args.ended.now.ends.now c.args.fields.now c.add_rows.new.rows.items c.in-Ok.ensures.ok
 
-pub returns-in_err-fields-clause-refused : goal.returns-in_err-fields-clause-refused
-returns-in_err-fields-clause-refused c =
-    let p = err_from_is_err_and c.from_residual-in_err-fields.result c.from_residual-in_err-fields.ensures.1 in
-    rw (p.1, p.2) (refuses_too c.in_err-fields.field-0.0 _ _ (no_ids c.args.names.now c.args.ends.now c.args.fields.now c.in_ok-rows.rows.items c.in_ok-rows.ensures.ok) c.in_err-fields.ensures.refused)
+pub returns-in-Ok-sort_rows-clause-ok : goal.returns-in-Ok-sort_rows-clause-ok
+returns-in-Ok-sort_rows-clause-ok c =
+    let own = made_ids c.args.ended.now.names.now.definitions c.args.ended.now.ends.now c.args.fields.now c.add_rows.new.rows.items c.sort_rows.new.rows.items c.in-Ok.ensures.ok c.in-Ok-sort_rows.ensures.ok in
+    ((c.sort_rows.new.rows.items, c.rows_made.ensures, own.0), own.1)
 
-pub returns-clause-ok : goal.returns-clause-ok
-returns-clause-ok c = made_ids c.args.names.now c.args.ends.now c.args.fields.now c.in_ok-rows.rows.items c.in_ok-fields.fields c.in_ok-rows.ensures.ok c.in_ok-fields.ensures.ok
+pub returns-in-Err-sort_rows-clause-refused : goal.returns-in-Err-sort_rows-clause-refused
+returns-in-Err-sort_rows-clause-refused c =
+    refuses_too c.in-Err-sort_rows.e _ _ (no_ids c.args.ended.now.names.now.definitions c.args.ended.now.ends.now c.args.fields.now c.add_rows.new.rows.items c.in-Ok.ensures.ok) c.in-Err-sort_rows.ensures.refused
+
+pub returns-in-Err-clause-refused : goal.returns-in-Err-clause-refused
+returns-in-Err-clause-refused c = refuses_too c.in-Err.e _ _ (no_fit c.args.fields.now) c.in-Err.ensures.refused

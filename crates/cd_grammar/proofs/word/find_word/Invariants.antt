@@ -1,8 +1,7 @@
-use Rattle.std.proofs.Common.{◌≡◌, drop}
-use Rattle.std.specs.Prelude.{bytes_eq, find}
-use Rattle.cd_grammar.specs.Words.{spelling}
+use Rattle.std.proofs.Common.{◌≡◌, drop, map}
+use Rattle.cd_grammar.specs.Words.{word_in}
 use Rattle.cd_grammar.proofs.word.find_word.Given as goal
 
 -- the words before are written otherwise
-abbrev pub invariant-loop-word : goal.invariant-loop-word
-invariant-loop-word l = find (λ w. bytes_eq l.bytes (spelling w)) (drop l.word-index l.words) ≡ find (λ w. bytes_eq l.bytes (spelling w)) l.words
+abbrev pub invariant-loop-spelling : goal.invariant-loop-spelling
+invariant-loop-spelling l = word_in (map (λ w. (w.0.now, w.1)) (drop l.spelling-index l.words)) l.bytes ≡ word_in (map (λ w. (w.0.now, w.1)) l.words) l.bytes

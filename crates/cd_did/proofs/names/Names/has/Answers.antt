@@ -1,9 +1,9 @@
-use Rattle.std.proofs.Common.{◌≡◌, length, ap, ◌∙◌, arith}
-use Rattle.std.proofs.lemmas.List.{take_all}
-use Rattle.cd_did.specs.Faults.{Definitions, is_defined}
+use Rattle.std.proofs.Common.{sym, ◌∙◌}
+use Rattle.cd_did.proofs.NamePlaces.{none_there, one_there}
 use Rattle.cd_did.proofs.names.Names.has.Goals as goal
 
-pub returns : goal.returns
-returns c =
-    let size : length c.self.inside.definitions.now ≡ length c.args.self.now = ap length c.self.view_is in
-    c.has_before.ensures ∙ ap (λ (defs : Definitions). is_defined defs c.args.name.now) (take_all (length c.self.inside.definitions.now) c.args.self.now (omega (arith, size)))
+pub returns-in-None : goal.returns-in-None
+returns-in-None c = sym (none_there c.args.self.now.definitions 0 c.args.name.now (sym c.place_of.ensures.value ∙ c.in-None.is))
+
+pub returns-in-Some : goal.returns-in-Some
+returns-in-Some c = sym (one_there c.args.self.now.definitions 0 c.in-Some.field-0 c.args.name.now (sym c.place_of.ensures.value ∙ c.in-Some.is))

@@ -1,6 +1,6 @@
 use Rattle.std.proofs.Common.{drop}
 use Rattle.cd_did.specs.Places.{HasPlaces}
-use Rattle.cd_did.proofs.names.places_of.Given as goal
+use Rattle.cd_did.proofs.names.put_places.Given as goal
 
 -- the names of the last definitions
 abbrev pub invariant-loop-place : goal.invariant-loop-place

@@ -2,7 +2,7 @@ use Rattle.std.proofs.Common.{◌-◌, ap, ◌∙◌, List, ℕ, cond, Some, ari
 use Rattle.std.specs.Prelude.{bytes_eq}
 use Rattle.cd_did.specs.Places.{found_in}
 use Rattle.cd_did.proofs.NamePlaces.{name_put, one_more}
-use Rattle.cd_did.proofs.names.places_of.Goals as goal
+use Rattle.cd_did.proofs.names.put_places.Goals as goal
 
 pub loop-place-preserved : goal.loop-place-preserved
 loop-place-preserved c =
