@@ -1,6 +1,6 @@
 -- What goes out, one after another.
 use Rattle.std.proofs.Common.{◌≡◌, ℕ, zero, suc, ◌<◌, ◌≤◌, List, [], ◌∷◌, ◌++◌, length, Some, refl, sym, ap, ◌∙◌, subst, arith, append_assoc, append-nil, not-suc-le-zero}
-use Rattle.std.specs.Prelude.{slice_set, slice_index_or, Result, IfOk}
+use Rattle.std.specs.Prelude.{slice_set, slice_index_or, Result, OnOk}
 use Rattle.std.specs.List.{flat_map, fold}
 use Rattle.ic_behaviour.specs.declared.call.Message.{Message}
 use Rattle.ic_behaviour.specs.declared.call.Answered.{Answered}
@@ -31,9 +31,9 @@ answers-sent sender p (a ∷ answers) =
     answers-sent sender (answered_in sender a p) answers
     ∙ ap (λ l. record p { messages = l; requests = fold filled p.requests (a ∷ answers) }) (append_assoc p.messages (routed sender a) (flat_map (routed sender) answers))
 
-pub sent-after : {E : Type 0} (sender : List ℕ) (calls : List Message) (answers : List Answered) (p q : Parts) (r : Result Parts E)
-    → q ≡ record p { messages = p.messages ++ calls } → IfOk r (λ t. t ≡ fold (λ u given. answered_in sender given u) q answers)
-    → IfOk r (λ t. t ≡ sent_from sender calls answers p)
-sent-after sender calls answers p q r is done =
-    let P = λ (t : Parts). IfOk r (λ u. u ≡ t) in
+pub sent-after : {X E : Type 0} (sender : List ℕ) (calls : List Message) (answers : List Answered) (p q t : Parts) (r : Result X E)
+    → q ≡ record p { messages = p.messages ++ calls } → OnOk r (t ≡ fold (λ u given. answered_in sender given u) q answers)
+    → OnOk r (t ≡ sent_from sender calls answers p)
+sent-after sender calls answers p q t r is done =
+    let P = λ (u : Parts). OnOk r (t ≡ u) in
     subst P (answers-sent sender q answers ∙ ap (λ (t : Parts). record t { messages = t.messages ++ flat_map (routed sender) answers; requests = fold filled t.requests answers }) is) done

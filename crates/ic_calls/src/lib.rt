@@ -18,5 +18,5 @@ pub use closing::close;
 pub use contexts::{call_id_of, context_at, open_context, place_of, put};
 pub use receiving::{add_context, take_call, take_refund, take_response};
 pub use responses::{no_canister, no_response, out_of_cycles, refused, trapped_by};
-pub use routing::{answer, route};
+pub use routing::{answer, route, send};
 pub use ways::callee;

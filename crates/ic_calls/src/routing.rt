@@ -31,12 +31,20 @@ fn set_answer(request: &mut Request, response: Response)
 pub fn answer(parts: Parts, sender: &Principal, given: Answered) -> Result<Parts, NoMemory>
     ensures { IfOk result (λ p. p ≡ answered_in sender.now given parts) }
 {
+    let mut parts = parts;
+    give(&mut parts, sender, given)?;
+    Ok(parts)
+}
+
+// Gives an answer, as `answer`.
+fn give(parts: &mut Parts, sender: &Principal, given: Answered) -> Result<(), NoMemory>
+    ensures { OnOk result (parts.new ≡ answered_in sender.now given parts.old) }
+{
     let Answered {
         origin,
         response,
         refund,
     } = given;
-    let mut parts = parts;
     match origin {
         Origin::Ingress(number) => fill(&mut parts.requests, number, response),
         Origin::Canister { .. } => parts.messages.push(Message::Answer {
@@ -46,7 +54,7 @@ pub fn answer(parts: Parts, sender: &Principal, given: Answered) -> Result<Parts
             refund,
         })?,
     }
-    Ok(parts)
+    Ok(())
 }
 
 fn append(messages: &mut Messages, more: Messages) -> Result<(), NoMemory>
@@ -58,14 +66,13 @@ fn append(messages: &mut Messages, more: Messages) -> Result<(), NoMemory>
 }
 
 // Gives answers, in their order.
-fn answer_all(parts: Parts, sender: &Principal, answers: AnsweredList) -> Result<Parts, NoMemory>
-    ensures { IfOk result (λ p. p ≡ fold (λ q given. answered_in sender.now given q) parts answers) }
+fn give_all(parts: &mut Parts, sender: &Principal, answers: AnsweredList) -> Result<(), NoMemory>
+    ensures { OnOk result (parts.new ≡ fold (λ q given. answered_in sender.now given q) parts.old answers) }
 {
-    let mut parts = parts;
     for given in answers.items {
-        parts = answer(parts, sender, given)?;
+        give(parts, sender, given)?;
     }
-    Ok(parts)
+    Ok(())
 }
 
 /// Sends what the canister `sender` sent while it handled a message: the calls come last, and then the
@@ -79,6 +86,19 @@ pub fn route(
     ensures { IfOk result (λ p. p ≡ sent_from sender.now calls answers parts) }
 {
     let mut parts = parts;
+    send(&mut parts, sender, calls, answers)?;
+    Ok(parts)
+}
+
+/// Sends what the canister `sender` sent, as `route`, in fields that are lent.
+pub fn send(
+    parts: &mut Parts,
+    sender: &Principal,
+    calls: Messages,
+    answers: AnsweredList,
+) -> Result<(), NoMemory>
+    ensures { OnOk result (parts.new ≡ sent_from sender.now calls answers parts.old) }
+{
     append(&mut parts.messages, calls)?;
-    answer_all(parts, sender, answers)
+    give_all(parts, sender, answers)
 }

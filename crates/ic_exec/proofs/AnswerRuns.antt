@@ -24,10 +24,10 @@ use Rattle.ic_state.specs.declared.canister.Canister.{Canister}
 use Rattle.ic_state.specs.declared.canister.Code.{Code as StoredCode}
 use Rattle.ic_state.specs.Seen.{seen, code_of}
 use Rattle.ic_api.specs.System.{system_api}
-use Rattle.ic_exec.specs.declared.entering.Entered.{Entered}
+use Rattle.ic_entry.specs.declared.entering.Entered.{Entered}
 use Rattle.ic_exec.specs.declared.work.Work.{Work as StoredWork}
 use Rattle.ic_exec.specs.Executed.{work_of}
-use Rattle.ic_exec.specs.Entered.{told, store_after}
+use Rattle.ic_entry.specs.Entered.{told, store_after}
 use Rattle.ic_exec.specs.Cleanups.{cleaned_by, after_cleanup}
 
 -- what traps leaves the store as it was

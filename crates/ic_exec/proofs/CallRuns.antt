@@ -21,9 +21,9 @@ use Rattle.ic_state.specs.declared.canister.Code.{Code as StoredCode}
 use Rattle.ic_state.specs.Seen.{seen, code_of}
 use Rattle.ic_api.specs.System.{system_api}
 use Rattle.ic_exec.specs.declared.work.Work.{Work as StoredWork}
-use Rattle.ic_exec.specs.Executed.{work_of}
-use Rattle.ic_exec.specs.declared.entering.Entered.{Entered}
-use Rattle.ic_exec.specs.Entered.{told, parts_of}
+use Rattle.ic_exec.specs.Executed.{work_of, parts_of}
+use Rattle.ic_entry.specs.declared.entering.Entered.{Entered}
+use Rattle.ic_entry.specs.Entered.{told}
 
 module _ (enters : Enters) (env : Env) (c : CountedCanister) (own : CallId) (x : Context) (method arg : List ℕ) (code : Code) where
   query_work : (o : Outcome) (t : Entered) (e : Effects) → t ≡ told o → t.ended ≡ Ok e → queried c own x o ≡ returned c own x c.store (answer_alone c x e) t.used

@@ -1,4 +1,3 @@
-pub mod Enters
 pub mod Numbers
 pub mod Applies
 pub mod Rooms
@@ -7,6 +6,3 @@ pub mod AnswerRuns
 pub mod Handles
 pub mod Trapped
 pub mod Conserves
-pub mod Stages
-pub mod Stores
-pub mod Installs

@@ -9,7 +9,7 @@ use Rattle.ic_behaviour.specs.State.{Code}
 use Rattle.ic_behaviour.specs.Counted.{CountedCanister}
 use Rattle.ic_behaviour.specs.Outcomes.{Outcome, Enters}
 use Rattle.ic_behaviour.specs.Executing.{view}
-use Rattle.ic_exec.specs.Entered.{told, store_after}
+use Rattle.ic_entry.specs.Entered.{told, store_after}
 
 abbrev pub cleaned_by : Lists → Outcome → Lists × ℕ
 cleaned_by s o = (store_after true s o, (told o).used)

@@ -1,8 +1,12 @@
 -- A message that was executed, as what it did. No standard has this.
-use Rattle.std.specs.Prelude.{ℕ, ◌+◌, ◌<◌, ◌≤◌, ◌^◌, ◌≡◌, false, length}
+use Rattle.std.specs.Prelude.{ℕ, Bool, ◌+◌, ◌<◌, ◌≤◌, ◌^◌, ◌≡◌, true, false, length}
 use Rattle.ic_behaviour.specs.declared.call.Message.{Message}
 use Rattle.ic_behaviour.specs.declared.call.Answered.{Answered}
 use Rattle.ic_behaviour.specs.declared.context.Context.{Context}
+use Rattle.ic_behaviour.specs.declared.env.Admitted.{Admitted}
+use Rattle.ic_behaviour.specs.declared.env.Admitted.TheVariants.{Update, Query}
+use Rattle.ic_behaviour.specs.declared.execution.EntryKind.{EntryKind}
+use Rattle.ic_behaviour.specs.declared.execution.EntryKind.TheVariants as kind
 use Rattle.ic_behaviour.specs.declared.execution.Effects.{Effects}
 use Rattle.ic_behaviour.specs.Totals.{total}
 use Rattle.ic_behaviour.specs.Items.{item_of, cycles_in}
@@ -25,6 +29,11 @@ work_of c w = record { canister = seen c; calls = w.calls; answers = w.answers; 
 
 abbrev pub done_of : Canister → Done → Handled
 done_of c d = record { canister = seen c; calls = d.calls; answers = d.answers; used = d.used; burned = d.burned; trapped = d.trapped }
+
+-- the function of a method, what kind of entry it is, and whether what it does to the store is kept
+abbrev pub parts_of : Admitted → ℕ × EntryKind × Bool
+parts_of (Update f) = (f, kind.Update, true)
+parts_of (Query f) = (f, kind.Query, false)
 
 -- the cycles of a message: those of a call, or the refund of an answer
 abbrev pub message_cycles : Message → ℕ

@@ -11,10 +11,9 @@ ghost use Rattle.ic_exec.specs.Executed.{work_of};
 ghost use Rattle.ic_exec.specs.Cleanups.{after_cleanup};
 
 use crate::effects::returned;
-use crate::entering::{Entered, attempt};
-use crate::views::{copies_of, view_in, with_answer};
 use crate::work::{Work, silent};
 use ic_base::NoMemory;
+use ic_entry::{Entered, attempt, copies_of, view_in, with_answer};
 use ic_state::{Callback, Canister, Context, EntryKind, Env, Response};
 use std::alloc::Global;
 use wm_semantics::Target;

@@ -7,14 +7,12 @@ ghost use Rattle.ic_state.specs.Seen.{seen};
 ghost use Rattle.ic_state.specs.IsCanister.{IsCanister};
 ghost use Rattle.ic_calls.specs.Received.{CanEnter};
 ghost use Rattle.ic_api.specs.System.{system_api};
-ghost use Rattle.ic_exec.specs.Executed.{work_of};
-ghost use Rattle.ic_exec.specs.Entered.{parts_of};
+ghost use Rattle.ic_exec.specs.Executed.{parts_of, work_of};
 
 use crate::effects::{answer_alone, returned};
-use crate::entering::{Entered, attempt};
-use crate::views::{copies_of, view_in, with_call};
 use crate::work::{Work, silent};
 use ic_base::NoMemory;
+use ic_entry::{Entered, attempt, copies_of, view_in, with_call};
 use ic_principal::{Bytes, Principal, Text};
 use ic_state::{Admitted, Canister, Context, EntryKind, Env, Origin};
 use std::alloc::Global;

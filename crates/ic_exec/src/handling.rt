@@ -23,6 +23,7 @@ use ic_calls::{
     add_context, admit, call_id_of, close, context_at, out_of_cycles, refused as refusal_of,
     take_refund,
 };
+use ic_entry::discard;
 use ic_principal::Principal;
 use ic_state::{
     Admitted, Answered, AnsweredList, CallId, Callback, Canister, Context, Env, Message, Messages,
@@ -222,8 +223,9 @@ fn handle_answer(
     }
 }
 
-// Handles a message. After `NoMemory` nothing is said of the canister.
-fn handle(
+/// Executes a message on a canister that is lent, as `execute`. After `NoMemory` nothing is said of
+/// the canister.
+pub fn handle(
     alloc: Global,
     canister: &mut Canister,
     message: Message,
@@ -296,20 +298,27 @@ pub fn execute(
 {
     entries_are_lawful();
     let mut canister = canister;
-    let done = handle(alloc, &mut canister, message, env)?;
-    let Done {
-        calls,
-        answers,
-        used,
-        burned,
-        trapped,
-    } = done;
-    Ok(Executed {
-        canister,
-        calls,
-        answers,
-        used,
-        trapped,
-        burned,
-    })
+    match handle(alloc, &mut canister, message, env) {
+        Ok(done) => {
+            let Done {
+                calls,
+                answers,
+                used,
+                burned,
+                trapped,
+            } = done;
+            Ok(Executed {
+                canister,
+                calls,
+                answers,
+                used,
+                trapped,
+                burned,
+            })
+        }
+        Err(e) => {
+            discard(canister);
+            Err(e)
+        }
+    }
 }

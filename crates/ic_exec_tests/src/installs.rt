@@ -1,7 +1,7 @@
 ghost use Rattle.std.specs.Prelude.{◌≡◌, true, IfSome};
 ghost use Rattle.std.specs.Option.{IsSome};
 ghost use Rattle.ic_state.specs.IsCanister.{IsCanister};
-ghost use Rattle.ic_exec.specs.Installed.{is_upgrade};
+ghost use Rattle.ic_entry.specs.Installed.{is_upgrade};
 
 use crate::canisters::empty_canister;
 use crate::keeper::keeper;

@@ -16,8 +16,8 @@ use Rattle.ic_state.specs.declared.world.Parts.{Parts}
 use Rattle.ic_state.specs.Seen.{seen, entry_of, state_of}
 use Rattle.ic_state.specs.IsCanister.{IsCanister}
 use Rattle.ic_state.specs.IsWorld.{IsWorld, HasCounts}
-use Rattle.ic_exec.specs.Query.{query_response}
-use Rattle.ic_exec.specs.Inspection.{is_accepted}
+use Rattle.ic_entry.specs.Query.{query_response}
+use Rattle.ic_entry.specs.Inspection.{is_accepted}
 use Rattle.ic_options.specs.declared.Options.{Options}
 use Rattle.ic_host.specs.AfterCommand.{answer_by, answer_now, accepts, accepts_now}
 use Rattle.ic_host.specs.Options.{rules_of}

@@ -15,8 +15,8 @@ use Rattle.ic_behaviour.specs.Texts.{no_canister}
 use Rattle.ic_behaviour.specs.Deliver.{env_at}
 use Rattle.ic_runs.specs.Round.{rounds}
 use Rattle.ic_runs.specs.Runs.{Act, Delivers, Submits, SetsTime, after}
-use Rattle.ic_exec.specs.Query.{query_response}
-use Rattle.ic_exec.specs.Inspection.{is_accepted}
+use Rattle.ic_entry.specs.Query.{query_response}
+use Rattle.ic_entry.specs.Inspection.{is_accepted}
 use Rattle.ic_schedule.specs.Picks.{is_eligible}
 use Rattle.ic_options.specs.declared.Options.{Options}
 use Rattle.ic_host.specs.Options.{rules_of}

@@ -3,7 +3,8 @@ ghost use Rattle.ic_behaviour.specs.Submitted.{submitted, timed};
 ghost use Rattle.ic_runs.specs.Round.{rounds};
 ghost use Rattle.ic_behaviour.specs.Entry.{enters_by};
 ghost use Rattle.ic_api.specs.System.{system_api};
-ghost use Rattle.ic_exec.specs.Inspection.{is_accepted};
+ghost use Rattle.ic_entry.specs.Inspection.{is_accepted};
+ghost use Rattle.ic_entry.specs.Query.{query_response};
 ghost use Rattle.ic_state.specs.IsCanister.{IsCanister};
 ghost use Rattle.ic_state.specs.IsWorld.{IsWorld};
 ghost use Rattle.ic_state.specs.Seen.{seen, state_of};
@@ -24,13 +25,13 @@ use ic_candid_lines::{decode_text, encode_text, show_text, upgrade_text};
 use ic_exec::{inspect, inspects, query};
 use ic_options::Options;
 use ic_outside::Gate;
-use ic_principal::Bytes;
+use ic_principal::{Bytes, Principal};
 use ic_printed::{
     accepted_text, call_refused_text, pick_text, query_text, ran_text, state_line, witness_line,
 };
 use ic_queue_rounds::run_rounds;
 use ic_script::{Ask, Command, LineCause, LineError, Paths, parse_line};
-use ic_state::{Canister, Env, Parts, Response, World};
+use ic_state::{CanisterPlace, Env, Parts, Response, World};
 use std::alloc::Global;
 use std::thread::Threads;
 
@@ -173,7 +174,7 @@ fn accepts_now(
         price: options.price,
     };
     match parts.canisters.get_mut(&ask.callee) {
-        Some(canister) => accepts(alloc, canister, ask, env),
+        Some(place) => accepts(alloc, place, ask, env),
         None => Ok(true),
     }
 }
@@ -181,21 +182,28 @@ fn accepts_now(
 // The argument is copied for a canister that looks at calls, and for no other.
 fn accepts(
     alloc: Global,
-    canister: &mut Canister,
+    place: &mut CanisterPlace,
     ask: &Ask,
     env: Env,
 ) -> Result<bool, WantOfMemory>
-    requires { IsCanister canister.old }
-    ensures accepted { IfOk result (λ b. b ≡ is_accepted (enters_by system_api) env (seen canister.old) ask.now.sender ask.now.method ask.now.arg) }
-    ensures same { canister.new ≡ canister.old }
+    requires { IsCanister place.old }
+    ensures accepted { IfOk result (λ b. b ≡ is_accepted (enters_by system_api) env (seen place.old) ask.now.sender ask.now.method ask.now.arg) }
+    ensures same { place.new ≡ place.old }
 {
-    if !inspects(canister) {
+    if !inspects(place.get()) {
         return Ok(true);
     }
     let arg = Bytes {
         items: Vec::from_slice(alloc, ask.arg.items.as_slice())?,
     };
-    inspect(alloc, canister, ask.sender, &ask.method.items, arg, env)
+    inspect(
+        alloc,
+        place.get_mut(),
+        ask.sender,
+        &ask.method.items,
+        arg,
+        env,
+    )
 }
 
 fn accept(alloc: Global, world: World, ask: Ask) -> Result<(World, Bytes), NotDone>
@@ -269,9 +277,25 @@ fn answer_now(
         arg,
     } = ask;
     match parts.canisters.get_mut(&callee) {
-        Some(canister) => query(alloc, canister, sender, &method.items, arg, env),
+        Some(place) => asked(alloc, place, sender, &method.items, arg, env),
         None => no_canister(alloc, &callee),
     }
+}
+
+// Asks the canister in its place, which stays as it is.
+fn asked(
+    alloc: Global,
+    place: &mut CanisterPlace,
+    sender: Principal,
+    method: &str,
+    arg: Bytes,
+    env: Env,
+) -> Result<Response, WantOfMemory>
+    requires { IsCanister place.old }
+    ensures response { IfOk result (λ r. r ≡ query_response (enters_by system_api) env (seen place.old) sender method.now arg) }
+    ensures same { place.new ≡ place.old }
+{
+    query(alloc, place.get_mut(), sender, method, arg, env)
 }
 
 fn make_rounds<R: Threads + Sync, G: Gate + Sync>(

@@ -15,11 +15,11 @@ use crate::settings::{deposit, status, update_settings};
 use crate::uninstalling::uninstall_code;
 use ic_orders::Unmet;
 use ic_principal::Principal;
-use ic_state::{Canister, Env};
+use ic_state::{Canister, CanisterPlace, Env};
 use std::alloc::Global;
 
-/// Does it to the canister that has this id.
-pub fn change(
+// Does it to the canister that has this id.
+fn change(
     alloc: Global,
     canister: &mut Canister,
     id: Principal,
@@ -46,4 +46,24 @@ pub fn change(
         Change::StopCanister => stop(alloc, canister, id, call),
         Change::CanisterStatus => status(alloc, canister, id, call),
     }
+}
+
+/// Does it to the canister that has this id, in its place.
+pub fn change_placed(
+    alloc: Global,
+    place: &mut CanisterPlace,
+    id: Principal,
+    call: &Incoming,
+    what: Change,
+    env: Env,
+) -> Result<Ending, Unmet>
+    requires keeps { IsCanister place.old }
+    requires room { cycles_of place.old + call.now.cycles ≤ 2 ^ 127 - 1 }
+    requires limit { env.limit ≤ 1000000000000 }
+    ensures does { DoesAt result (incoming_of call.now) id place.old place.new
+        (λ now s. changes (enters_after system_api) env.limit (record now { time = env.time }) s (incoming_of call.now) id what) }
+    ensures counts { IfMemory result (KeepsCounts id place.old place.new) }
+    ensures keeps { IfMemory result (IsCanister place.new) }
+{
+    change(alloc, place.get_mut(), id, call, what, env)
 }

@@ -9,7 +9,7 @@ ghost use Rattle.ic_state.specs.IsCanister.{IsCanister};
 ghost use Rattle.ic_orders.specs.Checks.{MeetsBy};
 ghost use Rattle.ic_orders.specs.Modules.{code_of};
 ghost use Rattle.ic_management.specs.Rows.{installs, unless_unsuited, unless_refused};
-ghost use Rattle.ic_exec.specs.Installed.{is_upgrade};
+ghost use Rattle.ic_entry.specs.Installed.{is_upgrade};
 ghost use Rattle.ic_methods.specs.Taken.{incoming_of};
 ghost use Rattle.ic_methods.specs.Ending.{IfMemory};
 ghost use Rattle.ic_methods.specs.Changes.{asked_of, DoesAt, KeepsCounts, IsInstalled};

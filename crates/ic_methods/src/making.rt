@@ -17,7 +17,7 @@ use crate::settings::listed;
 use ic_base::NoMemory;
 use ic_orders::{Denial, Unmet, canister_reply, unless};
 use ic_principal::Principal;
-use ic_state::{Canister, Controllers, Parts, Response};
+use ic_state::{Canister, CanisterPlace, Controllers, Parts, Response};
 use std::alloc::Global;
 
 const MOST_CANISTERS: usize = 64;
@@ -80,7 +80,8 @@ fn add(
 {
     let id = Principal::canister_id(parts.next_canister);
     let canister = Canister::new(alloc, id, controllers, balance)?;
-    parts.canisters.insert(id, canister)?;
+    let place = CanisterPlace::new(alloc, canister)?;
+    parts.canisters.insert(id, place)?;
     parts.next_canister += 1;
     Ok(id)
 }

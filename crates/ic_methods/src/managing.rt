@@ -12,7 +12,7 @@ ghost use Rattle.ic_methods.specs.Ending.{ended_by, IfMemory, DoesRow, Keeps};
 ghost use Rattle.ic_methods.specs.Changes.{changes, obeyed};
 
 use crate::change::{Change, NewCode};
-use crate::changing::change;
+use crate::changing::change_placed;
 use crate::ending::{Ending, replied, send};
 use crate::incoming::Incoming;
 use crate::making::{create, provisional_create};
@@ -34,7 +34,7 @@ fn permit(parts: &Parts, sender: &Principal, demand: &Demand) -> Result<(), Deni
         return permitted(demand, sender, None);
     };
     match parts.canisters.get(&id) {
-        Some(canister) => permitted(demand, sender, Some(&canister.controllers)),
+        Some(place) => permitted(demand, sender, Some(&place.get().controllers)),
         None => Err(Denial::NoCanister(id)),
     }
 }
@@ -60,7 +60,7 @@ fn at_canister(
         price: 0,
     };
     match parts.canisters.get_mut(&id) {
-        Some(canister) => change(alloc, canister, id, call, what, env),
+        Some(place) => change_placed(alloc, place, id, call, what, env),
         None => Err(Unmet::Denied(Denial::NoCanister(id))),
     }
 }

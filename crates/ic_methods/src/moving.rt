@@ -11,18 +11,18 @@ use crate::incoming::Incoming;
 use crate::making::unless_above;
 use ic_orders::{Denial, Unmet};
 use ic_principal::Principal;
-use ic_state::{Canister, Parts, Phase};
+use ic_state::{CanisterPlace, Parts, Phase};
 use std::alloc::Global;
 use std::collections::BTreeMap;
 
 // The balance of the canister grows.
-fn grant(canisters: &mut BTreeMap<Principal, Canister>, id: &Principal, amount: u128)
+fn grant(canisters: &mut BTreeMap<Principal, CanisterPlace>, id: &Principal, amount: u128)
     requires room { IfSome (lookup (at id.now) canisters.old.entries) (λ c. c.balance + amount ≤ 2 ^ 127 - 1) }
     ensures { IfSome (lookup (at id.now) canisters.old.entries) (λ c. canisters.new.entries
         ≡ set_value (at id.now) canisters.old.entries (record c { balance = c.balance + amount })) }
 {
     if let Some(canister) = canisters.get_mut(id) {
-        canister.balance += amount;
+        canister.get_mut().balance += amount;
     }
 }
 
@@ -70,9 +70,10 @@ pub fn delete(
         (at_canister (state_of parts.old) id (deletes (state_of parts.old) (incoming_of call.now) id)) }
     ensures keeps { IfMemory result (Keeps parts.old parts.new) }
 {
-    let Some(canister) = parts.canisters.get(&id) else {
+    let Some(place) = parts.canisters.get(&id) else {
         return Err(Unmet::Denied(Denial::NoCanister(id)));
     };
+    let canister = place.get();
     unless_stopped(&canister.phase)?;
     parts.burned += canister.balance;
     parts.canisters.remove(&id);

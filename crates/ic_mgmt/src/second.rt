@@ -11,11 +11,11 @@ use crate::sweep::Sweep;
 use ic_base::NoMemory;
 use ic_calls::callee;
 use ic_principal::Principal;
-use ic_state::{Canister, Message, Parts, World};
+use ic_state::{CanisterPlace, Message, Parts, World};
 use std::alloc::Global;
 use std::collections::BTreeMap;
 
-fn is_inside(canisters: &BTreeMap<Principal, Canister>, message: &Message) -> bool
+fn is_inside(canisters: &BTreeMap<Principal, CanisterPlace>, message: &Message) -> bool
     ensures { result ≡ is_inside canisters.now.entries message.now }
 {
     match message {

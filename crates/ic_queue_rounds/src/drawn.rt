@@ -5,14 +5,14 @@ ghost use Rattle.ic_queue_rounds.specs.Drawing.{draw, none_drawn};
 use ic_base::NoMemory;
 use ic_principal::Principal;
 use ic_queues::Queues;
-use ic_state::Message;
+use ic_state::MessagePlace;
 use std::alloc::Global;
 use std::marker::Model;
 
 /// The first message to each canister that has one, and the queues without them.
 #[derive(Drop)]
 pub struct Drawn {
-    firsts: Vec<(Principal, Message)>,
+    firsts: Vec<(Principal, MessagePlace)>,
     queues: Queues,
 }
 
@@ -34,7 +34,7 @@ impl Drawn {
     }
 
     /// The first messages, in rising order of their canisters, and the queues.
-    pub fn open(self) -> (Vec<(Principal, Message)>, Queues)
+    pub fn open(self) -> (Vec<(Principal, MessagePlace)>, Queues)
         ensures firsts { result.0.items ≡ self.firsts }
         ensures queues { result.1 ≡ self.queues }
     {

@@ -63,6 +63,6 @@ pub fn canister_turns<R: Threads + Sync, G: Gate + Sync>(
         gate,
     )?;
     let (rest, sent) = taken_apart(alloc, parts);
-    let queues = queues.append(sent)?;
+    let queues = queues.append(alloc, sent)?;
     Ok(QueuedWorld::seal(rest, queues))
 }

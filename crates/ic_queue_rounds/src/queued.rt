@@ -9,7 +9,7 @@ use ic_base::NoMemory;
 use ic_mgmt::{put_together, taken_apart};
 use ic_principal::Principal;
 use ic_queues::Queues;
-use ic_state::{Canister, Parts, World};
+use ic_state::{CanisterPlace, Parts, World};
 use std::alloc::Global;
 use std::collections::BTreeMap;
 use std::marker::Model;
@@ -37,7 +37,7 @@ impl Model for QueuedWorld {
 /// The ids of canisters, in rising order.
 pub fn ids(
     alloc: Global,
-    canisters: &BTreeMap<Principal, Canister>,
+    canisters: &BTreeMap<Principal, CanisterPlace>,
 ) -> Result<Vec<Principal>, NoMemory>
     ensures { IfOk result (λ v. v.items ≡ keys_of canisters.now.entries) }
 {
@@ -51,7 +51,7 @@ impl QueuedWorld {
     {
         let (rest, messages) = taken_apart(alloc, world.open());
         let canisters = ids(alloc, &rest.canisters)?;
-        let queues = Queues::new(alloc, canisters)?.append(messages)?;
+        let queues = Queues::new(alloc, canisters)?.append(alloc, messages)?;
         Ok(QueuedWorld { rest, queues })
     }
 

@@ -44,7 +44,7 @@ fn steady_turns(alloc: Global, world: QueuedWorld, limit: u64) -> Result<QueuedW
     let (queues, outs) = queues.take_outside(alloc)?;
     let rest = all_handled(alloc, rest, outs.items, limit)?;
     let (rest, sent) = taken_apart(alloc, rest);
-    let queues = queues.append(sent)?;
+    let queues = queues.append(alloc, sent)?;
     Ok(QueuedWorld::seal(rest, queues))
 }
 

@@ -43,7 +43,7 @@ pub fn digest_with(alloc: Global, before: Option<u64>, world: &World) -> Option<
     let digest = mix(before?, text.as_str());
     let mut digest = mix_answers(alloc, digest, parts.requests.items.as_slice())?;
     for canister in parts.canisters.values() {
-        digest = mix_canister(alloc, digest, canister)?;
+        digest = mix_canister(alloc, digest, canister.get())?;
     }
     Some(digest)
 }

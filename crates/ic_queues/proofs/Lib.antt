@@ -1,4 +1,5 @@
 pub mod Entries
 pub mod Numbers
+pub mod Shelves
 pub mod Queueing
 pub mod Outsides

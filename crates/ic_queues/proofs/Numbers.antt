@@ -19,7 +19,7 @@ use Rattle.ic_queues.specs.Lines.{is_number, numbers_to}
 number_laws : IsEquivalence (eq_by_cmp nat_cmp)
 number_laws = eq_by_cmp_equiv nat_cmp_total
 
-number-self : (n : ℕ) → is_number n n ≡ true
+pub number-self : (n : ℕ) → is_number n n ≡ true
 number-self n = number_laws.refl n
 
 number-back : (k n : ℕ) → is_number k n ≡ false → is_number n k ≡ false

@@ -32,6 +32,10 @@ all_stay p (x ∷ xs) none =
       | inr goes ↦ let some : x ∷ filter (λ y. not (p y)) xs ≡ [] = rw goes at none in absurd (cc)
     ]
 
+pub gathered-next : (ns : List ℕ) (w : Gathering) → (fold gather w ns).next ≡ w.next
+gathered-next [] w = refl
+gathered-next (n ∷ ns) w = gathered-next ns (gather w n)
+
 module _ (P : ℕ × Message → Type 0) (Q : ℕ → Type 0) (keys : List (List ℕ)) where
   -- the messages whose callee has no queue have been taken out
   pub record Gathers (w end : Gathering) : Type 0 where
@@ -80,11 +84,11 @@ pub record OutsEnd (es : List (ℕ × Message)) (ws : List (List ℕ × List ℕ
   pub messages : taken ≡ outs (view es ws steady)
 
 pub outs_end : (es : List (ℕ × Message)) (ws : List (List ℕ × List ℕ)) (outside : List ℕ) (next : ℕ) (steady : Bool) (taken : List Message) (es' : List (ℕ × Message)) (outside' : List ℕ) (w : Gathering)
-    → IsQueued es ws outside next steady → w ≡ fold gather (record { entries = es; taken = [] }) outside → taken ≡ w.taken → es' ≡ w.entries → outside' ≡ []
+    → IsQueued es ws outside next steady → w ≡ fold gather (record { entries = es; next = next; taken = [] }) outside → taken ≡ w.taken → es' ≡ w.entries → outside' ≡ []
     → OutsEnd es ws next steady taken es' outside'
 outs_end es ws outside next steady taken es' outside' w is e1 e2 e3 e4 =
-    let end = fold gather (record { entries = es; taken = [] }) outside in
-    let got = gathers (λ e. is_steady e.1 ≡ true) (λ k. k < next) (keys_of ws) outside (record { entries = es; taken = [] }) is.ordered (sym is.others) in
+    let end = fold gather (record { entries = es; next = next; taken = [] }) outside in
+    let got = gathers (λ e. is_steady e.1 ≡ true) (λ k. k < next) (keys_of ws) outside (record { entries = es; next = next; taken = [] }) is.ordered (sym is.others) in
     let made : OutsEnd es ws next steady end.taken end.entries [] = record {
       queued = record {
         ordered = got.ordered;

@@ -1,2 +1,4 @@
 pub mod Queued
 pub mod Lines
+pub mod Shelved
+pub mod InLists

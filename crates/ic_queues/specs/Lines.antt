@@ -66,11 +66,13 @@ outside_with outside n (Some line) = outside
 -- messages under their numbers, and those that were taken out
 pub record Gathering : Type 0 where
   pub entries : List (ℕ × Message)
+  pub next : ℕ
   pub taken : List Message
 
 abbrev pub gather : Gathering → ℕ → Gathering
 gather w n = record {
   entries = remove_entry (is_number n) w.entries;
+  next = w.next;
   taken = w.taken ++ option_to_list (lookup (is_number n) w.entries);
 }
 

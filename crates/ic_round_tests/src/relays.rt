@@ -49,7 +49,7 @@ fn begun(alloc: Global, first: Option<Canister>, row: &Row) -> Option<World>
 
 fn balance(world: &World, number: u64) -> u128 {
     match world.parts().canisters.get(&Principal::canister_id(number)) {
-        Some(canister) => canister.balance,
+        Some(canister) => canister.get().balance,
         None => 0,
     }
 }
@@ -58,7 +58,7 @@ fn balance(world: &World, number: u64) -> u128 {
 fn stored(world: &World) -> u8 {
     let mut bytes = [9; 1];
     if let Some(canister) = world.parts().canisters.get(&Principal::canister_id(0)) {
-        canister.store.get().copy_out(0, &mut bytes);
+        canister.get().store.get().copy_out(0, &mut bytes);
     }
     bytes[0]
 }

@@ -88,19 +88,19 @@ put-same env w slot x is = let key = is.key in let handled = is.handled in λ i.
 
 pub turn_fits : (env : Env) (w : Stored) (slots : List StoredSlot) (all front : List Turn) (x : Turn) → AreReady env w slots → AllZip (IsTurn env) slots all
     → length front < length all → x ≡ get_or all (length front) x → front ≡ take (length front) all
-    → IsCanister x.executed.canister × ((fold put_turn w front).burned + x.executed.burned ≤ 2 ^ 127 - 1)
+    → IsCanister x.canister × ((fold put_turn w front).burned + x.done.burned ≤ 2 ^ 127 - 1)
 turn_fits env w [] [] front x ready zip inside is so_far = absurd (not-suc-le-zero inside)
 turn_fits env w [] (y ∷ all) front x ready zip inside is so_far = absurd zip
 turn_fits env w (slot ∷ slots) [] front x ready zip inside is so_far = absurd zip
 turn_fits env w (slot ∷ slots) (y ∷ all) [] x ready zip inside is so_far =
-    let burned : y.executed.burned ≡ (ran env (slot_of slot)).burned = ap (λ (h : Handled). h.burned) zip.0.handled in
-    subst (λ (z : Turn). IsCanister z.executed.canister × (w.burned + z.executed.burned ≤ 2 ^ 127 - 1)) (sym is) (zip.0.keeps, omega (arith, ready.1, burned))
+    let burned : y.done.burned ≡ (ran env (slot_of slot)).burned = ap (λ (h : Handled). h.burned) zip.0.handled in
+    subst (λ (z : Turn). IsCanister z.canister × (w.burned + z.done.burned ≤ 2 ^ 127 - 1)) (sym is) (zip.0.keeps, omega (arith, ready.1, burned))
 turn_fits env w (slot ∷ slots) (y ∷ all) (z ∷ front) x ready zip inside is so_far =
     let first : z ≡ y = cc in
     let rest : front ≡ take (length front) all = cc in
     let more = turn_fits env (settle env w (slot_of slot)) slots all front x ready.2 zip.1 (omega (arith, inside)) is rest in
     let same : put_turn w z ≡ settle env w (slot_of slot) = ap (put_turn w) first ∙ put-same env w slot y zip.0 in
-    subst (λ (v : Stored). IsCanister x.executed.canister × ((fold put_turn v front).burned + x.executed.burned ≤ 2 ^ 127 - 1)) (sym same) more
+    subst (λ (v : Stored). IsCanister x.canister × ((fold put_turn v front).burned + x.done.burned ≤ 2 ^ 127 - 1)) (sym same) more
 
 pub turns_all : (env : Env) (w : Stored) (slots : List StoredSlot) (all : List Turn) → AllZip (IsTurn env) slots all → fold put_turn w all ≡ fold (settle env) w (map slot_of slots)
 turns_all env w [] [] zip = refl

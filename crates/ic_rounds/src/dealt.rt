@@ -5,7 +5,7 @@ ghost use Rattle.ic_rounds.specs.Dealing.{deal, none_dealt};
 use crate::slot::Slot;
 use ic_base::NoMemory;
 use ic_principal::Principal;
-use ic_state::{Canister, Message};
+use ic_state::{CanisterPlace, MessagePlace};
 use std::alloc::Global;
 use std::collections::BTreeMap;
 use std::marker::Model;
@@ -13,7 +13,7 @@ use std::marker::Model;
 /// The canisters that have no slot, and the slots.
 #[derive(Drop)]
 pub struct Dealt {
-    canisters: BTreeMap<Principal, Canister>,
+    canisters: BTreeMap<Principal, CanisterPlace>,
     slots: Vec<Slot>,
 }
 
@@ -29,7 +29,7 @@ impl Dealt {
     // With room for so many slots, which are large.
     fn new(
         alloc: Global,
-        canisters: BTreeMap<Principal, Canister>,
+        canisters: BTreeMap<Principal, CanisterPlace>,
         count: usize,
     ) -> Result<Dealt, NoMemory>
         ensures { IfOk result (λ w. w ≡ none_dealt canisters.entries) }
@@ -39,7 +39,7 @@ impl Dealt {
     }
 
     /// The canisters that have no slot, and the slots in rising order of their canisters.
-    pub fn open(self) -> (BTreeMap<Principal, Canister>, Vec<Slot>)
+    pub fn open(self) -> (BTreeMap<Principal, CanisterPlace>, Vec<Slot>)
         ensures canisters { result.0.entries ≡ self.canisters }
         ensures slots { result.1.items ≡ self.slots }
     {
@@ -48,7 +48,7 @@ impl Dealt {
     }
 
     // Puts a canister into a slot, with its first message.
-    fn deal(&mut self, key: Principal, message: Message) -> Result<(), NoMemory>
+    fn deal(&mut self, key: Principal, message: MessagePlace) -> Result<(), NoMemory>
         ensures { OnOk result (self.new ≡ deal self.old (key, message)) }
     {
         if let Some(canister) = self.canisters.remove(&key) {
@@ -66,8 +66,8 @@ impl Dealt {
 /// Puts the canisters that have a first message into slots, in rising order.
 pub fn deal_out(
     alloc: Global,
-    canisters: BTreeMap<Principal, Canister>,
-    firsts: Vec<(Principal, Message)>,
+    canisters: BTreeMap<Principal, CanisterPlace>,
+    firsts: Vec<(Principal, MessagePlace)>,
 ) -> Result<Dealt, NoMemory>
     ensures { IfOk result (λ w. w ≡ fold deal (none_dealt canisters.entries) firsts.items) }
 {

@@ -5,7 +5,7 @@ ghost use Rattle.ic_rounds.specs.Turns.{IsTurn, entry};
 use crate::slot::Slot;
 use crate::turn::Turn;
 use ic_base::NoMemory;
-use ic_exec::execute;
+use ic_exec::handle;
 use ic_state::Env;
 use std::alloc::Global;
 use std::marker::Model;
@@ -43,8 +43,13 @@ fn handled(alloc: Global, slot: Slot, env: Env) -> Result<Turn, NoMemory>
         canister,
         message,
     } = slot;
-    let executed = execute(alloc, canister, message, env)?;
-    Ok(Turn { key, executed })
+    let mut canister = canister;
+    let done = handle(alloc, canister.get_mut(), message.take(), env)?;
+    Ok(Turn {
+        key,
+        canister,
+        done,
+    })
 }
 
 impl Filed {

@@ -9,11 +9,11 @@ use crate::phase::turns_of;
 use crate::slot::Slot;
 use crate::turn::Turn;
 use ic_base::NoMemory;
-use ic_calls::route;
-use ic_exec::Executed;
+use ic_calls::send;
+use ic_exec::Done;
 use ic_outside::Gate;
 use ic_principal::Principal;
-use ic_state::{Canister, Env, Parts};
+use ic_state::{CanisterPlace, Env, Parts};
 use std::alloc::Global;
 use std::thread::Threads;
 
@@ -21,7 +21,7 @@ use std::thread::Threads;
 fn put_back(
     parts: &mut Parts,
     key: Principal,
-    canister: Canister,
+    canister: CanisterPlace,
     burned: u128,
 ) -> Result<(), NoMemory>
     requires room { parts.old.burned + burned ≤ 2 ^ 127 - 1 }
@@ -33,24 +33,26 @@ fn put_back(
 }
 
 // Puts what came of a slot where it belongs: its canister goes back, and what it sends goes on.
-fn settle(parts: Parts, turn: Turn) -> Result<Parts, NoMemory>
-    requires keeps { IsCanister turn.executed.canister }
-    requires room { parts.burned + turn.executed.burned ≤ 2 ^ 127 - 1 }
-    requires keep { AreCanisters parts }
-    ensures stored { IfOk result (λ p. stored_of p ≡ put_turn (stored_of parts) turn) }
-    ensures keep { IfOk result AreCanisters }
+fn settle(parts: &mut Parts, turn: Turn) -> Result<(), NoMemory>
+    requires keeps { IsCanister turn.canister }
+    requires room { parts.old.burned + turn.done.burned ≤ 2 ^ 127 - 1 }
+    requires keep { AreCanisters parts.old }
+    ensures stored { OnOk result (stored_of parts.new ≡ put_turn (stored_of parts.old) turn) }
+    ensures keep { OnOk result (AreCanisters parts.new) }
 {
-    let Turn { key, executed } = turn;
-    let Executed {
+    let Turn {
+        key,
         canister,
+        done,
+    } = turn;
+    let Done {
         calls,
         answers,
         burned,
         ..
-    } = executed;
-    let mut parts = parts;
-    put_back(&mut parts, key, canister, burned)?;
-    route(parts, &key, calls, answers)
+    } = done;
+    put_back(parts, key, canister, burned)?;
+    send(parts, &key, calls, answers)
 }
 
 /// Handles the messages of slots on up to `workers` workers, and puts back their canisters, in the
@@ -76,7 +78,7 @@ pub fn settled<R: Threads + Sync, G: Gate + Sync>(
     let turns = turns_of(alloc, rt, slots, workers, env, gate)?;
     let mut parts = parts;
     for turn in turns {
-        parts = settle(parts, turn)?;
+        settle(&mut parts, turn)?;
     }
     Ok(parts)
 }

@@ -1,10 +1,10 @@
 use ic_principal::Principal;
-use ic_state::{Canister, Message};
+use ic_state::{CanisterPlace, MessagePlace};
 
-/// A canister, and its first message.
-#[derive(Debug, Drop)]
+/// A canister and its first message.
+#[derive(Drop)]
 pub struct Slot {
     pub key: Principal,
-    pub canister: Canister,
-    pub message: Message,
+    pub canister: CanisterPlace,
+    pub message: MessagePlace,
 }

@@ -5,7 +5,7 @@ ghost use Rattle.ic_rounds.specs.Taking.{is_first, is_key, take_out, leave, sort
 use ic_base::NoMemory;
 use ic_calls::callee;
 use ic_principal::Principal;
-use ic_state::{Canister, Message, Messages};
+use ic_state::{CanisterPlace, Message, MessagePlace, Messages};
 use std::alloc::Global;
 use std::collections::{BTreeMap, VecDeque};
 use std::marker::Model;
@@ -13,7 +13,7 @@ use std::marker::Model;
 /// The first message to each canister that has one, and the other messages.
 #[derive(Drop)]
 pub struct Taken {
-    firsts: BTreeMap<Principal, Message>,
+    firsts: BTreeMap<Principal, MessagePlace>,
     left: Vec<Message>,
 }
 
@@ -36,7 +36,7 @@ impl Taken {
     }
 
     /// The first messages, in rising order of their canisters, and the other messages.
-    pub fn open(self, alloc: Global) -> Result<(Vec<(Principal, Message)>, Messages), NoMemory>
+    pub fn open(self, alloc: Global) -> Result<(Vec<(Principal, MessagePlace)>, Messages), NoMemory>
         ensures firsts { IfOk result (λ r. r.0.items ≡ self.firsts) }
         ensures left { IfOk result (λ r. r.1 ≡ self.left) }
     {
@@ -45,7 +45,7 @@ impl Taken {
         Ok((firsts, Messages { items: left }))
     }
 
-    fn is_first(&self, canisters: &BTreeMap<Principal, Canister>, callee: &Principal) -> bool
+    fn is_first(&self, canisters: &BTreeMap<Principal, CanisterPlace>, callee: &Principal) -> bool
         ensures { result ≡ is_first (is_key canisters.now.entries) self.now callee.now }
     {
         canisters.contains_key(callee) && !self.firsts.contains_key(callee)
@@ -55,6 +55,7 @@ impl Taken {
         ensures { IfOk result (λ w. w ≡ take_out self callee message) }
     {
         let Taken { mut firsts, left } = self;
+        let message = MessagePlace::new(*left.allocator(), message)?;
         firsts.insert(callee, message)?;
         Ok(Taken { firsts, left })
     }
@@ -71,7 +72,7 @@ impl Taken {
     // Goes past a message.
     fn sort_out(
         self,
-        canisters: &BTreeMap<Principal, Canister>,
+        canisters: &BTreeMap<Principal, CanisterPlace>,
         message: Message,
     ) -> Result<Taken, NoMemory>
         ensures { IfOk result (λ w. w ≡ sort_out (is_key canisters.now.entries) self message) }
@@ -85,7 +86,7 @@ impl Taken {
     }
 
     // Whether each canister has its first message.
-    fn has_all(&self, canisters: &BTreeMap<Principal, Canister>) -> bool
+    fn has_all(&self, canisters: &BTreeMap<Principal, CanisterPlace>) -> bool
         requires theirs { AreTheirs (is_key canisters.now.entries) self.now }
         ensures { result ≡ true → HasAll (is_key canisters.now.entries) self.now }
     {
@@ -97,7 +98,7 @@ impl Taken {
     // Goes past messages until each canister has its first one.
     fn gather(
         self,
-        canisters: &BTreeMap<Principal, Canister>,
+        canisters: &BTreeMap<Principal, CanisterPlace>,
         messages: &mut VecDeque<Message>,
     ) -> Result<Taken, NoMemory>
         requires theirs { AreTheirs (is_key canisters.now.entries) self }
@@ -155,7 +156,7 @@ fn joined(front: Vec<Message>, back: VecDeque<Message>) -> Result<Vec<Message>, 
 /// first message, the others are not looked at.
 pub fn taken_out(
     alloc: Global,
-    canisters: &BTreeMap<Principal, Canister>,
+    canisters: &BTreeMap<Principal, CanisterPlace>,
     messages: Messages,
 ) -> Result<Taken, NoMemory>
     ensures { IfOk result (λ w. w ≡ fold (sort_out (is_key canisters.now.entries)) none_taken messages) }

@@ -1,9 +1,11 @@
-use ic_exec::Executed;
+use ic_exec::Done;
 use ic_principal::Principal;
+use ic_state::CanisterPlace;
 
 /// What came of a slot.
-#[derive(Debug, Drop)]
+#[derive(Drop)]
 pub struct Turn {
     pub key: Principal,
-    pub executed: Executed,
+    pub canister: CanisterPlace,
+    pub done: Done,
 }

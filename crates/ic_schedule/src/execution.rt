@@ -13,13 +13,10 @@ ghost use Rattle.ic_schedule.specs.Handing.{Leaves, HasHandled, sent_with, back,
 
 use ic_base::NoMemory;
 use ic_calls::no_canister;
-use ic_exec::{Executed, execute};
+use ic_exec::Done;
 use ic_principal::Principal;
-use ic_state::{
-    Answered, AnsweredList, Canister, Controllers, Env, Message, Messages, Origin, Parts,
-};
+use ic_state::{Answered, AnsweredList, CanisterPlace, Env, Message, Messages, Origin, Parts};
 use std::alloc::Global;
-use std::mem::replace;
 
 /// What is sent once a message is handled, and the cycles that were burned.
 #[derive(Drop)]
@@ -29,36 +26,27 @@ pub struct Sent {
     pub burned: u128,
 }
 
-// Takes the canister out of its place, where one without code stays.
-fn take(alloc: Global, canister: &mut Canister) -> Result<Canister, NoMemory>
-    ensures { IfOk result (λ taken. taken ≡ canister.old) }
-{
-    let nobody = Controllers {
-        items: Vec::new(alloc),
-    };
-    let empty = Canister::new(alloc, canister.id, nobody, 0)?;
-    Ok(replace(canister, empty))
-}
-
-// The canister handles the message.
-fn run(alloc: Global, canister: &mut Canister, message: Message, env: Env) -> Result<Sent, NoMemory>
-    requires keeps { IsCanister canister.old }
-    requires expected { IsExpected (seen canister.old) message }
-    requires room { cycles_of canister.old + message_cycles message ≤ 2 ^ 127 - 1 }
+// The canister handles the message in its place.
+fn run(
+    alloc: Global,
+    place: &mut CanisterPlace,
+    message: Message,
+    env: Env,
+) -> Result<Sent, NoMemory>
+    requires keeps { IsCanister place.old }
+    requires expected { IsExpected (seen place.old) message }
+    requires room { cycles_of place.old + message_cycles message ≤ 2 ^ 127 - 1 }
     requires limit { env.limit ≤ 1000000000000 }
-    ensures handled { IfOk result (λ sent. HasHandled canister.new sent
-        (local (enters_by system_api) env (seen canister.old) message)) }
-    ensures keeps { IfOk result (λ _. IsCanister canister.new) }
+    ensures handled { IfOk result (λ sent. HasHandled place.new sent
+        (local (enters_by system_api) env (seen place.old) message)) }
+    ensures keeps { IfOk result (λ _. IsCanister place.new) }
 {
-    let held = take(alloc, canister)?;
-    let Executed {
-        canister: after,
+    let Done {
         calls,
         answers,
         burned,
         ..
-    } = execute(alloc, held, message, env)?;
-    *canister = after;
+    } = ic_exec::handle(alloc, place.get_mut(), message, env)?;
     Ok(Sent {
         calls,
         answers,
@@ -127,7 +115,7 @@ pub fn handle(
         → IsDelivered env.limit env.price l.whole l.place (with_sent callee.now sent parts.new)) }
 {
     match parts.canisters.get_mut(callee) {
-        Some(canister) => run(alloc, canister, message, env),
+        Some(place) => run(alloc, place, message, env),
         None => refuse(alloc, callee, &message),
     }
 }

@@ -153,7 +153,7 @@ fn told(alloc: Global, world: &World) -> Result<String, NoMemory> {
         told.push_str(format!(in alloc; "{:?}", request.answer)?.as_str())?;
     }
     for canister in parts.canisters.values() {
-        told.push_str(told_of(alloc, canister)?.as_str())?;
+        told.push_str(told_of(alloc, canister.get())?.as_str())?;
     }
     Ok(told)
 }

@@ -97,7 +97,7 @@ pub fn relays(alloc: Global) -> Result<(World, u32), NoMemory> {
 /// The balance of the canister with this number.
 pub fn balance(world: &World, number: u64) -> u128 {
     match world.parts().canisters.get(&Principal::canister_id(number)) {
-        Some(canister) => canister.balance,
+        Some(canister) => canister.get().balance,
         None => 0,
     }
 }

@@ -5,6 +5,8 @@ ghost use Rattle.std.specs.Cmp.Lexicographic.{slice_cmp};
 ghost use Rattle.std.specs.Borrow.{Lends, sem};
 ghost use Rattle.wm_store.specs.contracts.store.Store.{the_row as store_row};
 ghost use Rattle.ic_state.specs.contracts.canister.StorePlace.{the_row};
+ghost use Rattle.ic_state.specs.contracts.canister.CanisterPlace.{the_row as place_row};
+ghost use Rattle.ic_state.specs.contracts.canister.Canister.{the_row as canister_row};
 ghost use Rattle.ic_state.specs.Seen.{seen, is_calm};
 ghost use Rattle.ic_state.specs.IsCanister.{IsCanister, created};
 
@@ -100,6 +102,45 @@ impl StorePlace {
         ensures { self.new ≡ store }
     {
         *self.inner = store;
+    }
+}
+
+/// A canister in a box, since it is large and moved with each message. Contracts see the canister.
+#[derive(Debug, Drop)]
+pub struct CanisterPlace {
+    inner: Box<Canister>,
+}
+
+impl Model for CanisterPlace {
+    ghost use Rattle.ic_state.specs.declared.canister.Canister.{Canister};
+
+    ghost Value = { Canister };
+
+    ghost view = { λ p. p.inner.value };
+}
+
+impl CanisterPlace {
+    /// Moves the canister to its place.
+    pub fn new(alloc: Global, canister: Canister) -> Result<CanisterPlace, NoMemory>
+        ensures { IfOk result (λ p. p ≡ canister) }
+    {
+        let inner = Box::new(alloc, canister)?;
+        Ok(CanisterPlace { inner })
+    }
+
+    /// The canister.
+    pub fn get(&self) -> &Canister
+        ensures { result.now ≡ self.now }
+    {
+        &self.inner
+    }
+
+    /// The canister, to change it.
+    pub fn get_mut(&mut self) -> &mut Canister
+        ensures* writes_back { sem 𝓛 (Lends place_row canister_row self.entry result (λ c. c)) }
+        ensures canister { result.now ≡ self.old }
+    {
+        &mut self.inner
     }
 }
 

@@ -10,10 +10,10 @@ mod canister;
 mod lists;
 mod world;
 
-pub use canister::{Canister, Code, CodePlace, StorePlace};
+pub use canister::{Canister, CanisterPlace, Code, CodePlace, StorePlace};
 pub use ic_behaviour::{
     Admitted, Answered, CallId, Callback, Context, Controllers, Effects, EntryKind, Env, Message,
     Origin, OutCall, OutCalls, Phase, Refusal, Request, Response, View, Waiter, Waiters,
 };
-pub use lists::{AnsweredList, Contexts, Messages, Requests};
+pub use lists::{AnsweredList, Contexts, MessagePlace, Messages, Requests};
 pub use world::{Parts, Totals, World};

@@ -11,7 +11,7 @@ ghost use Rattle.ic_state.specs.Seen.{seen, is_calm, state_of, answer_at};
 ghost use Rattle.ic_state.specs.IsCanister.{IsCanister};
 ghost use Rattle.ic_state.specs.IsWorld.{IsWorld};
 
-use crate::canister::Canister;
+use crate::canister::{Canister, CanisterPlace};
 use crate::lists::{Messages, Requests};
 use ic_base::NoMemory;
 use ic_behaviour::{Message, Origin, Phase, Request, Response};
@@ -23,7 +23,7 @@ use std::marker::Model;
 /// The fields of a `World`, open to change.
 #[derive(Debug, Drop)]
 pub struct Parts {
-    pub canisters: BTreeMap<Principal, Canister>,
+    pub canisters: BTreeMap<Principal, CanisterPlace>,
     pub messages: Messages,
     pub requests: Requests,
     /// Nanoseconds since 1970-01-01.
@@ -200,17 +200,27 @@ impl World {
         requires room { HasRoom self canister.balance }
         ensures { IfOk result (λ w. w ≡ added self (dropped (seen canister))) }
     {
+        let id = canister.id;
+        let balance = canister.balance;
+        let place = placed(&self.parts.messages, canister)?;
         let World { mut parts } = self;
-        parts.created += canister.balance;
+        parts.created += balance;
         parts.next_canister += 1;
-        parts.canisters.insert(canister.id, canister)?;
+        parts.canisters.insert(id, place)?;
         Ok(World { parts })
     }
 }
 
+// The canister in a place, from the allocator of the messages.
+fn placed(messages: &Messages, canister: Canister) -> Result<CanisterPlace, NoMemory>
+    ensures { IfOk result (λ p. p ≡ canister) }
+{
+    CanisterPlace::new(*messages.items.allocator(), canister)
+}
+
 // Whether no call waits for one of these canisters to stop.
-fn nobody_waits(canisters: &BTreeMap<Principal, Canister>) -> bool
+fn nobody_waits(canisters: &BTreeMap<Principal, CanisterPlace>) -> bool
     ensures { result ≡ list_all is_calm (values canisters.now) }
 {
-    canisters.values().all(|canister| canister.is_calm())
+    canisters.values().all(|canister| canister.get().is_calm())
 }

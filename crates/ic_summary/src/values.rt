@@ -7,7 +7,7 @@ ghost use Rattle.ic_summary.specs.StateLine.{canister_data, hex_data, list_of, m
 use crate::members::{decimal, decimals, hex_text, principal, principals, with};
 use ic_base::NoMemory;
 use ic_principal::{Bytes, Principal};
-use ic_state::{Canister, CodePlace, Contexts, Controllers, Phase, World};
+use ic_state::{Canister, CanisterPlace, CodePlace, Contexts, Controllers, Phase, World};
 use serde_json::{Map, Value};
 use sha2::{Digest, Sha256};
 use std::alloc::Global;
@@ -47,13 +47,13 @@ fn state_value(alloc: Global, world: &World) -> Result<Value, NoMemory>
 
 fn canister_values(
     alloc: Global,
-    canisters: &BTreeMap<Principal, Canister>,
+    canisters: &BTreeMap<Principal, CanisterPlace>,
 ) -> Result<Value, NoMemory>
     ensures { IfOk result (λ value. view value ≡ list_of canister_data (map entry_of canisters.now.entries)) }
 {
     let mut values = Vec::new(alloc);
     for (id, canister) in canisters {
-        values.push(canister_value(alloc, id, canister)?)?;
+        values.push(canister_value(alloc, id, canister.get())?)?;
     }
     Ok(Value::Array(values))
 }

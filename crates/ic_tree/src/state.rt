@@ -15,7 +15,7 @@ use crate::tree::{Tree, fork, forked, labeled, leaf_at};
 use ic_base::NoMemory;
 use ic_leb::write_u;
 use ic_principal::{Bytes, Principal, Text};
-use ic_state::{Canister, CodePlace, Request, Response, World};
+use ic_state::{Canister, CanisterPlace, CodePlace, Request, Response, World};
 use std::alloc::Global;
 use std::collections::BTreeMap;
 
@@ -42,13 +42,13 @@ pub fn state_tree(alloc: Global, world: &World) -> Result<Tree, NoMemory>
 
 fn canister_trees(
     alloc: Global,
-    canisters: &BTreeMap<Principal, Canister>,
+    canisters: &BTreeMap<Principal, CanisterPlace>,
 ) -> Result<Tree, NoMemory>
     ensures { IfOk result (λ tree. view tree ≡ forked (map canister_tree (map entry_of canisters.now.entries))) }
 {
     let mut trees = Vec::new(alloc);
     for (id, canister) in canisters {
-        trees.push(canister_tree(alloc, id, canister)?)?;
+        trees.push(canister_tree(alloc, id, canister.get())?)?;
     }
     forked(alloc, trees)
 }

@@ -7,7 +7,7 @@ ghost use Rattle.ic_rounds.specs.Settling.{IsReady};
 ghost use Rattle.ic_rounds.specs.Turns.{IsTurn};
 
 use ic_base::NoMemory;
-use ic_exec::execute;
+use ic_exec::handle;
 use ic_outside::Gate;
 use ic_rounds::{Slot, Turn};
 use ic_state::Env;
@@ -64,8 +64,13 @@ fn handled(alloc: Global, slot: Slot, env: Env) -> Result<Turn, NoMemory>
         canister,
         message,
     } = slot;
-    let executed = execute(alloc, canister, message, env)?;
-    Ok(Turn { key, executed })
+    let mut canister = canister;
+    let done = handle(alloc, canister.get_mut(), message.take(), env)?;
+    Ok(Turn {
+        key,
+        canister,
+        done,
+    })
 }
 
 // The first worker handles the messages of all slots.

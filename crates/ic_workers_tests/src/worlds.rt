@@ -1,11 +1,11 @@
-ghost use Rattle.std.specs.Prelude.{◌≤◌, IfSome, vec_len};
+ghost use Rattle.std.specs.Prelude.{◌≡◌, ◌≤◌, IfSome, vec_len};
 ghost use Rattle.std.specs.List.{AllByRecursion};
 ghost use Rattle.ic_rounds.specs.Settling.{IsReady};
 
 use crate::canisters::empty_canister;
 use ic_principal::{Bytes, Principal, Text};
 use ic_rounds::Slot;
-use ic_state::{Message, Origin, World};
+use ic_state::{Canister, CanisterPlace, Message, MessagePlace, Origin, World};
 use std::alloc::Global;
 
 fn with_one_more(alloc: Global, world: World) -> Option<World> {
@@ -57,6 +57,19 @@ pub fn busy(alloc: Global, canisters: u64) -> Option<World> {
     Some(world)
 }
 
+// Puts a canister and its message into their places.
+fn slot_of(alloc: Global, key: Principal, canister: Canister, message: Message) -> Option<Slot>
+    ensures { IfSome result (λ s. s ≡ record { key = key; canister = canister; message = message }) }
+{
+    let canister = CanisterPlace::new(alloc, canister).ok()?;
+    let message = MessagePlace::new(alloc, message).ok()?;
+    Some(Slot {
+        key,
+        canister,
+        message,
+    })
+}
+
 fn slot(alloc: Global, number: u32) -> Option<Slot>
     ensures { IfSome result IsReady }
 {
@@ -74,11 +87,7 @@ fn slot(alloc: Global, number: u32) -> Option<Slot>
         },
         cycles: 0,
     };
-    Some(Slot {
-        key,
-        canister,
-        message,
-    })
+    slot_of(alloc, key, canister, message)
 }
 
 /// The slots of so many canisters, each of which has a message.

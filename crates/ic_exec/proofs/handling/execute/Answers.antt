@@ -12,18 +12,18 @@ use Rattle.ic_exec.proofs.Conserves.{Settled, handled_cycles, conserves}
 use Rattle.ic_exec.proofs.Trapped.{Burns, trap_leaves, burns}
 use Rattle.ic_exec.proofs.handling.execute.Goals as goal
 
-pub returns-clause-conserved : goal.returns-clause-conserved
-returns-clause-conserved c =
+pub returns-in-Ok-clause-conserved : goal.returns-in-Ok-clause-conserved
+returns-in-Ok-clause-conserved c =
     let a : Canister = c.args.canister in
-    ap handled_cycles c.in_ok-done.ensures.done
+    ap handled_cycles c.in-Ok.ensures.done
     ∙ conserves (enters_by system_api) c.args.env c.entries_are_lawful.ensures (seen a) (each-map IsContext Settled (λ x h. h.answered) a.contexts c.requires.keeps.contexts) c.args.message c.requires.expected
 
-pub returns-clause-trapped : goal.returns-clause-trapped
-returns-clause-trapped c =
+pub returns-in-Ok-clause-trapped : goal.returns-in-Ok-clause-trapped
+returns-in-Ok-clause-trapped c =
     let a : Canister = c.args.canister in
-    subst (λ (h : Handled). IfSome h.trapped (λ cause. TrapLeaves (seen a) c.args.message cause h)) (sym c.in_ok-done.ensures.done) (trap_leaves (enters_by system_api) c.args.env (seen a) c.args.message)
+    subst (λ (h : Handled). IfSome h.trapped (λ cause. TrapLeaves (seen a) c.args.message cause h)) (sym c.in-Ok.ensures.done) (trap_leaves (enters_by system_api) c.args.env (seen a) c.args.message)
 
-pub returns-clause-burned : goal.returns-clause-burned
-returns-clause-burned c =
+pub returns-in-Ok-clause-burned : goal.returns-in-Ok-clause-burned
+returns-in-Ok-clause-burned c =
     let a : Canister = c.args.canister in
-    subst (Burns c.args.env.price) (sym c.in_ok-done.ensures.done) (burns (enters_by system_api) c.args.env (seen a) c.args.message)
+    subst (Burns c.args.env.price) (sym c.in-Ok.ensures.done) (burns (enters_by system_api) c.args.env (seen a) c.args.message)

@@ -4,4 +4,4 @@ use Rattle.ic_queues.specs.Lines.{gather}
 use Rattle.ic_queues.proofs.gathered.gather_all.Given as goal
 
 abbrev pub invariant-loop-number : goal.invariant-loop-number
-invariant-loop-number l = l.gathered ≡ fold gather (record { entries = l.fn.messages.entries; taken = [] }) l.yielded
+invariant-loop-number l = l.gathered ≡ fold gather (record { entries = l.fn.messages.entries; next = l.fn.messages.next; taken = [] }) l.yielded

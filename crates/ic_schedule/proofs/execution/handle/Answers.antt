@@ -5,19 +5,19 @@ use Rattle.ic_schedule.proofs.Handings.{IsSentFrom, ready_at, run_done, refuse_d
 use Rattle.ic_schedule.proofs.execution.handle.Goals as goal
 
 pub run-requires-clause-keeps : goal.run-requires-clause-keeps
-run-requires-clause-keeps c = (ready_at c.args.env c.args.message c.args.callee.now c.args.parts.now c.requires.callee c.requires.leaves c.in-Some.canister.now (sym c.in-Some.ensures.value)).keeps
+run-requires-clause-keeps c = (ready_at c.args.env c.args.message c.args.callee.now c.args.parts.now c.requires.callee c.requires.leaves c.in-Some.place.now (sym c.in-Some.ensures.value)).keeps
 
 pub run-requires-clause-expected : goal.run-requires-clause-expected
-run-requires-clause-expected c = (ready_at c.args.env c.args.message c.args.callee.now c.args.parts.now c.requires.callee c.requires.leaves c.in-Some.canister.now (sym c.in-Some.ensures.value)).expected
+run-requires-clause-expected c = (ready_at c.args.env c.args.message c.args.callee.now c.args.parts.now c.requires.callee c.requires.leaves c.in-Some.place.now (sym c.in-Some.ensures.value)).expected
 
 pub run-requires-clause-room : goal.run-requires-clause-room
-run-requires-clause-room c = (ready_at c.args.env c.args.message c.args.callee.now c.args.parts.now c.requires.callee c.requires.leaves c.in-Some.canister.now (sym c.in-Some.ensures.value)).room
+run-requires-clause-room c = (ready_at c.args.env c.args.message c.args.callee.now c.args.parts.now c.requires.callee c.requires.leaves c.in-Some.place.now (sym c.in-Some.ensures.value)).room
 
 pub returns-in-Some : goal.returns-in-Some
 returns-in-Some c =
     let p = c.args.parts.now in
-    let d = c.run.new.canister in
-    run_done c.args.env c.args.message c.args.callee.now p c.requires.callee c.run.result c.in-Some.canister.now d (record p { canisters = c.get_mut.follows.lender d })
+    let d = c.run.new.place in
+    run_done c.args.env c.args.message c.args.callee.now p c.requires.callee c.run.result c.in-Some.place.now d (record p { canisters = c.get_mut.follows.lender d })
     c.requires.time (sym c.in-Some.ensures.value) (c.get_mut.follows.holds d).0 refl c.run.ensures.handled c.run.ensures.keeps
 
 pub returns-in-None : goal.returns-in-None

@@ -18,7 +18,8 @@ loop-id-preserved c =
     let values = c.loop-id.values.items in
     let rest = c.next.new.self in
     ap (λ xs. map view xs ++ map canister_data (map entry_of rest)) c.in_ok-push.ensures.items
-    ∙ (pushed canister_data values c.in_ok-canister_value.field-0 (entry_of (c.in-Some.id.now, c.in-Some.canister.now)) (map entry_of rest) c.in_ok-canister_value.ensures
+    ∙ (pushed canister_data values c.in_ok-canister_value.field-0 (entry_of (c.in-Some.id.now, c.in-Some.canister.now)) (map entry_of rest)
+    (c.in_ok-canister_value.ensures ∙ ap (λ canister. canister_data (entry_of (c.in-Some.id.now, canister))) c.get.ensures)
     ∙ (ap (λ es. map view values ++ map canister_data (map entry_of es)) (sym c.in-Some.ensures.steps) ∙ c.loop-id.invariant))
 
 pub returns : goal.returns

@@ -18,7 +18,8 @@ loop-id-preserved c =
     let trees = c.loop-id.trees.items in
     let rest = c.next.new.self in
     ap (λ xs. map view xs ++ map canister_tree (map entry_of rest)) c.in_ok-push.ensures.items
-    ∙ (pushed canister_tree trees c.in_ok-canister_tree.field-0 (entry_of (c.in-Some.id.now, c.in-Some.canister.now)) (map entry_of rest) c.in_ok-canister_tree.ensures
+    ∙ (pushed canister_tree trees c.in_ok-canister_tree.field-0 (entry_of (c.in-Some.id.now, c.in-Some.canister.now)) (map entry_of rest)
+    (c.in_ok-canister_tree.ensures ∙ ap (λ canister. canister_tree (entry_of (c.in-Some.id.now, canister))) c.get.ensures)
     ∙ (ap (λ es. map view trees ++ map canister_tree (map entry_of es)) (sym c.in-Some.ensures.steps) ∙ c.loop-id.invariant))
 
 pub returns : goal.returns

@@ -8,4 +8,4 @@ use Rattle.ic_queues.proofs.queues.Queues.is_steady.Goals as goal
 pub returns : goal.returns
 returns c = λ known.
     subst (λ (w : Queued). AllByRecursion (λ (m : Message). is_steady m ≡ true) w.messages) c.self.view_is
-    (all_values (λ (m : Message). is_steady m ≡ true) c.self.inside.messages.entries (c.self.invariant.steadies known))
+    (all_values (λ (m : Message). is_steady m ≡ true) c.self.inside.lists.messages.entries (c.self.invariant.steadies known))

@@ -1,7 +1,0 @@
-use Rattle.std.proofs.Common.{◌≡◌}
-use Rattle.std.specs.List.{fold}
-use Rattle.ic_calls.specs.Sent.{answered_in}
-use Rattle.ic_calls.proofs.routing.answer_all.Given as goal
-
-abbrev pub invariant-loop-given : goal.invariant-loop-given
-invariant-loop-given l = l.parts ≡ fold (λ q given. answered_in l.sender given q) l.fn.parts l.yielded

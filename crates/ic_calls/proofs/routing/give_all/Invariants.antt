@@ -1,0 +1,7 @@
+use Rattle.std.proofs.Common.{◌≡◌}
+use Rattle.std.specs.List.{fold}
+use Rattle.ic_calls.specs.Sent.{answered_in}
+use Rattle.ic_calls.proofs.routing.give_all.Given as goal
+
+abbrev pub invariant-loop-given : goal.invariant-loop-given
+invariant-loop-given l = l.parts ≡ fold (λ q given. answered_in l.sender given q) l.initial.parts l.yielded

@@ -1,0 +1,4 @@
+pub mod Enters
+pub mod Stages
+pub mod Stores
+pub mod Installs

@@ -1,0 +1,5 @@
+pub mod Entered
+pub mod Query
+pub mod Inspection
+pub mod Placed
+pub mod Installed

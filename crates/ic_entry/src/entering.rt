@@ -1,0 +1,125 @@
+ghost use Rattle.std.specs.Prelude.{◌≡◌, ◌+◌, ◌<◌, ◌≤◌, ◌^◌, false, None, IfOk, OnErr};
+ghost use Rattle.wm_store.specs.Fits.{Fits};
+ghost use Rattle.wm_semantics.specs.Begin.{IsTarget};
+ghost use Rattle.ic_behaviour.specs.Entry.{enters_by};
+ghost use Rattle.ic_behaviour.specs.Installing.{enters_after};
+ghost use Rattle.ic_state.specs.Seen.{code_of};
+ghost use Rattle.ic_api.specs.System.{system_api};
+ghost use Rattle.ic_api.specs.Executed.{Executed as KeepsRules};
+ghost use Rattle.ic_entry.specs.Entered.{outcome_by, outcome_in, told, store_after};
+
+use ic_api::{Api, entries_are_lawful, host_is_function};
+use ic_base::NoMemory;
+use ic_state::{Code, Effects, EntryKind, View};
+use std::alloc::Global;
+use wm_run::invoke;
+use wm_semantics::{Ended, Meter, Target, Trap};
+use wm_store::Store;
+
+/// How code ended that was entered: what it did beside the store, or why it trapped.
+#[derive(Drop)]
+pub struct Entered {
+    pub ended: Result<Effects, Trap>,
+    /// How many instructions were used.
+    pub used: u64,
+}
+
+/// Enters code, with a host of its own. What it uses is added to the meter.
+pub fn enter_after(
+    alloc: Global,
+    code: &Code,
+    store: &mut Store,
+    target: Target,
+    kind: EntryKind,
+    view: View,
+    meter: &mut Meter,
+) -> Result<Result<Effects, Trap>, NoMemory>
+    requires fits { Fits code.now.valid.«module» store.old.lists }
+    requires target { IsTarget code.now.valid.«module» target }
+    requires cycles { view.balance + view.available < 2 ^ 127 }
+    requires outstanding { view.outstanding ≤ 500 }
+    ensures outcome { IfOk result (λ ended. outcome_by store.new.lists meter.new.used ended
+        ≡ enters_after system_api (code_of code.now) store.old.lists target kind view meter.old.limit meter.old.used) }
+    ensures fits { IfOk result (λ _. Fits code.now.valid.«module» store.new.lists) }
+    ensures begun { store.new.begun ≡ store.old.begun }
+    ensures limit { meter.new.limit ≡ meter.old.limit }
+{
+    host_is_function();
+    let mut api = Api::new(alloc, kind, view);
+    let ended = invoke(alloc, &code.valid, store, target, &mut api, meter)?;
+    match ended {
+        Ended::Returned => Ok(Ok(api.finish())),
+        Ended::Trapped(cause) => Ok(Err(cause)),
+    }
+}
+
+// Enters code, with a host and a meter of its own.
+fn enter(
+    alloc: Global,
+    code: &Code,
+    store: &mut Store,
+    target: Target,
+    kind: EntryKind,
+    view: View,
+    limit: u64,
+) -> Result<Entered, NoMemory>
+    requires fits { Fits code.now.valid.«module» store.old.lists }
+    requires target { IsTarget code.now.valid.«module» target }
+    requires cycles { view.balance + view.available < 2 ^ 127 }
+    requires outstanding { view.outstanding ≤ 500 }
+    ensures outcome { IfOk result (λ e. outcome_in store.new.lists e ≡ enters_by system_api (code_of code.now) store.old.lists target kind view limit) }
+    ensures fits { IfOk result (λ _. Fits code.now.valid.«module» store.new.lists) }
+    ensures begun { store.new.begun ≡ store.old.begun }
+    ensures used { IfOk result (λ e. e.used ≤ limit) }
+{
+    let mut meter = Meter::new(limit);
+    let ended = enter_after(alloc, code, store, target, kind, view, &mut meter)?;
+    Ok(Entered {
+        ended,
+        used: meter.used(),
+    })
+}
+
+/// Enters code as a message of its own: what it does to the store is kept where it returns and
+/// `keeps` says so, and else undone. After `NoMemory` the store is as before.
+pub fn attempt(
+    alloc: Global,
+    code: &Code,
+    store: &mut Store,
+    target: Target,
+    kind: EntryKind,
+    view: View,
+    limit: u64,
+    keeps: bool,
+) -> Result<Entered, NoMemory>
+    requires idle { store.old.begun ≡ None }
+    requires fits { Fits code.now.valid.«module» store.old.lists }
+    requires target { IsTarget code.now.valid.«module» target }
+    requires cycles { view.balance + view.available < 2 ^ 127 }
+    requires outstanding { view.outstanding ≤ 500 }
+    ensures entered { IfOk result (λ e. e ≡ told (enters_by system_api (code_of code.now) store.old.lists target kind view limit)) }
+    ensures store { IfOk result (λ _. store.new.lists ≡ store_after keeps store.old.lists (enters_by system_api (code_of code.now) store.old.lists target kind view limit)) }
+    ensures same { OnErr result (store.new ≡ store.old) }
+    ensures undone { keeps ≡ false → store.new ≡ store.old }
+    ensures idle { store.new.begun ≡ None }
+    ensures fits { Fits code.now.valid.«module» store.new.lists }
+    ensures used { IfOk result (λ e. e.used ≤ limit) }
+    ensures lawful { IfOk result (λ e. IfOk e.ended (KeepsRules kind view)) }
+{
+    entries_are_lawful();
+    store.begin();
+    match enter(alloc, code, store, target, kind, view, limit) {
+        Ok(entered) => {
+            if keeps && entered.ended.is_ok() {
+                store.keep();
+            } else {
+                store.undo();
+            }
+            Ok(entered)
+        }
+        Err(e) => {
+            store.undo();
+            Err(e)
+        }
+    }
+}

@@ -1,0 +1,220 @@
+ghost use Rattle.std.specs.Prelude.{◌≡◌, ◌+◌, ◌*◌, ◌<◌, ◌≤◌, ◌^◌, [], None, is_some, option_map, length, IfOk, IfSome};
+ghost use Rattle.wm_store.specs.Fits.{Fits};
+ghost use Rattle.wm_semantics.specs.Instance.{instance};
+ghost use Rattle.wm_semantics.specs.Begin.{IsTarget};
+ghost use Rattle.ic_behaviour.specs.Installing.{enters_after, entered, made, with_stable, install_view, started, install_steps, upgrade_steps};
+ghost use Rattle.ic_state.specs.Seen.{seen, code_of};
+ghost use Rattle.ic_api.specs.System.{system_api};
+ghost use Rattle.ic_entry.specs.Installed.{asked_of, stage_of, Steps, Drafts, Makes};
+
+use crate::asking::user_view;
+use crate::entering::enter_after;
+use crate::views::no_bytes;
+use ic_base::NoMemory;
+use ic_behaviour::InstallFault;
+use ic_principal::{Bytes, Principal};
+use ic_state::{Canister, Code, EntryKind, Env, View};
+use std::alloc::{AllocError, Global};
+use wm_run::{InstanceFault, entry_target, instantiate, start_target};
+use wm_semantics::{Meter, Target};
+use wm_store::Store;
+use wm_valid::{EntryName, Valid};
+
+/// Why an installation does not go on.
+#[derive(Drop)]
+pub enum Stop {
+    Refused(InstallFault),
+    NoMemory,
+}
+
+impl From<AllocError> for Stop {
+    ghost use Rattle.ic_entry.specs.declared.staging.Stop.TheVariants.{NoMemory};
+
+    ghost from_gives = { λ _ e. e ≡ NoMemory };
+
+    fn from(_e: AllocError) -> Stop {
+        Stop::NoMemory
+    }
+}
+
+/// The store and the certified data that new code has so far.
+#[derive(Drop)]
+pub struct Draft {
+    pub store: Store,
+    pub certified: Bytes,
+}
+
+// These pages become the stable memory of a store that has none.
+fn fill_stable(store: &mut Store, pages: u32, stable: &[u8]) -> Result<(), NoMemory>
+    requires none { store.old.lists.stable ≡ [] }
+    requires whole { 65536 * pages ≡ length stable.now }
+    requires few { pages ≤ 256 }
+    ensures lists { IfOk result (λ _. store.new.lists ≡ with_stable stable.now store.old.lists) }
+    ensures begun { store.new.begun ≡ store.old.begun }
+{
+    let grown = store.stable_grow(u64::from(pages))?;
+    prove!(grown.is_some());
+    let written = store.stable_write(0, stable)?;
+    prove!(written.is_some());
+    Ok(())
+}
+
+// The store that new code begins with: that of its module, with a copy of these pages as its stable
+// memory.
+pub fn new_store(alloc: Global, valid: &Valid, pages: u32, stable: &[u8]) -> Result<Store, Stop>
+    requires whole { 65536 * pages ≡ length stable.now }
+    requires few { pages ≤ 256 }
+    ensures made { Makes result (option_map (with_stable stable.now) (instance valid.now.«module»)) }
+    ensures fits { IfOk result (λ s. Fits valid.now.«module» s.lists) }
+    ensures begun { IfOk result (λ s. s.begun ≡ None) }
+{
+    match instantiate(alloc, valid) {
+        Ok(store) => {
+            let mut store = store;
+            fill_stable(&mut store, pages, stable)?;
+            Ok(store)
+        }
+        Err(InstanceFault::SegmentOut) => Err(Stop::Refused(InstallFault::Segment)),
+        Err(InstanceFault::NoMemory) => Err(Stop::NoMemory),
+    }
+}
+
+// What an entry point of an installation sees.
+pub fn install_view(
+    alloc: Global,
+    env: Env,
+    canister: &Canister,
+    sender: Principal,
+    arg: Bytes,
+    certified: &Bytes,
+) -> Result<View, NoMemory>
+    ensures { IfOk result (λ v. v ≡ install_view env (seen canister.now) sender arg certified.now) }
+{
+    let mut view = user_view(alloc, env, canister, sender, "", arg)?;
+    view.certified = certified.copy()?;
+    Ok(view)
+}
+
+// Enters the function, if there is one, on the store and the certified data.
+pub fn run(
+    alloc: Global,
+    code: &Code,
+    target: Option<Target>,
+    kind: EntryKind,
+    view: View,
+    store: &mut Store,
+    certified: &mut Bytes,
+    meter: &mut Meter,
+) -> Result<(), Stop>
+    requires fits { Fits code.now.valid.«module» store.old.lists }
+    requires target { IfSome target (IsTarget code.now.valid.«module») }
+    requires cycles { view.balance + view.available < 2 ^ 127 }
+    requires outstanding { view.outstanding ≤ 500 }
+    ensures steps { Steps result (stage_of store.new.lists certified.new meter.new.used)
+        (entered (enters_after system_api) (code_of code.now) target kind view meter.old.limit (stage_of store.old.lists certified.old meter.old.used)) }
+    ensures fits { IfOk result (λ _. Fits code.now.valid.«module» store.new.lists) }
+    ensures begun { store.new.begun ≡ store.old.begun }
+    ensures limit { meter.new.limit ≡ meter.old.limit }
+{
+    let Some(target) = target else {
+        return Ok(());
+    };
+    match enter_after(alloc, code, store, target, kind, view, meter)? {
+        Ok(effects) => {
+            *certified = effects.certified;
+            Ok(())
+        }
+        Err(cause) => Err(Stop::Refused(InstallFault::Trapped(cause))),
+    }
+}
+
+// New code starts: its start function, and then the entry point with the argument.
+pub fn start(
+    alloc: Global,
+    canister: &Canister,
+    code: &Code,
+    name: EntryName,
+    arg: Bytes,
+    sender: Principal,
+    env: Env,
+    draft: &mut Draft,
+    meter: &mut Meter,
+) -> Result<(), Stop>
+    requires fits { Fits code.now.valid.«module» draft.old.store.lists }
+    requires cycles { canister.now.balance < 2 ^ 127 }
+    requires outstanding { canister.now.outstanding ≤ 500 }
+    requires limit { meter.old.limit ≡ env.limit }
+    ensures steps { Steps result (stage_of draft.new.store.lists draft.new.certified meter.new.used)
+        (started (asked_of env canister.now sender) (code_of code.now) name arg (stage_of draft.old.store.lists draft.old.certified meter.old.used)) }
+    ensures fits { IfOk result (λ _. Fits code.now.valid.«module» draft.new.store.lists) }
+    ensures begun { draft.new.store.begun ≡ draft.old.store.begun }
+    ensures limit { meter.new.limit ≡ meter.old.limit }
+{
+    let view = install_view(
+        alloc,
+        env,
+        canister,
+        sender,
+        no_bytes(alloc),
+        &draft.certified,
+    )?;
+    run(
+        alloc,
+        code,
+        start_target(&code.valid),
+        EntryKind::Start,
+        view,
+        &mut draft.store,
+        &mut draft.certified,
+        meter,
+    )?;
+    let view = install_view(alloc, env, canister, sender, arg, &draft.certified)?;
+    run(
+        alloc,
+        code,
+        entry_target(&code.valid, name, ""),
+        EntryKind::Init,
+        view,
+        &mut draft.store,
+        &mut draft.certified,
+        meter,
+    )
+}
+
+/// The steps of an installation on a canister whose store and certified data go, up to the last one.
+pub fn install_steps(
+    alloc: Global,
+    canister: &Canister,
+    code: &Code,
+    arg: Bytes,
+    sender: Principal,
+    env: Env,
+    meter: &mut Meter,
+) -> Result<Draft, Stop>
+    requires cycles { canister.now.balance < 2 ^ 127 }
+    requires outstanding { canister.now.outstanding ≤ 500 }
+    requires limit { meter.old.limit ≡ env.limit }
+    ensures steps { Drafts result meter.new.used
+        (install_steps (asked_of env canister.now sender) (code_of code.now) arg (stage_of canister.now.store.lists canister.now.certified meter.old.used)) }
+    ensures fits { IfOk result (λ d. Fits code.now.valid.«module» d.store.lists) }
+    ensures begun { IfOk result (λ d. d.store.begun ≡ None) }
+    ensures limit { meter.new.limit ≡ meter.old.limit }
+{
+    let store = new_store(alloc, &code.valid, 0, &[])?;
+    let mut draft = Draft {
+        store,
+        certified: no_bytes(alloc),
+    };
+    start(
+        alloc,
+        canister,
+        code,
+        EntryName::Init,
+        arg,
+        sender,
+        env,
+        &mut draft,
+        meter,
+    )?;
+    Ok(draft)
+}

@@ -1,0 +1,149 @@
+ghost use Rattle.std.specs.Prelude.{◌≡◌, [], IfOk};
+ghost use Rattle.ic_behaviour.specs.Executing.{phase_number, view, call_view, answer_view};
+ghost use Rattle.ic_state.specs.Seen.{seen};
+ghost use Rattle.ic_behaviour.specs.Views.{view_for};
+
+use ic_base::NoMemory;
+use ic_principal::{Bytes, Principal, Text};
+use ic_state::{Canister, Context, Controllers, Env, Phase, Response, View};
+use std::alloc::Global;
+
+fn phase_number(phase: &Phase) -> u32
+    ensures { result ≡ phase_number phase.now }
+{
+    match phase {
+        Phase::Running => 1,
+        Phase::Stopping(_) => 2,
+        Phase::Stopped => 3,
+    }
+}
+
+fn copy_of(alloc: Global, controllers: &Controllers) -> Result<Controllers, NoMemory>
+    ensures { IfOk result (λ l. l ≡ controllers.now) }
+{
+    Ok(Controllers {
+        items: Vec::from_slice(alloc, controllers.items.as_slice())?,
+    })
+}
+
+pub fn no_bytes(alloc: Global) -> Bytes
+    ensures { result ≡ [] }
+{
+    Bytes {
+        items: Vec::new(alloc),
+    }
+}
+
+fn no_text(alloc: Global) -> Text
+    ensures { result ≡ [] }
+{
+    Text {
+        items: String::new(alloc),
+    }
+}
+
+/// What code sees of a canister that is copied for it.
+#[derive(Drop)]
+pub struct Copies {
+    pub controllers: Controllers,
+    pub certified: Bytes,
+}
+
+/// Copied apart from the rest of what code sees, which is large.
+pub fn copies_of(alloc: Global, canister: &Canister) -> Result<Copies, NoMemory>
+    ensures controllers { IfOk result (λ c. c.controllers ≡ canister.now.controllers) }
+    ensures certified { IfOk result (λ c. c.certified ≡ canister.now.certified) }
+{
+    Ok(Copies {
+        controllers: copy_of(alloc, &canister.controllers)?,
+        certified: canister.certified.copy()?,
+    })
+}
+
+/// What code sees of the canister: for this caller, with the cycles that may be accepted, and
+/// whether the caller was answered.
+pub fn view_for(
+    alloc: Global,
+    env: Env,
+    canister: &Canister,
+    copies: Copies,
+    caller: Principal,
+    available: u128,
+    responded: bool,
+) -> View
+    requires controllers { copies.controllers ≡ canister.now.controllers }
+    requires certified { copies.certified ≡ canister.now.certified }
+    ensures { result ≡ view_for env (seen canister.now) caller available responded }
+{
+    let Copies {
+        controllers,
+        certified,
+    } = copies;
+    View {
+        time: env.time,
+        id: canister.id,
+        balance: canister.balance,
+        phase_number: phase_number(&canister.phase),
+        controllers,
+        caller,
+        arg: no_bytes(alloc),
+        method: no_text(alloc),
+        reject_code: 0,
+        reject_message: no_text(alloc),
+        refund: 0,
+        available,
+        responded,
+        outstanding: canister.outstanding,
+        next_call: canister.next_call,
+        certified,
+    }
+}
+
+/// What code sees that runs in a call context.
+pub fn view_in(
+    alloc: Global,
+    env: Env,
+    canister: &Canister,
+    copies: Copies,
+    context: &Context,
+) -> View
+    requires controllers { copies.controllers ≡ canister.now.controllers }
+    requires certified { copies.certified ≡ canister.now.certified }
+    ensures { result ≡ view env (seen canister.now) context.now }
+{
+    view_for(
+        alloc,
+        env,
+        canister,
+        copies,
+        context.caller,
+        context.available,
+        !context.must_respond,
+    )
+}
+
+/// The same, with a call.
+pub fn with_call(view: View, method: Text, arg: Bytes) -> View
+    ensures { result ≡ call_view view method arg }
+{
+    let mut view = view;
+    view.method = method;
+    view.arg = arg;
+    view
+}
+
+/// The same, with an answer.
+pub fn with_answer(view: View, response: Response, refund: u128) -> View
+    ensures { result ≡ answer_view view response refund }
+{
+    let mut view = view;
+    view.refund = refund;
+    match response {
+        Response::Reply(arg) => view.arg = arg,
+        Response::Reject { code, message } => {
+            view.reject_code = code;
+            view.reject_message = message;
+        }
+    }
+    view
+}

@@ -1,8 +1,0 @@
-use Rattle.ic_state.specs.Seen.{code_of}
-use Rattle.ic_exec.proofs.Enters.{fresh_is}
-use Rattle.ic_exec.proofs.entering.enter.Goals as goal
-
-pub returns-clause-outcome : goal.returns-clause-outcome
-returns-clause-outcome c =
-    fresh_is (code_of c.args.code.now) c.args.store.now.lists c.enter_after.new.store.lists c.args.target c.args.kind c.args.view c.args.limit c.used.result c.enter_after.new.meter.used c.new-meter.result c.in_ok-ended.ended
-    c.new-meter.ensures c.used.ensures.used c.in_ok-ended.ensures.outcome

@@ -1,0 +1,162 @@
+-- Places with and without messages, and the messages under their numbers.
+use Rattle.std.proofs.Common.{◌≡◌, ℕ, zero, suc, ◌<◌, ◌+◌, ◌==◌, true, false, List, [], ◌∷◌, ◌++◌, length, Some, None, refl, sym, ap, ◌∙◌, subst, arith, slice_set}
+use Rattle.std.specs.Prelude.{Option, Bool, not, slice_index_or}
+use Rattle.std.specs.Option.{is_some, option_to_list}
+use Rattle.std.specs.declared.cmp.Ordering.TheVariants.{Less, Greater}
+use Rattle.std.specs.Ordering.{is_eq}
+use Rattle.std.specs.Cmp.{nat_cmp_is}
+use Rattle.std.specs.Map.{lookup, remove_entry, values_of}
+use Rattle.std.proofs.lemmas.Bool.{false≢true}
+use Rattle.std.proofs.Math.Dec.{eqb-suc-zero}
+use Rattle.ic_behaviour.specs.declared.call.Message.{Message}
+use Rattle.ic_queues.specs.Lines.{is_number}
+use Rattle.ic_queues.specs.Shelved.{Shelved, entries_from, starts_empty, IsShelf, messages_of, message_at, emptied}
+use Rattle.ic_queues.proofs.Numbers.{number-self}
+
+above : (n k : ℕ) → k < n → is_number n k ≡ false
+above n k less = ap is_eq (sym (nat_cmp_is n k Greater less))
+
+under : (n k : ℕ) → n < k → is_number n k ≡ false
+under n k less = ap is_eq (sym (nat_cmp_is n k Less less))
+
+-- numbers before the first place have no message
+none_below : (m n : ℕ) (ps : List (Option Message)) → m < n → lookup (is_number m) (entries_from n ps) ≡ None
+none_below m n [] less = refl
+none_below m n (None ∷ ps) less = none_below m (suc n) ps (omega (arith, less))
+none_below m n (Some x ∷ ps) less = let no = under m n less in rw no (none_below m (suc n) ps (omega (arith, less)))
+
+kept_below : (m n : ℕ) (ps : List (Option Message)) → m < n → remove_entry (is_number m) (entries_from n ps) ≡ entries_from n ps
+kept_below m n [] less = refl
+kept_below m n (None ∷ ps) less = kept_below m (suc n) ps (omega (arith, less))
+kept_below m n (Some x ∷ ps) less = let no = under m n less in rw no (ap (λ l. (n, x) ∷ l) (kept_below m (suc n) ps (omega (arith, less))))
+
+pub before-first : (m n : ℕ) (ps : List (Option Message)) → m < n
+    → (lookup (is_number m) (entries_from n ps) ≡ None) × (remove_entry (is_number m) (entries_from n ps) ≡ entries_from n ps)
+before-first m n ps less = (none_below m n ps less, kept_below m n ps less)
+
+first-number : (n : ℕ) → is_number (n + 0) n ≡ true
+first-number n = subst (λ (m : ℕ). is_number m n ≡ true) (omega arith) (number-self n)
+
+-- the message of a place leaves
+pub found-at : (k n : ℕ) (ps : List (Option Message)) → lookup (is_number (n + k)) (entries_from n ps) ≡ message_at k ps
+found-at k n [] = refl
+found-at zero n (None ∷ ps) = none_below (n + 0) (suc n) ps (omega arith)
+found-at zero n (Some x ∷ ps) = let yes = first-number n in rw yes refl
+found-at (suc k) n (None ∷ ps) = subst (λ (m : ℕ). lookup (is_number m) (entries_from (suc n) ps) ≡ message_at k ps) (omega arith) (found-at k (suc n) ps)
+found-at (suc k) n (Some x ∷ ps) =
+    let no = above (n + suc k) n (omega arith) in
+    rw no (subst (λ (m : ℕ). lookup (is_number m) (entries_from (suc n) ps) ≡ message_at k ps) (omega arith) (found-at k (suc n) ps))
+
+pub left-at : (k n : ℕ) (ps : List (Option Message)) → remove_entry (is_number (n + k)) (entries_from n ps) ≡ entries_from n (emptied k ps)
+left-at k n [] = refl
+left-at zero n (None ∷ ps) = kept_below (n + 0) (suc n) ps (omega arith)
+left-at zero n (Some x ∷ ps) = let yes = first-number n in rw yes refl
+left-at (suc k) n (None ∷ ps) = subst (λ (m : ℕ). remove_entry (is_number m) (entries_from (suc n) ps) ≡ entries_from (suc n) (emptied k ps)) (omega arith) (left-at k (suc n) ps)
+left-at (suc k) n (Some x ∷ ps) =
+    let no = above (n + suc k) n (omega arith) in
+    rw no (ap (λ l. (n, x) ∷ l) (subst (λ (m : ℕ). remove_entry (is_number m) (entries_from (suc n) ps) ≡ entries_from (suc n) (emptied k ps)) (omega arith) (left-at k (suc n) ps)))
+
+pub emptied-length : (k : ℕ) (ps : List (Option Message)) → length (emptied k ps) ≡ length ps
+emptied-length k [] = refl
+emptied-length zero (p ∷ ps) = refl
+emptied-length (suc k) (p ∷ ps) = ap suc (emptied-length k ps)
+
+-- a place is emptied by its index
+pub emptied-is : (k : ℕ) (ps : List (Option Message)) → k < length ps → slice_set ps k None ≡ emptied k ps
+emptied-is k [] inside = absurd (omega (arith, inside))
+emptied-is zero (p ∷ ps) inside = refl
+emptied-is (suc k) (p ∷ ps) inside = ap (λ l. p ∷ l) (emptied-is k ps (omega (arith, inside)))
+
+pub message-is : (k : ℕ) (ps : List (Option Message)) (p : Option Message) → k < length ps → p ≡ slice_index_or ps k p → p ≡ message_at k ps
+message-is k [] p inside is = absurd (omega (arith, inside))
+message-is zero (q ∷ ps) p inside is = is
+message-is (suc k) (q ∷ ps) p inside is = message-is k ps p (omega (arith, inside)) is
+
+pub nothing-beyond : (k : ℕ) (ps : List (Option Message)) → length ps < k + 1 → (emptied k ps ≡ ps) × (message_at k ps ≡ None)
+nothing-beyond k [] beyond = (refl, refl)
+nothing-beyond zero (p ∷ ps) beyond = absurd (omega (arith, beyond))
+nothing-beyond (suc k) (p ∷ ps) beyond = let rest = nothing-beyond k ps (omega (arith, beyond)) in (ap (λ l. p ∷ l) rest.0, rest.1)
+
+-- ---- the last place, and the first
+
+pub message-last : (n : ℕ) (ps : List (Option Message)) (x : Message) → entries_from n (ps ++ Some x ∷ []) ≡ entries_from n ps ++ (n + length ps, x) ∷ []
+message-last n [] x = ap (λ (k : ℕ). (k, x) ∷ []) (omega arith)
+message-last n (None ∷ ps) x = message-last (suc n) ps x ∙ ap (λ (k : ℕ). entries_from (suc n) ps ++ (k, x) ∷ []) (omega arith)
+message-last n (Some y ∷ ps) x = ap (λ l. (n, y) ∷ l) (message-last (suc n) ps x ∙ ap (λ (k : ℕ). entries_from (suc n) ps ++ (k, x) ∷ []) (omega arith))
+
+pub messages-last : (ps : List (Option Message)) (p : Option Message) → messages_of (ps ++ p ∷ []) ≡ messages_of ps ++ option_to_list p
+messages-last [] None = refl
+messages-last [] (Some x) = refl
+messages-last (None ∷ ps) p = messages-last ps p
+messages-last (Some y ∷ ps) p = ap (λ l. y ∷ l) (messages-last ps p)
+
+pub values-are : (n : ℕ) (ps : List (Option Message)) → messages_of ps ≡ values_of (entries_from n ps)
+values-are n [] = refl
+values-are n (None ∷ ps) = values-are (suc n) ps
+values-are n (Some y ∷ ps) = ap (λ l. y ∷ l) (values-are (suc n) ps)
+
+pub still-trimmed : (ps : List (Option Message)) (x : Message) → starts_empty ps ≡ false → starts_empty (ps ++ Some x ∷ []) ≡ false
+still-trimmed [] x full = refl
+still-trimmed (None ∷ ps) x full = full
+still-trimmed (Some y ∷ ps) x full = refl
+
+pub none-there : (n : ℕ) (ps : List (Option Message)) → starts_empty ps ≡ false → (length ps == 0) ≡ (length (entries_from n ps) == 0)
+none-there n [] full = refl
+none-there n (None ∷ ps) full = absurd (false≢true (sym full))
+none-there n (Some y ∷ ps) full = eqb-suc-zero (length ps) ∙ sym (eqb-suc-zero (length (entries_from (suc n) ps)))
+
+pub front-is : (ps : List (Option Message)) (p : Option Message) (b : Bool) → 0 < length ps → p ≡ slice_index_or ps 0 p → is_some p ≡ not b → b ≡ starts_empty ps
+front-is [] p b inside is e = absurd (omega (arith, inside))
+front-is (None ∷ ps) p true inside is e = refl
+front-is (None ∷ ps) p false inside is e = absurd (false≢true (sym (ap is_some is) ∙ e))
+front-is (Some x ∷ ps) p true inside is e = absurd (false≢true (sym e ∙ ap is_some is))
+front-is (Some x ∷ ps) p false inside is e = refl
+
+pub no-front : (ps : List (Option Message)) (n : ℕ) → n ≡ length ps → (0 < n → false ≡ true) → false ≡ starts_empty ps
+no-front [] n e none = refl
+no-front (p ∷ ps) n e none = absurd (false≢true (none (omega (arith, e))))
+
+-- an empty place in front goes
+pub popped-front : (n : ℕ) (ps qs : List (Option Message)) (r : Option (Option Message)) (k : ℕ) → starts_empty ps ≡ true → ps ≡ option_to_list r ++ qs → k ≡ length ps → (0 < k → is_some r ≡ true)
+    → (entries_from (n + 1) qs ≡ entries_from n ps) × (n + 1 + length qs ≡ n + length ps)
+popped-front n [] qs r k empty e len some = absurd (false≢true empty)
+popped-front n (Some x ∷ ps) qs r k empty e len some = absurd (false≢true empty)
+popped-front n (None ∷ ps) qs None k empty e len some = absurd (false≢true (some (omega (arith, len))))
+popped-front n (None ∷ ps) qs (Some p) k empty e len some =
+    let rest : ps ≡ qs = cc in
+    (ap (λ l. entries_from (n + 1) l) (sym rest) ∙ ap (λ (j : ℕ). entries_from j ps) (omega arith), omega (arith, ap length rest))
+
+length-last : (ps : List (Option Message)) (p : Option Message) → length (ps ++ p ∷ []) ≡ length ps + 1
+length-last [] p = refl
+length-last (q ∷ ps) p = omega (arith, length-last ps p)
+
+-- ---- shelves
+
+pub record Pushed (first next after : ℕ) (ps qs : List (Option Message)) (x : Message) : Type 0 where
+  pub shelf : IsShelf first qs after
+  pub view : ◌≡◌ {A = Shelved} (record { entries = entries_from first qs; next = after }) (record { entries = entries_from first ps ++ (next, x) ∷ []; next = next + 1 })
+
+pub pushed : (first next after : ℕ) (ps qs : List (Option Message)) (x : Message) → IsShelf first ps next → qs ≡ ps ++ Some x ∷ [] → after ≡ next + 1 → Pushed first next after ps qs x
+pushed first next after ps qs x is e1 e2 =
+    let entries : entries_from first qs ≡ entries_from first ps ++ (next, x) ∷ [] =
+    ap (entries_from first) e1 ∙ message-last first ps x ∙ ap (λ (k : ℕ). entries_from first ps ++ (k, x) ∷ []) is.numbers in
+    record {
+      shelf = record { numbers = omega (arith, is.numbers, ap length e1, length-last ps (Some x), e2); trimmed = ap starts_empty e1 ∙ still-trimmed ps x is.trimmed };
+      view = λ i. record { entries = entries i; next = e2 i };
+    }
+
+pub record Taken (first next n : ℕ) (ps : List (Option Message)) (m : Option Message) (first' : ℕ) (ps' : List (Option Message)) : Type 0 where
+  pub shelf : IsShelf first' ps' next
+  pub message : m ≡ lookup (is_number n) (entries_from first ps)
+  pub entries : entries_from first' ps' ≡ remove_entry (is_number n) (entries_from first ps)
+
+pub taken : (first next n k : ℕ) (ps qs : List (Option Message)) (m : Option Message) (first' : ℕ) (ps' : List (Option Message))
+    → IsShelf first ps next → first + k ≡ n → qs ≡ emptied k ps → m ≡ message_at k ps
+    → entries_from first' ps' ≡ entries_from first qs → first' + length ps' ≡ first + length qs → starts_empty ps' ≡ false
+    → Taken first next n ps m first' ps'
+taken first next n k ps qs m first' ps' is place e1 e2 e3 e4 trimmed =
+    record {
+      shelf = record { numbers = omega (arith, is.numbers, e4, ap length e1, emptied-length k ps); trimmed = trimmed };
+      message = e2 ∙ sym (found-at k first ps) ∙ ap (λ (j : ℕ). lookup (is_number j) (entries_from first ps)) place;
+      entries = e3 ∙ ap (entries_from first) e1 ∙ sym (left-at k first ps) ∙ ap (λ (j : ℕ). remove_entry (is_number j) (entries_from first ps)) place;
+    }

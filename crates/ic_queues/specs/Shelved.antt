@@ -1,0 +1,41 @@
+-- Messages under numbers that rise, with empty places between them. No standard has this.
+use Rattle.std.specs.Prelude.{◌≡◌, ℕ, zero, suc, ◌+◌, Bool, true, false, List, [], ◌∷◌, length, Option, Some, None}
+use Rattle.ic_behaviour.specs.declared.call.Message.{Message}
+
+-- the messages with their numbers, and the number of the next one
+pub record Shelved : Type 0 where
+  pub entries : List (ℕ × Message)
+  pub next : ℕ
+
+-- the messages of these places, of which the first has the number n
+abbrev pub entries_from : ℕ → List (Option Message) → List (ℕ × Message)
+entries_from n [] = []
+entries_from n (None ∷ places) = entries_from (suc n) places
+entries_from n (Some m ∷ places) = (n, m) ∷ entries_from (suc n) places
+
+abbrev pub starts_empty : List (Option Message) → Bool
+starts_empty [] = false
+starts_empty (None ∷ places) = true
+starts_empty (Some m ∷ places) = false
+
+-- each number below the next has a place, and no empty place stands before all messages
+pub record IsShelf (first : ℕ) (places : List (Option Message)) (next : ℕ) : Type 0 where
+  pub numbers : first + length places ≡ next
+  pub trimmed : starts_empty places ≡ false
+
+abbrev pub messages_of : List (Option Message) → List Message
+messages_of [] = []
+messages_of (None ∷ places) = messages_of places
+messages_of (Some m ∷ places) = m ∷ messages_of places
+
+-- ---- one place
+
+abbrev pub message_at : ℕ → List (Option Message) → Option Message
+message_at k [] = None
+message_at zero (place ∷ places) = place
+message_at (suc k) (place ∷ places) = message_at k places
+
+abbrev pub emptied : ℕ → List (Option Message) → List (Option Message)
+emptied k [] = []
+emptied zero (place ∷ places) = None ∷ places
+emptied (suc k) (place ∷ places) = place ∷ emptied k places

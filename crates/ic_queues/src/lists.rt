@@ -1,0 +1,129 @@
+ghost use Rattle.std.specs.Prelude.{◌≡◌, ◌&&◌, OnOk};
+ghost use Rattle.std.specs.Map.{lookup};
+ghost use Rattle.ic_behaviour.specs.State.{at};
+ghost use Rattle.ic_behaviour.specs.Deliver.{is_management};
+ghost use Rattle.ic_queues.specs.Queued.{may_change_canisters, is_steady, first_to, without_first_to, push};
+ghost use Rattle.ic_queues.specs.Lines.{remove_number, numbered, waiting_with, outside_with, popped_line, line_at};
+ghost use Rattle.ic_queues.specs.InLists.{queued_of, AreQueued};
+
+use crate::line::Line;
+use crate::shelf::Shelf;
+use ic_base::NoMemory;
+use ic_calls::callee;
+use ic_principal::Principal;
+use ic_state::{Message, MessagePlace};
+use std::alloc::Global;
+use std::collections::BTreeMap;
+
+/// The parts of queues. Where memory runs out they may be at odds.
+#[derive(Drop)]
+pub struct Lists {
+    /// The messages under their numbers, in the order of the list.
+    pub messages: Shelf,
+    /// The numbers of the messages to each canister; one without a message has an empty queue.
+    pub waiting: BTreeMap<Principal, Line>,
+    /// The numbers of the messages to no canister.
+    pub outside: Line,
+    /// `true` where no message may make or delete a canister.
+    pub steady: bool,
+}
+
+// Whether a message makes and deletes no canister: only some calls to the management canister may.
+fn is_steady(message: &Message) -> bool
+    ensures { result ≡ is_steady message.now }
+{
+    match message {
+        Message::Call { callee, method, .. } => {
+            !(is_management(callee) && may_change_canisters(&method.items))
+        }
+        Message::Answer { .. } => true,
+    }
+}
+
+// The management canister has no bytes.
+fn is_management(callee: &Principal) -> bool
+    ensures { result ≡ is_management callee.now }
+{
+    callee.bytes().is_empty()
+}
+
+// Whether a method of the management canister makes or deletes canisters.
+fn may_change_canisters(method: &str) -> bool
+    ensures { result ≡ may_change_canisters method.now }
+{
+    match method {
+        "create_canister" => true,
+        "provisional_create_canister_with_cycles" => true,
+        "delete_canister" => true,
+        _ => false,
+    }
+}
+
+// Whether each message is known to make and delete no canister, with one more.
+fn still_steady(steady: bool, message: &Message) -> bool
+    ensures { result ≡ (steady && is_steady message.now) }
+{
+    steady && is_steady(message)
+}
+
+// The message of a number leaves, if there is one.
+fn taken(messages: &mut Shelf, number: Option<u64>) -> Option<MessagePlace>
+    ensures messages { messages.new.entries ≡ remove_number number messages.old.entries }
+    ensures next { messages.new.next ≡ messages.old.next }
+    ensures message { result ≡ numbered number messages.old.entries }
+{
+    messages.take(number?)
+}
+
+// The first number in the queue of a canister leaves, if it has one.
+fn pop_number(waiting: &mut BTreeMap<Principal, Line>, key: &Principal) -> Option<u64>
+    ensures waiting { waiting.new.entries ≡ popped_line waiting.old.entries key.now (lookup (at key.now) waiting.old.entries) }
+    ensures number { result ≡ line_at (lookup (at key.now) waiting.old.entries) }
+{
+    match waiting.get_mut(key) {
+        Some(line) => line.pop(),
+        None => None,
+    }
+}
+
+// A number comes last in the queue of its callee.
+fn line_up(
+    waiting: &mut BTreeMap<Principal, Line>,
+    outside: &mut Line,
+    callee: &Principal,
+    number: u64,
+) -> Result<(), NoMemory>
+    ensures waiting { OnOk result (waiting.new.entries ≡ waiting_with waiting.old.entries callee.now number (lookup (at callee.now) waiting.old.entries)) }
+    ensures outside { OnOk result (outside.new ≡ outside_with outside.old number (lookup (at callee.now) waiting.old.entries)) }
+{
+    match waiting.get_mut(callee) {
+        Some(line) => line.push(number),
+        None => outside.push(number),
+    }
+}
+
+impl Lists {
+    /// Takes the first message to a canister.
+    pub fn pop(&mut self, key: &Principal) -> Option<MessagePlace>
+        requires { AreQueued self.old }
+        ensures keeps { AreQueued self.new }
+        ensures queues { queued_of self.new ≡ without_first_to key.now (queued_of self.old) }
+        ensures message { result ≡ first_to key.now (queued_of self.old) }
+    {
+        let number = pop_number(&mut self.waiting, key);
+        taken(&mut self.messages, number)
+    }
+
+    /// Puts a message behind the others.
+    pub fn push(&mut self, alloc: Global, message: Message) -> Result<(), NoMemory>
+        requires { AreQueued self.old }
+        ensures keeps { OnOk result (AreQueued self.new) }
+        ensures queues { OnOk result (queued_of self.new ≡ push (queued_of self.old) message) }
+    {
+        self.steady = still_steady(self.steady, &message);
+        let callee = callee(&message);
+        let number = self.messages.push(alloc, message)?;
+        line_up(&mut self.waiting, &mut self.outside, &callee, number)?;
+        Ok(())
+    }
+}
