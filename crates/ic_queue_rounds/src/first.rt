@@ -14,8 +14,8 @@ use ic_state::{Env, Parts};
 use std::alloc::Global;
 use std::thread::Threads;
 
-/// The first phase of a round, as that of `ic_rounds`: no message is touched but the first ones, and
-/// those that are made.
+/// The first phase of a round, as that of `ic_rounds`: the first messages are drawn from the queues, in
+/// place of a pass over the list.
 pub fn canister_turns<R: Threads + Sync, G: Gate + Sync>(
     alloc: Global,
     rt: &R,

@@ -1,5 +1,5 @@
-//! Rounds over queues: a round touches the messages that it handles and those that it makes, and no
-//! other.
+//! Rounds over queues, so that a round need not go through the messages that it leaves. What state a
+//! round leads to is proved; which messages it touches on the way no clause says.
 //!
 //! Between the rounds of one call of `run_rounds` the messages of the world stand in the queues of
 //! `ic_queues`. The first phase takes the first message of each canister's queue; the second phase takes
