@@ -58,8 +58,8 @@ fn listed_turns(alloc: Global, world: QueuedWorld, limit: u64) -> Result<QueuedW
     QueuedWorld::new(alloc, world)
 }
 
-/// The second phase of a round, as that of `ic_mgmt`: no message is touched but those to no canister,
-/// unless one of these may make or delete a canister.
+/// The second phase of a round, as that of `ic_mgmt`: the messages to no canister are taken out of their
+/// queue, unless one of these may make or delete a canister. Then it is a pass over the list.
 pub fn outside_turns(alloc: Global, world: QueuedWorld, limit: u64) -> Result<QueuedWorld, NoMemory>
     requires limit { limit ≤ 1000000000000 }
     ensures { IfOk result (λ w. (price : ℕ)
