@@ -1,7 +1,7 @@
 -- Requests by their ids.
-use Rattle.std.proofs.Common.{◌≡◌, ◌∙◌, ap, ap₂, sym, arith, ℕ, zero, suc, ◌+◌, ◌<◌, ◌≤◌, List, [], ◌∷◌, ◌++◌, length, drop}
+use Rattle.std.proofs.Common.{◌≡◌, ◌∙◌, ap, ap₂, sym, arith, ℕ, suc, ◌+◌, ◌<◌, List, ◌∷◌, ◌++◌, length, drop}
 use Rattle.std.specs.BTreeMap.{insert_entry}
-use Rattle.std.specs.List.{AllByRecursion, slice_index_or}
+use Rattle.std.specs.List.{slice_index_or}
 use Rattle.std.specs.Ordering.{nat_cmp}
 use Rattle.std.specs.Cmp.Lexicographic.{slice_cmp}
 use Rattle.std.proofs.Math.Seq.{drop-cons}
@@ -28,10 +28,3 @@ pair key value = sha256 key ++ sha256 value
 pub put : (given wanted : List ℕ) (before pairs all : List (List ℕ)) → all ≡ put_in_order given before → given ≡ wanted → before ≡ pairs
     → all ≡ put_in_order wanted pairs
 put given wanted before pairs all is as_wanted as_pairs = is ∙ ap₂ put_in_order as_wanted as_pairs
-
--- a request was submitted early enough
-pub each_early : (rs : List Request) (k : ℕ) (d : Request) → k < length rs → AllByRecursion (λ (r : Request). r.time ≤ 9223372036854775807) rs
-    → (slice_index_or rs k d).time ≤ 9223372036854775807
-each_early [] k d lt all = absurd (omega arith)
-each_early (r ∷ rs) zero d lt all = all.0
-each_early (r ∷ rs) (suc k) d lt all = each_early rs k d (omega arith) all.1

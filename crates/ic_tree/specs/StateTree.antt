@@ -1,4 +1,5 @@
 -- The tree of a state (IC Interface Specification, "The system state tree").
+use Rattle.std.specs.Borrow.{Bor}
 use Rattle.std.specs.Prelude.{ℕ, ◌+◌, List, [], ◌∷◌, codes, map, option_map, Option, Some, None}
 use Rattle.std.specs.BTreeMap.{insert_entry}
 use Rattle.std.specs.Int.{to_be_bytes, w64}
@@ -12,7 +13,9 @@ use Rattle.ic_behaviour.specs.declared.request.Request.{Request}
 use Rattle.ic_behaviour.specs.State.{Canister, Code, State}
 use Rattle.ic_tree.specs.declared.fields.Field.{Field}
 use Rattle.ic_tree.specs.declared.fields.Field.TheVariants.{Bytes, Number}
-use Rattle.ic_tree.specs.HashTree.{HashTree, forked, labeled, leaf_at}
+use Rattle.ic_tree.specs.declared.state.Keep.{Keep}
+use Rattle.ic_tree.specs.declared.state.Keep.TheVariants.{Whole, Root}
+use Rattle.ic_tree.specs.HashTree.{HashTree, forked, labeled, leaf_at, pruned, root_hash}
 use Rattle.ic_tree.specs.RequestId.{request_id_of}
 
 -- ---- canisters
@@ -64,10 +67,26 @@ by_id number (r ∷ rs) =
 abbrev pub request_tree : List ℕ × HashTree → HashTree
 request_tree e = labeled e.0 e.1
 
+-- the id of a request that is lent, and what stands under it
+abbrev pub part_of : List ℕ × Bor Request → List ℕ × HashTree
+part_of e = (e.0, request_part e.1.now.answer)
+
+-- a tree, or its root hash in its place
+unfoldable pub kept : Keep → HashTree → HashTree
+kept Whole tree = tree
+kept Root tree = pruned (root_hash tree)
+
+abbrev pub kept_request : Keep → List ℕ × HashTree → HashTree
+kept_request keep e = kept keep (request_tree e)
+
 -- ---- the state
 
-unfoldable pub state_tree_of : State → HashTree
-state_tree_of s = forked
+-- the tree of a state with these trees for its requests
+abbrev pub tree_over : State → List HashTree → HashTree
+tree_over s requests = forked
     (labeled (codes "canister") (forked (map canister_tree s.canisters))
-    ∷ labeled (codes "request_status") (forked (map request_tree (by_id 0 s.requests)))
+    ∷ labeled (codes "request_status") (forked requests)
     ∷ leaf_at (codes "time") (unsigned_spelling s.time) ∷ [])
+
+unfoldable pub state_tree_of : State → HashTree
+state_tree_of s = tree_over s (map request_tree (by_id 0 s.requests))

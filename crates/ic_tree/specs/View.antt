@@ -1,5 +1,4 @@
 -- The hash tree that a tree of the program is.
-use Rattle.std.specs.Prelude.{ℕ, List}
 use Rattle.ic_tree.specs.HashTree.{HashTree, empty, fork, labeled, leaf, pruned}
 use Rattle.ic_tree.specs.declared.tree.Tree.{Tree}
 use Rattle.ic_tree.specs.declared.tree.Tree.TheVariants.{Empty, Fork', Labeled', Leaf, Pruned}
@@ -10,7 +9,3 @@ view (Fork' p left q right) = fork (view left) (view right)
 view (Labeled' label p part) = labeled label (view part)
 view (Leaf bytes) = leaf bytes
 view (Pruned hash) = pruned hash
-
--- the same of a tree under an id
-abbrev pub viewed : List ℕ × Tree → List ℕ × HashTree
-viewed e = (e.0, view e.1)

@@ -1,16 +1,14 @@
-ghost use Rattle.std.specs.Prelude.{◌≡◌, ◌+◌, ◌≤◌, ◌^◌, Some, IfOk, OnOk, length, map, option_map};
-ghost use Rattle.std.specs.BTreeMap.{insert_entry};
+ghost use Rattle.std.specs.Prelude.{◌≡◌, ◌+◌, ◌≤◌, ◌^◌, Some, IfOk, length, map, option_map};
 ghost use Rattle.std.specs.List.{AllByRecursion};
-ghost use Rattle.std.specs.Cmp.Lexicographic.{slice_cmp};
-ghost use Rattle.std.specs.Ordering.{nat_cmp};
 ghost use Rattle.ic_behaviour.specs.declared.request.Request.{Request as Asked};
 ghost use Rattle.ic_state.specs.Seen.{code_of, entry_of};
 ghost use Rattle.ic_leb.specs.Spelling.{unsigned_spelling};
-ghost use Rattle.ic_tree.specs.HashTree.{forked, leaf_at};
-ghost use Rattle.ic_tree.specs.StateTree.{by_id, canister_part, canister_tree, id_of_request, request_part, request_tree, state_tree_of, status_leaf};
-ghost use Rattle.ic_tree.specs.View.{view, viewed};
+ghost use Rattle.ic_tree.specs.HashTree.{forked, leaf_at, root_hash};
+ghost use Rattle.ic_tree.specs.StateTree.{by_id, canister_part, canister_tree, id_of_request, kept, kept_request, part_of, request_part, state_tree_of, status_leaf, tree_over};
+ghost use Rattle.ic_tree.specs.View.{view};
 
 use crate::fields::Pairs;
+use crate::hashes::root;
 use crate::tree::{Tree, fork, forked, labeled, leaf_at};
 use ic_base::NoMemory;
 use ic_leb::write_u;
@@ -25,13 +23,50 @@ const LIFETIME: u64 = 300_000_000_000;
 /// The tree of a state (IC Interface Specification, "The system state tree"): the time, of each
 /// canister its certified data and the hash of its code, and of each request how far it is. Of two
 /// requests with one id the earlier stands.
-#[tactic(auto, unfolding(crate::specs::StateTree::state_tree_of, crate::specs::HashTree::forked_in))]
+#[tactic(auto, unfolding(crate::specs::StateTree::kept, crate::specs::StateTree::state_tree_of))]
 pub fn state_tree(alloc: Global, world: &World) -> Result<Tree, NoMemory>
     ensures { IfOk result (λ tree. view tree ≡ state_tree_of world.now) }
 {
+    tree_of(alloc, world, Keep::Whole)
+}
+
+/// The root hash of the tree of a state. What stands for a request is hashed and let go before that
+/// of the next is made, so that the whole tree never stands.
+#[tactic(auto, using(crate::proofs::Forks::state_root))]
+pub fn state_root(alloc: Global, world: &World) -> Result<[u8; 32], NoMemory>
+    ensures { IfOk result (λ hash. hash ≡ root_hash (state_tree_of world.now)) }
+{
+    let tree = tree_of(alloc, world, Keep::Root)?;
+    Ok(root(&tree))
+}
+
+// How the trees of the requests are kept.
+#[derive(Clone, Copy)]
+enum Keep {
+    Whole,
+    /// As root hashes, in whose place no tree stands.
+    Root,
+}
+
+impl Keep {
+    #[tactic(auto, unfolding(crate::specs::StateTree::kept, crate::specs::View::view))]
+    fn keep(self, tree: Tree) -> Tree
+        ensures { view result ≡ kept self (view tree) }
+    {
+        match self {
+            Keep::Whole => tree,
+            Keep::Root => Tree::Pruned(root(&tree)),
+        }
+    }
+}
+
+#[tactic(auto, unfolding(crate::specs::HashTree::forked_in))]
+fn tree_of(alloc: Global, world: &World, keep: Keep) -> Result<Tree, NoMemory>
+    ensures { IfOk result (λ tree. view tree ≡ tree_over world.now (map (kept_request keep) (by_id 0 world.now.requests))) }
+{
     let parts = world.parts();
     let canisters = canister_trees(alloc, &parts.canisters)?;
-    let requests = request_trees(alloc, &parts.requests.items)?;
+    let requests = request_trees(alloc, &parts.requests.items, keep)?;
     let canisters = labeled(alloc, b"canister".as_slice(), canisters)?;
     let requests = labeled(alloc, b"request_status".as_slice(), requests)?;
     let time = number_leaf(alloc, b"time".as_slice(), parts.time)?;
@@ -80,48 +115,38 @@ fn canister_part(
 
 // ---- requests
 
-fn request_trees(alloc: Global, requests: &[Request]) -> Result<Tree, NoMemory>
+fn request_trees(alloc: Global, requests: &[Request], keep: Keep) -> Result<Tree, NoMemory>
     requires few { length requests.now ≤ 2 ^ 20 }
     requires early { AllByRecursion (λ (r : Asked). r.time ≤ 9223372036854775807) requests.now }
-    ensures { IfOk result (λ tree. view tree ≡ forked (map request_tree (by_id 0 requests.now))) }
+    ensures { IfOk result (λ tree. view tree ≡ forked (map (kept_request keep) (by_id 0 requests.now))) }
 {
     let mut trees = Vec::new(alloc);
-    for (id, part) in in_order(alloc, requests)? {
-        trees.push(labeled(alloc, id.as_slice(), part)?)?;
+    for (id, request) in in_order(alloc, requests)? {
+        let part = request_part(alloc, &request.answer)?;
+        let tree = labeled(alloc, id.as_slice(), part)?;
+        trees.push(keep.keep(tree))?;
     }
     forked(alloc, trees)
 }
 
-// What stands under the ids of the requests. The last request goes first, so that of two with one id
-// the earlier stands.
-fn in_order(alloc: Global, requests: &[Request]) -> Result<BTreeMap<[u8; 32], Tree>, NoMemory>
+// The requests by their ids. The last goes first, so that of two with one id the earlier stands.
+fn in_order<'a>(
+    alloc: Global,
+    requests: &'a [Request],
+) -> Result<BTreeMap<[u8; 32], &'a Request>, NoMemory>
     requires few { length requests.now ≤ 2 ^ 20 }
     requires early { AllByRecursion (λ (r : Asked). r.time ≤ 9223372036854775807) requests.now }
-    ensures { IfOk result (λ order. map viewed order.entries ≡ by_id 0 requests.now) }
+    ensures { IfOk result (λ order. map part_of order.entries ≡ by_id 0 requests.now) }
 {
     let mut order = BTreeMap::new(alloc);
     let mut left = requests.len();
     while left > 0 {
         left -= 1;
-        put_request(alloc, &mut order, left as u64, &requests[left])?;
+        let request = &requests[left];
+        let id = id_of_request(alloc, left as u64, request)?;
+        order.insert(id, request)?;
     }
     Ok(order)
-}
-
-// Puts what stands under the id of a request in the place of what may stand there.
-fn put_request(
-    alloc: Global,
-    order: &mut BTreeMap<[u8; 32], Tree>,
-    number: u64,
-    request: &Request,
-) -> Result<(), NoMemory>
-    requires { request.now.time ≤ 9223372036854775807 }
-    ensures { OnOk result (map viewed order.new.entries ≡ insert_entry (slice_cmp nat_cmp) (map viewed order.old.entries) (id_of_request number request.now) (request_part request.now.answer)) }
-{
-    let id = id_of_request(alloc, number, request)?;
-    let part = request_part(alloc, &request.answer)?;
-    order.insert(id, part)?;
-    Ok(())
 }
 
 // When a request is too old, in nanoseconds since 1970-01-01.

@@ -1,7 +1,7 @@
 use ic_base::NoMemory;
 use ic_principal::{Bytes, Principal, Text};
 use ic_state::{Canister, Controllers, World};
-use ic_tree::{Field, Tree, fork, labeled, leaf_at, request_id, root, state_tree};
+use ic_tree::{Field, Tree, fork, labeled, leaf_at, request_id, root, state_root, state_tree};
 use sha2::{Digest, Sha256};
 use std::alloc::Global;
 use std::test::*;
@@ -129,39 +129,49 @@ fn tree_is_hashed(rt: HostRuntime) -> Result<(), NoMemory> {
     Ok(())
 }
 
-// The roots of states were computed by the definitions with Python's hashlib.
-#[test]
-fn empty_state_is_hashed(rt: HostRuntime) -> Result<(), NoMemory> {
-    let tree = state_tree(rt.alloc(), &World::new(rt.alloc()))?;
-    assert_eq!(rt;
-        digits(rt.alloc(), root(&tree))?.as_str(),
-        "1fb845fb329fa6b278fbd76576f003319bb503d04dedd611f37fd509233c28c1"
-    );
-    Ok(())
+// A user calls the canister of `state`, if there are fewer than 1,000 calls.
+fn called(alloc: Global, world: World) -> Result<World, NoMemory> {
+    if world.parts().requests.len() >= 1000 {
+        return Ok(world);
+    }
+    world.submit(
+        Principal::canister_id(1),
+        Principal::canister_id(0),
+        text(alloc, "")?,
+        bytes(alloc, b"".as_slice())?,
+    )
 }
 
-// A canister without code, which a user calls at time 7.
-fn state(alloc: Global) -> Result<World, NoMemory> {
+// A canister without code, which a user calls so many times at time 7.
+fn state(alloc: Global, calls: usize) -> Result<World, NoMemory> {
     let id = Principal::canister_id(0);
     let nobody = Controllers {
         items: Vec::new(alloc),
     };
     let mut world = World::new(alloc).add(Canister::new(alloc, id, nobody, 1000)?)?;
     world.set_time(7);
-    world.submit(
-        Principal::canister_id(1),
-        id,
-        text(alloc, "")?,
-        bytes(alloc, b"".as_slice())?,
-    )
+    for _ in 0..calls {
+        world = called(alloc, world)?;
+    }
+    Ok(world)
 }
 
+// Whether this is the root of a state: of its tree, and where the tree is not kept.
+fn is_root(alloc: Global, world: &World, expected: &str) -> Result<bool, NoMemory> {
+    let whole = digits(alloc, root(&state_tree(alloc, world)?))?;
+    let alone = digits(alloc, state_root(alloc, world)?)?;
+    Ok(whole.as_str() == expected && alone.as_str() == expected)
+}
+
+// The roots were computed by the definitions with Python's hashlib.
 #[test]
-fn state_is_hashed(rt: HostRuntime) -> Result<(), NoMemory> {
-    let tree = state_tree(rt.alloc(), &state(rt.alloc())?)?;
-    assert_eq!(rt;
-        digits(rt.alloc(), root(&tree))?.as_str(),
-        "3b028c0efc3574956e39b00ffed9f44a8bcf7507cccdc3070e53e56bb7b5ed01"
-    );
+fn states_are_hashed(rt: HostRuntime) -> Result<(), NoMemory> {
+    let alloc = rt.alloc();
+    let empty = "1fb845fb329fa6b278fbd76576f003319bb503d04dedd611f37fd509233c28c1";
+    let one_call = "3b028c0efc3574956e39b00ffed9f44a8bcf7507cccdc3070e53e56bb7b5ed01";
+    let three_calls = "b8c5d42c9544c5628b286f54d7e07038f0a577237edbf8cae4d36bb1a59880b6";
+    assert!(rt; is_root(alloc, &World::new(alloc), empty)?);
+    assert!(rt; is_root(alloc, &state(alloc, 1)?, one_call)?);
+    assert!(rt; is_root(alloc, &state(alloc, 3)?, three_calls)?);
     Ok(())
 }
