@@ -1,13 +1,11 @@
 ghost use Rattle.std.specs.Prelude.{◌≡◌, ◌++◌, IfOk, count_by, is_none};
 ghost use Rattle.ic_behaviour.specs.declared.request.Request.{Request as Asked};
-ghost use Rattle.ic_tree.specs.HashTree.{root_hash};
-ghost use Rattle.ic_tree.specs.StateTree.{state_tree_of};
 ghost use Rattle.ic_printed.specs.Texts.{calls_line, closing, is_rejected, is_replied, root_line, state_line, witness_text};
 
 use ic_base::NoMemory;
 use ic_principal::Bytes;
 use ic_state::{Request, Response, World};
-use ic_tree::{root, state_tree};
+use ic_tree::state_root;
 use ic_witness::{Path, state_witness};
 use std::alloc::Global;
 
@@ -26,7 +24,7 @@ pub fn state_line(alloc: Global, world: &World) -> Result<Bytes, NoMemory>
 fn root_line(alloc: Global, world: &World) -> Result<Bytes, NoMemory>
     ensures { IfOk result (λ line. line ≡ root_line world.now) }
 {
-    let hash = root_of(alloc, world)?;
+    let hash = state_root(alloc, world)?;
     let digits = hex::encode(alloc, hash.as_slice())?;
     Ok(Bytes {
         items: format!(in alloc; "root {digits}\n")?.into_bytes(),
@@ -43,14 +41,6 @@ pub fn witness_line(alloc: Global, world: &World, paths: &[Path]) -> Result<Byte
     Ok(Bytes {
         items: format!(in alloc; "witness {digits}\n")?.into_bytes(),
     })
-}
-
-// The tree is dropped here.
-fn root_of(alloc: Global, world: &World) -> Result<[u8; 32], NoMemory>
-    ensures { IfOk result (λ hash. hash ≡ root_hash (state_tree_of world.now)) }
-{
-    let tree = state_tree(alloc, world)?;
-    Ok(root(&tree))
 }
 
 /// What is printed last: the state, and the root hash of its tree.
