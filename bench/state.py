@@ -67,8 +67,10 @@ def state_line():
 
 def tree():
     sizes = [2**18, 2**20]
-    trees, bare, pieces = ([driven(what, size) for size in sizes] for what in ["tree", "requests", "hashes"])
-    in_turns(trees + bare + pieces)
+    trees, roots, bare, pieces = (
+        [driven(what, size) for size in sizes] for what in ["tree", "root", "requests", "hashes"]
+    )
+    in_turns(trees + roots + bare + pieces)
     took = [one.best - other.best for one, other in zip(trees, bare)]
     hashing = [one.best - other.best for one, other in zip(pieces, bare)]
     for size, seconds, hashed, whole, without in zip(sizes, took, hashing, trees, bare):
@@ -77,6 +79,8 @@ def tree():
             f" ({hashed:.2f} s); peak {whole.peak // 1024} MiB, {without.peak // 1024} MiB without it",
             flush=True,
         )
+    for size, alone, without in zip(sizes, roots, bare):
+        print(f"the root alone of {size:,}: {alone.best - without.best:.2f} s; peak {alone.peak // 1024} MiB", flush=True)
     print(f"four times the requests take {took[1] / took[0]:.2f} times the time", flush=True)
 
 
