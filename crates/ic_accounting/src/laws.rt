@@ -52,11 +52,11 @@ pub fn delivery_keeps_counts()
         ≡ Some (dropped after) }
 {}
 
-/// Whatever code does, a message that traps leaves its canister as it was, but for the price, what a
-/// cleanup stored, and the contexts that close.
+/// Whatever code does, a message that traps leaves its canister as it was, but for the price, the
+/// store that a cleanup returned, and the contexts that close.
 pub fn trap_keeps()
     ensures kept { (enters : Enters) (env : AnEnv) (c : CountedCanister) (m : AMessage)
-        → is_some (local enters env c m).trapped ≡ true → TrapKeeps c m (local enters env c m) }
+        → is_some (local enters env c m).trapped ≡ true → TrapKeeps enters env c m (local enters env c m) }
 {}
 
 /// Where no message is under way and no call waits for a canister to stop, no context is left, and

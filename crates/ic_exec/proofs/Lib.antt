@@ -4,5 +4,5 @@ pub mod Rooms
 pub mod CallRuns
 pub mod AnswerRuns
 pub mod Handles
-pub mod Trapped
+pub mod Burned
 pub mod Conserves

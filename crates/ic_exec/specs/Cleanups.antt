@@ -1,5 +1,5 @@
 -- The cleanup of a callback (IC Interface Specification, "Callback invocation").
-use Rattle.std.specs.Prelude.{ℕ, true, Option, Some, None}
+use Rattle.std.specs.Prelude.{ℕ, Option, Some, None}
 use Rattle.wm_store.specs.Lists.{Lists}
 use Rattle.wm_semantics.specs.declared.target.Target.TheVariants.{Element}
 use Rattle.ic_behaviour.specs.declared.context.Context.{Context}
@@ -9,10 +9,11 @@ use Rattle.ic_behaviour.specs.State.{Code}
 use Rattle.ic_behaviour.specs.Counted.{CountedCanister}
 use Rattle.ic_behaviour.specs.Outcomes.{Outcome, Enters}
 use Rattle.ic_behaviour.specs.Executing.{view}
-use Rattle.ic_entry.specs.Entered.{told, store_after}
+use Rattle.ic_accounting.specs.TrapKeeps.{store_left}
+use Rattle.ic_entry.specs.Entered.{told}
 
 abbrev pub cleaned_by : Lists → Outcome → Lists × ℕ
-cleaned_by s o = (store_after true s o, (told o).used)
+cleaned_by s o = (store_left o s, (told o).used)
 
 -- the store that it leaves, and what it used
 abbrev pub after_cleanup : Enters → Env → CountedCanister → Context → Code → Option (ℕ × ℕ) → Lists × ℕ

@@ -1,3 +1,2 @@
 pub mod Executed
-pub mod TrapLeaves
 pub mod Cleanups

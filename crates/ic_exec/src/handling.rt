@@ -1,4 +1,4 @@
-ghost use Rattle.std.specs.Prelude.{◌≡◌, ◌+◌, ◌-◌, ◌*◌, ◌<◌, ◌≤◌, ◌^◌, ◌++◌, not, ◌&&◌, is_some, min, find, Some, None, IfOk, IfSome};
+ghost use Rattle.std.specs.Prelude.{◌≡◌, ◌+◌, ◌-◌, ◌*◌, ◌<◌, ◌≤◌, ◌^◌, ◌++◌, not, ◌&&◌, true, is_some, min, find, Some, None, IfOk};
 ghost use Rattle.std.specs.Option.{IsSomeAnd};
 ghost use Rattle.ic_behaviour.specs.State.{Code as SomeCode, id_of};
 ghost use Rattle.ic_behaviour.specs.Entry.{enters_by};
@@ -9,9 +9,9 @@ ghost use Rattle.ic_state.specs.declared.canister.Canister.{Canister as StoredCa
 ghost use Rattle.ic_state.specs.Seen.{seen};
 ghost use Rattle.ic_state.specs.IsCanister.{IsCanister, cycles_of};
 ghost use Rattle.ic_calls.specs.Received.{IsExpected, CanEnter};
+ghost use Rattle.ic_accounting.specs.TrapKeeps.{TrapKeeps};
 ghost use Rattle.ic_api.specs.System.{system_api};
 ghost use Rattle.ic_exec.specs.Executed.{handled_of, done_of, work_of, message_cycles, executed_cycles};
-ghost use Rattle.ic_exec.specs.TrapLeaves.{TrapLeaves};
 
 use crate::answers::run_callback;
 use crate::calls::{TakenCall, run_call};
@@ -292,7 +292,7 @@ pub fn execute(
     ensures keeps { IfOk result (λ e. IsCanister e.canister) }
     // Cycles are neither made nor lost.
     ensures conserved { IfOk result (λ e. executed_cycles e ≡ cycles_of canister + message_cycles message) }
-    ensures trapped { IfOk result (λ e. IfSome e.trapped (λ cause. TrapLeaves (seen canister) message cause (handled_of e))) }
+    ensures trapped { IfOk result (λ e. is_some e.trapped ≡ true → TrapKeeps (enters_by system_api) env (seen canister) message (handled_of e)) }
     // The price of what was used, or all that the effects left, where that is less.
     ensures burned { IfOk result (λ e. e.burned ≡ min (e.canister.balance + e.burned) (env.price * e.used)) }
 {

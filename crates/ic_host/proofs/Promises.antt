@@ -85,7 +85,7 @@ traps_leave rules s place m c is_m there trapped =
     let done : step rules s place ≡ placed (without s place) key h =
     deliver_is rules.enters rules.outside rules.limit rules.price s place m is_m
     ∙ ap (handled_by rules.enters rules.outside rules.limit rules.price s (without s place) m) there in
-    let leaves : TrapLeaves s (placed (without s place) key h) place m c h = record {
+    let leaves : TrapLeaves rules s (placed (without s place) key h) place m c h = record {
       keeps = keeps;
       canister = at_set key key s.canisters c (dropped h.canister) there ∙ cond-true (at key key) _ _ (at-self key);
       others = λ other apart. at_set key other s.canisters c (dropped h.canister) there ∙ cond-false (at key other) _ _ apart;
@@ -97,7 +97,7 @@ traps_leave rules s place m c is_m there trapped =
       burned = refl;
       rest = (refl, refl, refl);
     } in
-    let P = λ (t : State). TrapLeaves s t place m c h in
+    let P = λ (t : State). TrapLeaves rules s t place m c h in
     subst P (sym done) leaves
 
 pub each_trap : (rules : Rules) (acts : List Act) → EachDelivery (TrapsLeave rules) rules acts

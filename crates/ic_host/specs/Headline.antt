@@ -52,10 +52,10 @@ abbrev pub work_on : Rules → State → Message → Canister → Handled
 work_on rules s m c = local rules.enters (env_at s.time rules.limit rules.price) (counted s (callee_of m) c) m
 
 -- from s to t by a message m to the canister c, which trapped after it did h
-pub record TrapLeaves (s t : State) (place : ℕ) (m : Message) (c : Canister) (h : Handled) : Type 0 where
-  -- the canister keeps its memories, globals, table, certified data and code, and its cycles but for the refund of an
-  -- answer and the price; contexts that stay open keep theirs
-  pub keeps : TrapKeeps (counted s (callee_of m) c) m h
+pub record TrapLeaves (rules : Rules) (s t : State) (place : ℕ) (m : Message) (c : Canister) (h : Handled) : Type 0 where
+  -- the canister keeps its memories, globals and table, but for what a cleanup that returned did to them, its certified data
+  -- and code, and its cycles but for the refund of an answer and the price; contexts that stay open keep theirs
+  pub keeps : TrapKeeps rules.enters (env_at s.time rules.limit rules.price) (counted s (callee_of m) c) m h
   pub canister : lookup (at (callee_of m)) t.canisters ≡ Some (dropped h.canister)
   -- every other canister stays as it was
   pub others : (key : List ℕ) → at (callee_of m) key ≡ false → lookup (at key) t.canisters ≡ lookup (at key) s.canisters
@@ -68,7 +68,7 @@ pub record TrapLeaves (s t : State) (place : ℕ) (m : Message) (c : Canister) (
 abbrev pub TrapsLeave : Rules → State → (place : ℕ) → Type 0
 TrapsLeave rules s place =
     (m : Message) (c : Canister) → slice_get s.messages place ≡ Some m → lookup (at (callee_of m)) s.canisters ≡ Some c
-    → is_some (work_on rules s m c).trapped ≡ true → TrapLeaves s (step rules s place) place m c (work_on rules s m c)
+    → is_some (work_on rules s m c).trapped ≡ true → TrapLeaves rules s (step rules s place) place m c (work_on rules s m c)
 
 -- ---- refused calls to the management canister
 

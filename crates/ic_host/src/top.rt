@@ -50,7 +50,7 @@ pub fn replica<R: Threads + Sync, S: Source, K: Sink, G: Gate + Sync>(
     // What happens is a run: each message is delivered after those of its sender to its callee.
     ensures run { (script : List ℕ) → IsRun (rules (map string_bytes words.now)) (trace (map string_bytes words.now) script) }
 
-    // A message that traps leaves its canister as it was, and makes no call.
+    // A message that traps leaves its canister as it was, but for a cleanup that returned, and makes no call.
     ensures trapped { (script : List ℕ)
         → EachDelivery (TrapsLeave (rules (map string_bytes words.now))) (rules (map string_bytes words.now)) (trace (map string_bytes words.now) script) }
 

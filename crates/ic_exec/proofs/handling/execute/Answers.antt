@@ -1,15 +1,16 @@
-use Rattle.std.proofs.Common.{ap, sym, ◌∙◌, subst}
-use Rattle.std.specs.Option.{IfSome}
+use Rattle.std.proofs.Common.{◌≡◌, true, ap, sym, ◌∙◌, subst}
+use Rattle.std.specs.Option.{is_some}
 use Rattle.ic_behaviour.specs.Closing.{Handled}
 use Rattle.ic_behaviour.specs.Entry.{enters_by}
 use Rattle.ic_behaviour.proofs.Weights.{each-map}
 use Rattle.ic_state.specs.declared.canister.Canister.{Canister}
 use Rattle.ic_state.specs.Seen.{seen}
 use Rattle.ic_state.specs.IsCanister.{IsContext}
+use Rattle.ic_accounting.specs.TrapKeeps.{TrapKeeps}
+use Rattle.ic_accounting.proofs.Trapped.{trap_keeps}
 use Rattle.ic_api.specs.System.{system_api}
-use Rattle.ic_exec.specs.TrapLeaves.{TrapLeaves}
 use Rattle.ic_exec.proofs.Conserves.{Settled, handled_cycles, conserves}
-use Rattle.ic_exec.proofs.Trapped.{Burns, trap_leaves, burns}
+use Rattle.ic_exec.proofs.Burned.{Burns, burns}
 use Rattle.ic_exec.proofs.handling.execute.Goals as goal
 
 pub returns-in-Ok-clause-conserved : goal.returns-in-Ok-clause-conserved
@@ -21,7 +22,8 @@ returns-in-Ok-clause-conserved c =
 pub returns-in-Ok-clause-trapped : goal.returns-in-Ok-clause-trapped
 returns-in-Ok-clause-trapped c =
     let a : Canister = c.args.canister in
-    subst (λ (h : Handled). IfSome h.trapped (λ cause. TrapLeaves (seen a) c.args.message cause h)) (sym c.in-Ok.ensures.done) (trap_leaves (enters_by system_api) c.args.env (seen a) c.args.message)
+    subst (λ (h : Handled). is_some h.trapped ≡ true → TrapKeeps (enters_by system_api) c.args.env (seen a) c.args.message h) (sym c.in-Ok.ensures.done)
+    (trap_keeps (enters_by system_api) c.args.env (seen a) c.args.message)
 
 pub returns-in-Ok-clause-burned : goal.returns-in-Ok-clause-burned
 returns-in-Ok-clause-burned c =
