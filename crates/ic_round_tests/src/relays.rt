@@ -5,12 +5,12 @@ ghost use Rattle.ic_state.specs.Seen.{seen};
 ghost use Rattle.ic_state.specs.IsCanister.{IsCanister};
 
 use crate::canisters::{asking, relaying};
-use crate::rows::{Row, Seen, asking as asking_rows, relaying as relaying_rows};
+use crate::rows::{Row, Run, Seen, asking as asking_rows, relaying as relaying_rows};
 use ic_base::NoMemory;
 use ic_outside::OpenGate;
 use ic_principal::{Bytes, Principal, Text};
 use ic_round::{round, run_rounds};
-use ic_state::{Canister, Message, Response, World};
+use ic_state::{Canister, Message, Origin, Response, World};
 use std::alloc::Global;
 use std::process::Abort;
 use std::test::*;
@@ -63,27 +63,63 @@ fn stored(world: &World) -> u8 {
     bytes[0]
 }
 
-// What is under way, and the balances.
-fn seen_in(world: &World) -> Seen {
-    let mut seen = Seen {
-        calls: 0,
-        answers: 0,
-        cycles: 0,
-        balances: [balance(world, 0), balance(world, 1)],
-    };
-    for message in &world.parts().messages.items {
-        match message {
-            Message::Call { cycles, .. } => {
-                seen.calls = seen.calls.wrapping_add(1);
-                seen.cycles = seen.cycles.wrapping_add(*cycles);
-            }
-            Message::Answer { refund, .. } => {
-                seen.answers = seen.answers.wrapping_add(1);
-                seen.cycles = seen.cycles.wrapping_add(*refund);
-            }
+// Whether a call of this number is the canister's.
+fn is_call_of(origin: &Origin, canister: &Principal, of_number: u64) -> bool {
+    match origin {
+        Origin::Canister { caller, number, .. } => {
+            caller.cmp(canister).is_eq() && *number == of_number
+        }
+        Origin::Ingress(_) => false,
+    }
+}
+
+// Whether the message is the one of this number.
+fn is_one_of(message: &Message, run: &Run, number: u64) -> bool {
+    let from = Principal::canister_id(run.sender);
+    let to = Principal::canister_id(run.callee);
+    match message {
+        Message::Call {
+            origin,
+            sender,
+            callee,
+            ..
+        } => {
+            let is_between = sender.cmp(&from).is_eq() && callee.cmp(&to).is_eq();
+            !run.is_answer && is_between && is_call_of(origin, &from, number)
+        }
+        Message::Answer { origin, sender, .. } => {
+            run.is_answer && sender.cmp(&from).is_eq() && is_call_of(origin, &to, number)
         }
     }
-    seen
+}
+
+// The messages of a run stand at the beginning; gives those behind it.
+fn behind<'a>(rt: &impl Abort, messages: &'a [Message], run: &Run) -> &'a [Message] {
+    let mut rest = messages;
+    let [first, end] = run.numbers;
+    for number in first..end {
+        match rest.split_first() {
+            Some((message, more)) => {
+                assert!(rt; is_one_of(message, run, number));
+                rest = more;
+            }
+            None => panic!(rt; "no message"),
+        }
+    }
+    rest
+}
+
+// The cycles in what is under way.
+fn cycles(messages: &[Message]) -> u128 {
+    let mut sum = 0u128;
+    for message in messages {
+        let more = match message {
+            Message::Call { cycles, .. } => *cycles,
+            Message::Answer { refund, .. } => *refund,
+        };
+        sum = sum.wrapping_add(more);
+    }
+    sum
 }
 
 // The code of the answer, or 0 for a reply, and its bytes.
@@ -96,8 +132,14 @@ fn answer(world: &World) -> Option<(u32, &[u8])> {
     }
 }
 
+// What is under way, and the balances.
 fn check_seen(rt: &impl Abort, world: &World, wanted: &Seen) {
-    assert_eq!(rt; seen_in(world), *wanted);
+    let messages = world.parts().messages.items.as_slice();
+    let [front, back] = &wanted.listed;
+    let rest = behind(rt, behind(rt, messages, front), back);
+    assert!(rt; rest.is_empty());
+    assert_eq!(rt; cycles(messages), wanted.cycles);
+    assert_eq!(rt; [balance(world, 0), balance(world, 1)], wanted.balances);
 }
 
 // A round; the world is owned here, and looked at elsewhere.
@@ -135,7 +177,8 @@ fn compare(rt: &impl Abort, row: &Row, done: &Option<(World, u32)>) {
     let Some((world, rounds)) = done else {
         panic!(rt; "no rounds");
     };
-    assert_eq!(rt; (*rounds, seen_in(world)), (row.rounds, row.last));
+    check_seen(rt, world, &row.last);
+    assert_eq!(rt; *rounds, row.rounds);
     assert_eq!(rt; world.totals().burned, row.burned);
     assert_eq!(rt; answer(world), Some((row.code, row.answer)));
     assert_eq!(rt; stored(world), row.stored);

@@ -1,9 +1,46 @@
-/// What a round leaves: the calls and answers under way, the cycles in them, and the balances of both
-/// canisters.
-#[derive(Clone, Copy, Debug, PartialEq)]
+/// Messages that stand one behind another in the list: all calls, or all answers, of one canister to another.
+#[derive(Clone, Copy)]
+pub struct Run {
+    pub is_answer: bool,
+    /// The canisters by their numbers.
+    pub sender: u64,
+    pub callee: u64,
+    /// Of their calls: from the first to before the second.
+    pub numbers: [u64; 2],
+}
+
+// No message.
+const NONE: Run = Run {
+    is_answer: false,
+    sender: 0,
+    callee: 1,
+    numbers: [0, 0],
+};
+
+// Calls of the first canister to the second one.
+const fn calls(from: u64, to: u64) -> Run {
+    Run {
+        is_answer: false,
+        sender: 0,
+        callee: 1,
+        numbers: [from, to],
+    }
+}
+
+// The second canister's answers to them.
+const fn answers(from: u64, to: u64) -> Run {
+    Run {
+        is_answer: true,
+        sender: 1,
+        callee: 0,
+        numbers: [from, to],
+    }
+}
+
+/// What a round leaves: all that is under way in its order, the cycles in it, and the balances of both canisters.
+#[derive(Clone, Copy)]
 pub struct Seen {
-    pub calls: u64,
-    pub answers: u64,
+    pub listed: [Run; 2],
     pub cycles: u128,
     pub balances: [u128; 2],
 }
@@ -27,10 +64,9 @@ pub struct Row {
     pub stored: u8,
 }
 
-const fn after(calls: u64, answers: u64, cycles: u128, first: u128, second: u128) -> Seen {
+const fn after(front: Run, back: Run, cycles: u128, first: u128, second: u128) -> Seen {
     Seen {
-        calls,
-        answers,
+        listed: [front, back],
         cycles,
         balances: [first, second],
     }
@@ -47,12 +83,12 @@ pub fn relaying() -> [Row; 3] {
             arg: second,
             price: 0,
             seen: [
-                after(1, 0, 500, 999_999_999_500, 1_000_000_000_000),
-                after(0, 1, 200, 999_999_999_500, 1_000_000_000_300),
-                after(0, 0, 0, 999_999_999_700, 1_000_000_000_300),
+                after(calls(0, 1), NONE, 500, 999_999_999_500, 1_000_000_000_000),
+                after(answers(0, 1), NONE, 200, 999_999_999_500, 1_000_000_000_300),
+                after(NONE, NONE, 0, 999_999_999_700, 1_000_000_000_300),
             ],
             rounds: 0,
-            last: after(0, 0, 0, 999_999_999_700, 1_000_000_000_300),
+            last: after(NONE, NONE, 0, 999_999_999_700, 1_000_000_000_300),
             burned: 0,
             code: 0,
             answer: first,
@@ -63,12 +99,12 @@ pub fn relaying() -> [Row; 3] {
             arg: second,
             price: 1,
             seen: [
-                after(1, 0, 500, 999_999_999_433, 1_000_000_000_000),
-                after(0, 1, 200, 999_999_999_433, 1_000_000_000_271),
-                after(0, 0, 0, 999_999_999_603, 1_000_000_000_271),
+                after(calls(0, 1), NONE, 500, 999_999_999_433, 1_000_000_000_000),
+                after(answers(0, 1), NONE, 200, 999_999_999_433, 1_000_000_000_271),
+                after(NONE, NONE, 0, 999_999_999_603, 1_000_000_000_271),
             ],
             rounds: 0,
-            last: after(0, 0, 0, 999_999_999_603, 1_000_000_000_271),
+            last: after(NONE, NONE, 0, 999_999_999_603, 1_000_000_000_271),
             burned: 126,
             code: 0,
             answer: first,
@@ -79,12 +115,12 @@ pub fn relaying() -> [Row; 3] {
             arg: b"",
             price: 20_000,
             seen: [
-                after(0, 0, 0, 999_999_420_000, 1_000_000_000_000),
-                after(0, 0, 0, 999_999_420_000, 1_000_000_000_000),
-                after(0, 0, 0, 999_999_420_000, 1_000_000_000_000),
+                after(NONE, NONE, 0, 999_999_420_000, 1_000_000_000_000),
+                after(NONE, NONE, 0, 999_999_420_000, 1_000_000_000_000),
+                after(NONE, NONE, 0, 999_999_420_000, 1_000_000_000_000),
             ],
             rounds: 0,
-            last: after(0, 0, 0, 999_999_420_000, 1_000_000_000_000),
+            last: after(NONE, NONE, 0, 999_999_420_000, 1_000_000_000_000),
             burned: 580_000,
             code: 0,
             answer: first,
@@ -104,12 +140,12 @@ pub fn asking() -> [Row; 6] {
             arg: b"",
             price: 0,
             seen: [
-                after(1, 0, 500, 999_999_999_500, 1_000_000_000_000),
-                after(0, 1, 200, 999_999_999_500, 1_000_000_000_300),
-                after(0, 0, 0, 999_999_999_700, 1_000_000_000_300),
+                after(calls(0, 1), NONE, 500, 999_999_999_500, 1_000_000_000_000),
+                after(answers(0, 1), NONE, 200, 999_999_999_500, 1_000_000_000_300),
+                after(NONE, NONE, 0, 999_999_999_700, 1_000_000_000_300),
             ],
             rounds: 0,
-            last: after(0, 0, 0, 999_999_999_700, 1_000_000_000_300),
+            last: after(NONE, NONE, 0, 999_999_999_700, 1_000_000_000_300),
             burned: 0,
             code: 5,
             answer: trapped,
@@ -120,12 +156,12 @@ pub fn asking() -> [Row; 6] {
             arg: b"",
             price: 1,
             seen: [
-                after(1, 0, 500, 999_999_999_465, 1_000_000_000_000),
-                after(0, 1, 200, 999_999_999_465, 1_000_000_000_271),
-                after(0, 0, 0, 999_999_999_661, 1_000_000_000_271),
+                after(calls(0, 1), NONE, 500, 999_999_999_465, 1_000_000_000_000),
+                after(answers(0, 1), NONE, 200, 999_999_999_465, 1_000_000_000_271),
+                after(NONE, NONE, 0, 999_999_999_661, 1_000_000_000_271),
             ],
             rounds: 0,
-            last: after(0, 0, 0, 999_999_999_661, 1_000_000_000_271),
+            last: after(NONE, NONE, 0, 999_999_999_661, 1_000_000_000_271),
             burned: 68,
             code: 5,
             answer: trapped,
@@ -136,12 +172,12 @@ pub fn asking() -> [Row; 6] {
             arg: b"",
             price: 0,
             seen: [
-                after(1, 0, 500, 999_999_999_500, 1_000_000_000_000),
-                after(0, 1, 200, 999_999_999_500, 1_000_000_000_300),
-                after(0, 0, 0, 999_999_999_700, 1_000_000_000_300),
+                after(calls(0, 1), NONE, 500, 999_999_999_500, 1_000_000_000_000),
+                after(answers(0, 1), NONE, 200, 999_999_999_500, 1_000_000_000_300),
+                after(NONE, NONE, 0, 999_999_999_700, 1_000_000_000_300),
             ],
             rounds: 0,
-            last: after(0, 0, 0, 999_999_999_700, 1_000_000_000_300),
+            last: after(NONE, NONE, 0, 999_999_999_700, 1_000_000_000_300),
             burned: 0,
             code: 0,
             answer: b"relay",
@@ -152,12 +188,12 @@ pub fn asking() -> [Row; 6] {
             arg: b"",
             price: 1,
             seen: [
-                after(1, 0, 500, 999_999_999_458, 1_000_000_000_000),
-                after(0, 1, 200, 999_999_999_458, 1_000_000_000_271),
-                after(0, 0, 0, 999_999_999_656, 1_000_000_000_271),
+                after(calls(0, 1), NONE, 500, 999_999_999_458, 1_000_000_000_000),
+                after(answers(0, 1), NONE, 200, 999_999_999_458, 1_000_000_000_271),
+                after(NONE, NONE, 0, 999_999_999_656, 1_000_000_000_271),
             ],
             rounds: 0,
-            last: after(0, 0, 0, 999_999_999_656, 1_000_000_000_271),
+            last: after(NONE, NONE, 0, 999_999_999_656, 1_000_000_000_271),
             burned: 73,
             code: 0,
             answer: b"relay",
@@ -168,12 +204,30 @@ pub fn asking() -> [Row; 6] {
             arg: b"",
             price: 0,
             seen: [
-                after(500, 0, 250_000, 999_999_750_000, 1_000_000_000_000),
-                after(499, 1, 249_700, 999_999_750_000, 1_000_000_000_300),
-                after(498, 1, 249_200, 999_999_750_200, 1_000_000_000_600),
+                after(
+                    calls(0, 500),
+                    NONE,
+                    250_000,
+                    999_999_750_000,
+                    1_000_000_000_000,
+                ),
+                after(
+                    calls(1, 500),
+                    answers(0, 1),
+                    249_700,
+                    999_999_750_000,
+                    1_000_000_000_300,
+                ),
+                after(
+                    calls(2, 500),
+                    answers(1, 2),
+                    249_200,
+                    999_999_750_200,
+                    1_000_000_000_600,
+                ),
             ],
             rounds: 499,
-            last: after(0, 0, 0, 999_999_850_000, 1_000_000_150_000),
+            last: after(NONE, NONE, 0, 999_999_850_000, 1_000_000_150_000),
             burned: 0,
             code: 0,
             answer: b"\x02\x00\x00\x00",
@@ -184,12 +238,30 @@ pub fn asking() -> [Row; 6] {
             arg: b"",
             price: 1,
             seen: [
-                after(500, 0, 250_000, 999_999_730_448, 1_000_000_000_000),
-                after(499, 1, 249_700, 999_999_730_448, 1_000_000_000_271),
-                after(498, 1, 249_200, 999_999_730_648, 1_000_000_000_542),
+                after(
+                    calls(0, 500),
+                    NONE,
+                    250_000,
+                    999_999_730_448,
+                    1_000_000_000_000,
+                ),
+                after(
+                    calls(1, 500),
+                    answers(0, 1),
+                    249_700,
+                    999_999_730_448,
+                    1_000_000_000_271,
+                ),
+                after(
+                    calls(2, 500),
+                    answers(1, 2),
+                    249_200,
+                    999_999_730_648,
+                    1_000_000_000_542,
+                ),
             ],
             rounds: 499,
-            last: after(0, 0, 0, 999_999_830_448, 1_000_000_135_500),
+            last: after(NONE, NONE, 0, 999_999_830_448, 1_000_000_135_500),
             burned: 34_052,
             code: 0,
             answer: b"\x02\x00\x00\x00",
