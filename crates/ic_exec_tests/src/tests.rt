@@ -6,6 +6,7 @@ use crate::rows::{
     Row, empty as empty_row, failing as failing_rows, probing as probing_rows,
     relaying as relaying_rows, stopped as stopped_row,
 };
+use ic_calls::{admit, take_call};
 use ic_exec::{Env, Executed, execute, inspect, query};
 use ic_principal::{Bytes, Principal, Text};
 use ic_state::{Canister, Message, Origin, Response};
@@ -236,5 +237,39 @@ fn inspections(rt: HostRuntime) {
             ),
             None => panic!(rt; "no canister"),
         }
+    }
+}
+
+// How many contexts there are once a call is taken.
+fn contexts_with_call(alloc: Global, canister: &mut Canister) -> Option<usize>
+    requires keeps { IsCanister canister.old }
+    requires fresh { canister.old.contexts ≡ [] }
+{
+    let method = Text {
+        items: String::from_str(alloc, "relay").ok()?,
+    };
+    if admit(canister, method.items.as_str()).is_err() {
+        return None;
+    }
+    let call = Message::Call {
+        origin: Origin::Ingress(0),
+        sender: Principal::canister_id(7),
+        callee: canister.id,
+        method,
+        arg: no_bytes(alloc),
+        cycles: 0,
+    };
+    take_call(canister, &call).ok()?;
+    Some(canister.contexts.items.len())
+}
+
+#[test]
+fn a_call_makes_a_context(rt: HostRuntime) {
+    match relaying(rt.alloc()) {
+        Some(mut canister) => assert_eq!(rt;
+            contexts_with_call(rt.alloc(), &mut canister),
+            Some(1)
+        ),
+        None => panic!(rt; "no canister"),
     }
 }
