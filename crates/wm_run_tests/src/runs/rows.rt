@@ -182,7 +182,7 @@ pub type Range = (&'static [u8], u64, &'static str, u64, [u8; 8]);
 const SEGMENT: [u8; 8] = [0x80, 0xff, 0x7f, 1, 0xfe, 0, 0, 0x80];
 
 // The places and the size of a copy, or the place, the value and the size of a fill, come before it.
-static RANGES: [Range; 20] = [
+static RANGES: [Range; 22] = [
     // i32.const 0, i32.const 128, i32.extend8_s, i32.store
     (
         b"\x41\x00\x41\x80\x01\xc0\x36\x02\x00",
@@ -236,6 +236,13 @@ static RANGES: [Range; 20] = [
         "instruction limit",
         3,
         SEGMENT,
+    ),
+    (
+        b"\x41\x01\x41\x00\x41\x03\xfc\x0b\x00",
+        7,
+        "returned",
+        7,
+        [0x80, 0, 0, 0, 0xfe, 0, 0, 0x80],
     ),
     (
         b"\x41\x01\x41\x00\x41\x03\xfc\x0b\x00",
@@ -326,6 +333,14 @@ static RANGES: [Range; 20] = [
     ),
     (
         b"\x41\x00\x41\xfd\xff\x03\x41\x04\xfc\x0a\x00\x00",
+        100,
+        "memory out of bounds",
+        8,
+        SEGMENT,
+    ),
+    // to one byte past the end
+    (
+        b"\x41\xfd\xff\x03\x41\x00\x41\x04\xfc\x0a\x00\x00",
         100,
         "memory out of bounds",
         8,
