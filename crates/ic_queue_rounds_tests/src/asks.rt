@@ -59,6 +59,11 @@ pub fn some_canister(dice: &mut Dice) -> Principal {
     Principal::canister_id(dice.roll(9))
 }
 
+/// A call of a canister that makes eighty calls.
+pub fn fanning(alloc: Global, id: Principal) -> Option<Ask> {
+    joined(alloc, id.bytes(), "fans", &[0; 80], &[])
+}
+
 /// A call to a canister.
 pub fn to_canister(alloc: Global, dice: &mut Dice) -> Option<Ask> {
     let id = some_canister(dice);
@@ -68,7 +73,7 @@ pub fn to_canister(alloc: Global, dice: &mut Dice) -> Option<Ask> {
         3..=5 => joined(alloc, id.bytes(), "relay", other.bytes(), id.bytes()),
         6 => joined(alloc, id.bytes(), "relay", &[7], &[]),
         7..=8 => joined(alloc, id.bytes(), "fans", &[0; 9], &[]),
-        _ => joined(alloc, id.bytes(), "fans", &[0; 80], &[]),
+        _ => fanning(alloc, id),
     }
 }
 

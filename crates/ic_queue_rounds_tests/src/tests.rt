@@ -1,7 +1,8 @@
-use crate::asks::{managing, some_canister, to_canister, to_management};
+use crate::asks::{fanning, managing, some_canister, to_canister, to_management};
 use crate::dice::Dice;
 use crate::digest::digest_with;
 use crate::worlds::{Body, asked, begun, rounds};
+use ic_principal::Principal;
 use ic_state::World;
 use std::alloc::Global;
 use std::test::*;
@@ -13,6 +14,8 @@ struct Left {
     /// Of what was there whenever rounds had been made.
     digest: Option<u64>,
     messages: usize,
+    /// Those that were under way where the last rounds began.
+    before: usize,
     made: u64,
     there: u64,
 }
@@ -41,14 +44,28 @@ fn all_called(alloc: Global, world: World, dice: &mut Dice) -> Option<World> {
     Some(world)
 }
 
-fn outcome(digest: Option<u64>, world: &World) -> Left {
+fn waiting(world: &World) -> usize {
+    world.parts().messages.items.len()
+}
+
+fn outcome(digest: Option<u64>, before: usize, world: &World) -> Left {
     let parts = world.parts();
     Left {
         digest,
-        messages: parts.messages.items.len(),
+        messages: waiting(world),
+        before,
         made: parts.next_canister,
         there: parts.canisters.len() as u64,
     }
+}
+
+// Each canister that is there and has code makes many calls in a round.
+fn fanned<R: Threads + Sync>(alloc: Global, rt: &R, body: Body, world: World) -> Option<World> {
+    let mut world = world;
+    for number in 0..9 {
+        world = asked(world, fanning(alloc, Principal::canister_id(number)))?;
+    }
+    rounds(alloc, rt, body, world, 1)
 }
 
 // Calls and some rounds in turn, and then all rounds.
@@ -66,8 +83,11 @@ fn script<R: Threads + Sync>(alloc: Global, rt: &R, body: Body, seed: u64) -> Op
         world = rounds(alloc, rt, body, world, count)?;
         digest = digest_with(alloc, digest, &world);
     }
+    let world = fanned(alloc, rt, body, world)?;
+    let digest = digest_with(alloc, digest, &world);
+    let before = waiting(&world);
     match rounds(alloc, rt, body, world, 1000) {
-        Some(world) => Some(outcome(digest_with(alloc, digest, &world), &world)),
+        Some(world) => Some(outcome(digest_with(alloc, digest, &world), before, &world)),
         None => None,
     }
 }
@@ -80,6 +100,8 @@ fn same_after_rounds(rt: HostRuntime) {
             panic!(rt; "not run");
         };
         assert!(rt; left.digest.is_some() && left.messages == 0 && left.there < left.made);
+        // As long as there are no more, `run_rounds` goes through the list.
+        assert!(rt; left.before > 64);
         assert_eq!(rt; listed, script(rt.alloc(), &rt, Body::Queues, seed));
     }
 }
