@@ -3,7 +3,7 @@ pub mod Turns
 pub mod Ranges
 pub mod Stacks
 pub mod Agree
-pub mod Going
+pub mod Leading
 pub mod Activations
 pub mod Asking
 pub mod Halts

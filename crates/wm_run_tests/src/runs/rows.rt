@@ -5,7 +5,7 @@ use super::outcome::Beginning;
 /// A body, the limit, how it ends, and what it uses.
 pub type Row = (&'static [u8], u64, &'static str, u64);
 
-static CHARGES: [Row; 22] = [
+static CHARGES: [Row; 27] = [
     // i32.const 1, drop
     (b"\x41\x01\x1a", 2, "returned", 2),
     (b"\x41\x01\x1a", 1, "instruction limit", 1),
@@ -16,6 +16,12 @@ static CHARGES: [Row; 22] = [
     (b"\x0f\x01", 100, "returned", 1),
     // local.get, local.tee, drop
     (b"\x20\x00\x22\x00\x1a", 100, "returned", 3),
+    // local.get, i32.const 1, i32.add, drop
+    (b"\x20\x00\x41\x01\x6a\x1a", 4, "returned", 4),
+    (b"\x20\x00\x41\x01\x6a\x1a", 3, "instruction limit", 3),
+    (b"\x20\x00\x41\x01\x6a\x1a", 2, "instruction limit", 2),
+    (b"\x20\x00\x41\x01\x6a\x1a", 1, "instruction limit", 1),
+    (b"\x20\x00\x41\x01\x6a\x1a", 0, "instruction limit", 0),
     // block with br_if 0 and nop, taken and not
     (b"\x02\x40\x41\x01\x0d\x00\x01\x0b", 100, "returned", 3),
     (b"\x02\x40\x41\x00\x0d\x00\x01\x0b", 100, "returned", 4),
@@ -182,7 +188,7 @@ pub type Range = (&'static [u8], u64, &'static str, u64, [u8; 8]);
 const SEGMENT: [u8; 8] = [0x80, 0xff, 0x7f, 1, 0xfe, 0, 0, 0x80];
 
 // The places and the size of a copy, or the place, the value and the size of a fill, come before it.
-static RANGES: [Range; 22] = [
+static RANGES: [Range; 23] = [
     // i32.const 0, i32.const 128, i32.extend8_s, i32.store
     (
         b"\x41\x00\x41\x80\x01\xc0\x36\x02\x00",
@@ -263,6 +269,13 @@ static RANGES: [Range; 22] = [
         4_294_967_298,
         "instruction limit",
         3,
+        SEGMENT,
+    ),
+    (
+        b"\x41\x00\x41\x00\x41\x7f\xfc\x0b\x00",
+        4_294_967_299,
+        "memory out of bounds",
+        4_294_967_299,
         SEGMENT,
     ),
     (
