@@ -1,16 +1,2 @@
-mod SendLaws
-mod Printed
-mod WalkLaws
-mod BodyLaws
-mod Follows
-mod Exits
-mod Runs
-mod Unprinted
-mod PieceBounds
-mod Streams
-mod Keeps
 mod Traces
 mod Promises
-mod Asking
-mod Gathering
-mod PickLaws

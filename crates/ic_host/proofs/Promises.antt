@@ -30,9 +30,9 @@ use Rattle.ic_accounting.specs.RulesKeep.{RulesKeep}
 use Rattle.ic_management.specs.Moves.{message_of}
 use Rattle.ic_management.specs.Manage.{ended, manage}
 use Rattle.ic_options.specs.declared.Options.{Options}
-use Rattle.ic_host.specs.Options.{rules_of}
+use Rattle.ic_lines.specs.Options.{rules_of}
 use Rattle.ic_host.specs.Headline.{PlacedOnce, Conserves, DoneWhenDrained, AnsweredOnce, IsAnswer, work_on, TrapLeaves, TrapsLeave, RefusalsLeave}
-use Rattle.ic_host.proofs.Keeps.{act_sound}
+use Rattle.ic_lines.proofs.Keeps.{act_sound}
 use Rattle.ic_host.proofs.Traces.{empty_sound}
 
 -- ---- each state

@@ -22,14 +22,14 @@ use Rattle.ic_runs.proofs.RunLaws.{delivers_allowed, allowed-append}
 use Rattle.ic_schedule.specs.Picks.{is_eligible}
 use Rattle.ic_schedule.proofs.Eligibles.{is-eligible}
 use Rattle.ic_options.specs.declared.Options.{Options}
-use Rattle.ic_host.specs.Options.{rules_of, default_options}
+use Rattle.ic_lines.specs.Options.{rules_of, default_options}
 use Rattle.ic_options.specs.Options.{options_of}
-use Rattle.ic_host.specs.AfterCommand.{accepts_now, acts_of, acts_of_rounds, text_of, fault_of, unless, after_command}
-use Rattle.ic_host.specs.AfterLine.{after_line, after_spelled}
-use Rattle.ic_host.specs.Script.{script_for}
-use Rattle.ic_host.specs.Walk.{Place, start, behind_line, judge, judge_line}
+use Rattle.ic_lines.specs.AfterCommand.{accepts_now, acts_of, acts_of_rounds, text_of, fault_of, unless, after_command}
+use Rattle.ic_lines.specs.AfterLine.{after_line, after_spelled}
+use Rattle.ic_lines.specs.Script.{script_for}
+use Rattle.ic_lines.specs.Walk.{Place, start, behind_line, judge, judge_line}
 use Rattle.ic_host.specs.Trace.{acts_of_spelled, acts_of_line, acting, acts_from, trace_of, trace, rules}
-use Rattle.ic_host.proofs.Keeps.{rules_keep, after_sound, rounds_eligible}
+use Rattle.ic_lines.proofs.Keeps.{rules_keep, after_sound, rounds_eligible}
 
 -- the acts of rounds, where they begin in a sound state
 rounds_allowed : (options : Options) (count : ℕ) (s : State) → Sound s → AreAllowed IsEligible (rules_of options) s (acts_of_rounds options count s)

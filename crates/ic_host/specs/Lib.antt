@@ -1,14 +1,2 @@
-pub mod Status
-pub mod Options
-pub mod AfterCommand
-pub mod AfterLine
-pub mod Walk
-pub mod Script
-pub mod Body
-pub mod EndPart
-pub mod Out
 pub mod Trace
 pub mod Headline
-pub mod Sending
-pub mod Explained
-pub mod Acts

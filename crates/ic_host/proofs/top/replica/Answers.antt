@@ -1,8 +1,8 @@
 use Rattle.std.proofs.Common.{map, string_bytes}
-use Rattle.ic_host.specs.Options.{default_options}
+use Rattle.ic_lines.specs.Options.{default_options}
 use Rattle.ic_options.specs.Options.{options_of}
 use Rattle.std.specs.Prelude.{unwrap_or}
-use Rattle.ic_host.proofs.Keeps.{rules_keep}
+use Rattle.ic_lines.proofs.Keeps.{rules_keep}
 use Rattle.ic_host.proofs.Traces.{trace_is_run}
 use Rattle.ic_host.proofs.Promises.{each_trap, each_refusal, each_placed_once, each_answered, each_done, each_conserves}
 use Rattle.ic_host.proofs.top.replica.Goals as goal

@@ -1,6 +1,6 @@
 use Rattle.std.proofs.Common.{sym}
-use Rattle.ic_host.specs.Sending.{sink_at}
-use Rattle.ic_host.proofs.Exits.{explain-at_once, explain-generated, explain-refused}
+use Rattle.ic_lines.specs.Sending.{sink_at}
+use Rattle.ic_lines.proofs.Exits.{explain-at_once, explain-generated, explain-refused}
 use Rattle.ic_host.proofs.top.run.Goals as goal
 
 pub returns-in-Some-clause-explained : goal.returns-in-Some-clause-explained

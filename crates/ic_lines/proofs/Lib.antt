@@ -1,0 +1,14 @@
+mod SendLaws
+mod Printed
+mod WalkLaws
+mod BodyLaws
+mod Follows
+pub mod Exits
+mod Runs
+mod Unprinted
+mod PieceBounds
+mod Streams
+pub mod Keeps
+mod Asking
+mod Gathering
+mod PickLaws

@@ -1,0 +1,12 @@
+pub mod Status
+pub mod Options
+pub mod AfterCommand
+pub mod AfterLine
+pub mod Walk
+pub mod Script
+pub mod Body
+pub mod EndPart
+pub mod Out
+pub mod Sending
+pub mod Explained
+pub mod Acts
