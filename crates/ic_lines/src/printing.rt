@@ -17,7 +17,7 @@ pub fn print_bytes<K: Sink>(sink: &mut K, text: &[u8]) -> Result<(), Status>
     }
 }
 
-/// Prints all that is printed, and answers the status.
+/// Prints all that a run prints, and answers the status. It takes no memory.
 pub fn print_last<K: Sink>(sink: &mut K, text: &[u8], status: Status) -> Status
     ensures { Concludes (sink_at K.taken K.fits K.faults sink.old) (sink_at K.taken K.fits K.faults sink.new)
         (record { bytes = text.now; status = status }) result }
