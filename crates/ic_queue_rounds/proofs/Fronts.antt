@@ -1,6 +1,6 @@
 -- A first phase from the queues is the first phase over the list.
-use Rattle.std.proofs.Common.{◌≡◌, ◌≤◌, length, arith, ℕ, List, [], ◌∷◌, ◌++◌, map, slice_get, Option, Some, None, refl, sym, ap, ap₂, ◌∙◌, subst, inl, inr, append_assoc, append-nil}
-use Rattle.std.specs.List.{fold, flat_map, AllByRecursion}
+use Rattle.std.proofs.Common.{◌≡◌, ◌≤◌, length, ℕ, List, [], ◌∷◌, ◌++◌, map, slice_get, Option, Some, None, refl, sym, ap, ap₂, ◌∙◌, subst, inl, inr, append_assoc, append-nil}
+use Rattle.std.specs.List.{fold, flat_map}
 use Rattle.std.specs.Map.{lookup, keys_of}
 use Rattle.std.proofs.lemmas.Bool.{cases_Bool}
 use Rattle.std.proofs.lemmas.Map.{keys-set_value}
@@ -12,19 +12,16 @@ use Rattle.ic_behaviour.specs.State.{at, callee_of, Canister, State}
 use Rattle.ic_behaviour.specs.Counted.{dropped}
 use Rattle.ic_behaviour.specs.Deliver.{Outside, as_absent, env_at, is_management, handled_outside, handled_by, routed, without, delivered, deliver}
 use Rattle.ic_behaviour.proofs.Ties.{tallied}
-use Rattle.ic_state.specs.declared.canister.Canister.{Canister as StoredCanister}
 use Rattle.ic_state.specs.declared.world.Parts.{Parts}
 use Rattle.ic_state.specs.Seen.{seen, state_of}
-use Rattle.ic_state.specs.IsCanister.{IsCanister}
 use Rattle.ic_state.specs.IsWorld.{IsWorld}
 use Rattle.ic_accounting.specs.System.{system_rules}
 use Rattle.ic_runs.specs.Steps.{step, along}
 use Rattle.ic_runs.specs.Round.{first_phase}
-use Rattle.ic_rounds.specs.declared.slot.Slot.{Slot as StoredSlot}
-use Rattle.ic_rounds.specs.Dealing.{Dealing, deal, none_dealt}
-use Rattle.ic_rounds.specs.Settling.{Stored, Slot, seen_entry, stored_of, slot_of, ran, put, settle, AreReady, AreCanisters, entering}
+use Rattle.ic_rounds.specs.Dealing.{slots_of, AreFirsts}
+use Rattle.ic_rounds.specs.Settling.{Stored, Slot, stored_of, slot_of, ran, put_in, settle_in, AreReady, AreCanisters, entering}
 use Rattle.ic_rounds.proofs.PutBacks.{Rises}
-use Rattle.ic_rounds.proofs.FirstPhases.{T, Passed, passed, code_ends, all_ready, idle_keep, few}
+use Rattle.ic_rounds.proofs.FirstPhases.{T, Passed, passed_few, passed_firsts, passed_ready, code_ends}
 use Rattle.ic_queues.specs.Queued.{Queued}
 use Rattle.ic_queue_rounds.specs.InQueues.{with_messages, IsInQueues}
 use Rattle.ic_queue_rounds.specs.Drawing.{Drawing, none_drawn, draw}
@@ -33,14 +30,14 @@ use Rattle.ic_queue_rounds.proofs.Draws.{same_firsts, same_left, same_canisters}
 -- ---- messages that stand before all others stay there
 
 settle_behind : (env : Env) (front : List Message) (w : Stored) (slots : List Slot)
-    → fold (settle env) (record w { messages = front ++ w.messages }) slots ≡ record (fold (settle env) w slots) { messages = front ++ (fold (settle env) w slots).messages }
+    → fold (settle_in env) (record w { messages = front ++ w.messages }) slots ≡ record (fold (settle_in env) w slots) { messages = front ++ (fold (settle_in env) w slots).messages }
 settle_behind env front w [] = refl
 settle_behind env front w (slot ∷ slots) =
     let h = ran env slot in
     let answers = flat_map (routed slot.key) h.answers in
     let sent : (front ++ w.messages) ++ h.calls ++ answers ≡ front ++ (w.messages ++ h.calls ++ answers) =
     ap (λ l. l ++ answers) (append_assoc front w.messages h.calls) ∙ append_assoc front (w.messages ++ h.calls) answers in
-    ap (λ l. fold (settle env) (record (put w slot.key h) { messages = l }) slots) sent ∙ settle_behind env front (put w slot.key h) slots
+    ap (λ l. fold (settle_in env) (record (put_in w slot.key h) { messages = l }) slots) sent ∙ settle_behind env front (put_in w slot.key h) slots
 
 -- ---- no canister comes or goes in a first phase
 
@@ -76,55 +73,56 @@ module _ (rest : Parts) (w : Queued) (is : IsInQueues rest w) where
   abbrev whole : Parts
   whole = with_messages rest w.messages
 
-  pub record Began (idle : List (List ℕ × StoredCanister)) (slots : List StoredSlot) (left : Queued) : Type 0 where
-    pub values : Passed whole is.keeps (T whole is.keeps).left idle slots
+  pub record Began (firsts : List (List ℕ × Message)) (left : Queued) : Type 0 where
+    pub passed : Passed whole is.keeps (T whole is.keeps).left firsts
     pub messages : left.messages ≡ (T whole is.keeps).left
     pub canisters : left.canisters ≡ keys_of rest.canisters.entries
 
-  pub begins : (keys : List (List ℕ)) (drawn : Drawing) (firsts : List (List ℕ × Message)) (left : Queued) (dealing : Dealing) (idle : List (List ℕ × StoredCanister)) (slots : List StoredSlot)
-      → keys ≡ keys_of rest.canisters.entries → drawn ≡ fold draw (none_drawn w) keys → firsts ≡ drawn.firsts → left ≡ drawn.queues
-      → dealing ≡ fold deal (none_dealt rest.canisters.entries) firsts → idle ≡ dealing.canisters → slots ≡ dealing.slots → Began idle slots left
-  begins keys drawn firsts left dealing idle slots is_keys is_drawn is_firsts is_left is_dealing is_idle is_slots =
+  pub begins : (keys : List (List ℕ)) (drawn : Drawing) (firsts : List (List ℕ × Message)) (left : Queued)
+      → keys ≡ keys_of rest.canisters.entries → drawn ≡ fold draw (none_drawn w) keys → firsts ≡ drawn.firsts → left ≡ drawn.queues → Began firsts left
+  begins keys drawn firsts left is_keys is_drawn is_firsts is_left =
       let es = rest.canisters.entries in
       let all : drawn ≡ fold draw (none_drawn w) (keys_of es) = is_drawn ∙ ap (fold draw (none_drawn w)) is_keys in
       let rises = ids_rise whole is.keeps in
-      let taken = T whole is.keeps in
       record {
-        values = passed whole is.keeps taken firsts taken.left dealing idle slots refl (is_firsts ∙ ap (λ (d : Drawing). d.firsts) all ∙ same_firsts es rises w is.canisters) refl is_dealing is_idle is_slots;
+        passed = record { left_are = refl; firsts_are = is_firsts ∙ ap (λ (d : Drawing). d.firsts) all ∙ same_firsts es rises w is.canisters };
         messages = ap (λ (q : Queued). q.messages) (is_left ∙ ap (λ (d : Drawing). d.queues) all) ∙ same_left es rises w is.canisters;
         canisters = ap (λ (q : Queued). q.canisters) (is_left ∙ ap (λ (d : Drawing). d.queues) all) ∙ same_canisters es rises w is.canisters;
       }
 
-  module _ (limit price : ℕ) (idle : List (List ℕ × StoredCanister)) (slots : List StoredSlot) (left : Queued) (began : Began idle slots left) where
-    pub slots_ready : (v : Stored) → v.burned ≡ rest.burned → AreReady (env_at rest.time limit price) v slots
-    slots_ready v same = subst (AreReady (env_at rest.time limit price) v) (sym began.values.slots_are) (all_ready whole is.keeps limit price v same)
+  module _ (limit price : ℕ) (firsts : List (List ℕ × Message)) (left : Queued) (began : Began firsts left) where
+    abbrev front : List Message
+    front = (T whole is.keeps).left
 
-    pub few_slots : length slots ≤ 64
-    few_slots = omega (arith, ap length began.values.slots_are, few whole is.keeps)
+    pub firsts_ready : AreReady (env_at rest.time limit price) (stored_of rest) (slots_of rest.canisters.entries firsts)
+    firsts_ready = passed_ready whole is.keeps front firsts began.passed limit price (stored_of rest) refl
 
-    pub rest_keep : AllByRecursion (λ (e : List ℕ × StoredCanister). IsCanister e.1) idle
-    rest_keep = subst (AllByRecursion (λ (e : List ℕ × StoredCanister). IsCanister e.1)) (sym began.values.canisters_are) (idle_keep whole is.keeps)
+    pub are_firsts : AreFirsts rest.canisters.entries firsts
+    are_firsts = passed_firsts whole is.keeps front firsts began.passed
 
-    abbrev before : Stored
-    before = record (stored_of rest) { canisters = map seen_entry idle; messages = rest.messages }
+    pub few_firsts : length firsts ≤ 64
+    few_firsts = passed_few whole is.keeps front firsts began.passed
+
+    pub rest_keep : AreCanisters rest
+    rest_keep = is.keeps.canisters
 
     pub record Sealed (rest' : Parts) (w' : Queued) : Type 0 where
       pub keeps : IsInQueues rest' w'
       pub state : (outside : Outside) → state_of (with_messages rest' w'.messages) ≡ along (system_rules outside limit price) (state_of whole) (first_phase (system_rules outside limit price) (state_of whole))
 
     pub sealed : (after rest' : Parts) (w' : Queued) (sent : List Message) → AreCanisters after
-        → stored_of after ≡ fold (settle (env_at rest.time limit price)) before (map slot_of slots)
+        → stored_of after ≡ fold (settle_in (env_at rest.time limit price)) (stored_of rest) (map slot_of (slots_of rest.canisters.entries firsts))
         → rest' ≡ record after { messages = [] } → sent ≡ after.messages → w'.messages ≡ left.messages ++ sent → w'.canisters ≡ left.canisters → Sealed rest' w'
     sealed after rest' w' sent keep stored is_rest is_sent is_messages is_canisters =
         let env = env_at rest.time limit price in
-        let front = (T whole is.keeps).left in
+        let slots = map slot_of (slots_of rest.canisters.entries firsts) in
         let a : Parts = with_messages after (front ++ after.messages) in
         let none : front ++ rest.messages ≡ front = ap (λ l. front ++ l) is.none ∙ append-nil front in
-        let there : stored_of a ≡ fold (settle env) (record (stored_of whole) { canisters = map seen_entry idle; messages = front }) (map slot_of slots) =
+        let there : stored_of a ≡ fold (settle_in env) (record (stored_of whole) { messages = front }) slots =
         ap (λ (v : Stored). record v { messages = front ++ v.messages }) stored
-        ∙ sym (settle_behind env front before (map slot_of slots))
-        ∙ ap (λ l. fold (settle env) (record (stored_of whole) { canisters = map seen_entry idle; messages = l }) (map slot_of slots)) none in
-        let world = code_ends whole is.keeps limit price front idle slots a began.values keep there in
+        ∙ sym (settle_behind env front (stored_of rest) slots)
+        ∙ ap (λ l. fold (settle_in env) (record (stored_of whole) { messages = l }) slots) none in
+        let world = code_ends whole is.keeps front firsts began.passed limit price a keep there in
         let same : with_messages rest' w'.messages ≡ a =
         ap₂ (λ (p : Parts) l. with_messages p l) is_rest (is_messages ∙ ap₂ (λ x y. x ++ y) began.messages is_sent) in
         let ids : keys_of after.canisters.entries ≡ keys_of rest.canisters.entries =

@@ -9,8 +9,8 @@ use crate::queued::{QueuedWorld, ids};
 use ic_base::NoMemory;
 use ic_mgmt::taken_apart;
 use ic_outside::Gate;
-use ic_rounds::{deal_out, settled};
-use ic_state::{Env, Parts};
+use ic_rounds::all_turns;
+use ic_state::Env;
 use std::alloc::Global;
 use std::thread::Threads;
 
@@ -34,34 +34,12 @@ pub fn canister_turns<R: Threads + Sync, G: Gate + Sync>(
     let (rest, queues) = world.open();
     let keys = ids(alloc, &rest.canisters)?;
     let (firsts, queues) = draw_all(alloc, keys, queues)?.open();
-    let Parts {
-        canisters,
-        messages,
-        requests,
-        time,
-        created,
-        burned,
-        next_canister,
-    } = rest;
-    let (canisters, slots) = deal_out(alloc, canisters, firsts)?.open();
-    let parts = Parts {
-        canisters,
-        messages,
-        requests,
-        time,
-        created,
-        burned,
-        next_canister,
+    let env = Env {
+        time: rest.time,
+        limit,
+        price,
     };
-    let parts = settled(
-        alloc,
-        rt,
-        parts,
-        slots,
-        workers,
-        Env { time, limit, price },
-        gate,
-    )?;
+    let parts = all_turns(alloc, rt, rest, firsts, workers, env, gate)?;
     let (rest, sent) = taken_apart(alloc, parts);
     let queues = queues.append(alloc, sent)?;
     Ok(QueuedWorld::seal(rest, queues))

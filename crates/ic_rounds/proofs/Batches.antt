@@ -9,7 +9,6 @@ use Rattle.std.proofs.lemmas.Bool.{cases_Bool, or_left, or_right, cond-false}
 use Rattle.std.proofs.lemmas.Map.{lookup-set_value}
 use Rattle.std.proofs.lemmas.Map.Keys.{IsDistinct-tail, IsDistinct-head, IsDistinct-from_sorted}
 use Rattle.ic_behaviour.specs.declared.call.Message.{Message}
-use Rattle.ic_behaviour.specs.declared.env.Env.{Env}
 use Rattle.ic_behaviour.specs.State.{at, callee_of, Canister, State}
 use Rattle.ic_behaviour.specs.Counted.{CountedCanister, counted, dropped}
 use Rattle.ic_behaviour.specs.Closing.{Handled}
@@ -25,7 +24,7 @@ use Rattle.ic_accounting.proofs.Delivers.{deliver_is, deliver_sound, as_absent_k
 use Rattle.ic_accounting.proofs.Counts.{counts_others, counts_own}
 use Rattle.ic_accounting.specs.System.{system_rules}
 use Rattle.ic_rounds.specs.Settling.{entering}
-use Rattle.ic_rounds.specs.Settling.{Stored, Slot, ran, put}
+use Rattle.ic_rounds.specs.Settling.{Stored, Slot, ran, put_in, settle_in}
 use Rattle.ic_rounds.proofs.Slots.{without_first, left, IsSlot}
 use Rattle.ic_accounting.proofs.Systems.{entries_keep}
 
@@ -131,13 +130,6 @@ counted_state s = record {
   burned = s.burned;
   next_canister = s.next_canister;
 }
-
--- a canister is put where it was
-abbrev pub put_in : Stored → List ℕ → Handled → Stored
-put_in w key h = record (put w key h) { canisters = set_value (at key) w.canisters h.canister }
-
-abbrev pub settle_in : Env → Stored → Slot → Stored
-settle_in env w slot = put_in w slot.key (ran env slot)
 
 -- where the others keep their numbers
 module _ (s t : State) (key : List ℕ) (c : CountedCanister) (own : counted t key (dropped c) ≡ c) (others : (k : List ℕ) (b : Canister) → at key k ≡ false → counted t k b ≡ counted s k b) where

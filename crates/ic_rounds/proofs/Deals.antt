@@ -1,5 +1,5 @@
 -- Canisters dealt into slots.
-use Rattle.std.proofs.Common.{◌≡◌, ℕ, true, false, List, [], ◌∷◌, ◌++◌, map, Option, Some, None, refl, sym, ap, ◌∙◌, subst, inl, inr, append_assoc, append-nil}
+use Rattle.std.proofs.Common.{◌≡◌, ℕ, true, false, List, [], ◌∷◌, ◌++◌, Option, Some, None, refl, sym, ap, ◌∙◌, subst, inl, inr, append_assoc, append-nil}
 use Rattle.std.specs.Prelude.{is_some}
 use Rattle.std.specs.List.{AllByRecursion, fold}
 use Rattle.std.specs.Ordering.{nat_cmp}
@@ -13,15 +13,9 @@ use Rattle.ic_behaviour.specs.State.{at}
 use Rattle.ic_behaviour.proofs.Weights.{laws}
 use Rattle.ic_state.specs.declared.canister.Canister.{Canister}
 use Rattle.ic_rounds.specs.declared.slot.Slot.{Slot}
-use Rattle.ic_rounds.specs.Dealing.{Dealing, deal, deal_to}
+use Rattle.ic_rounds.specs.Dealing.{Dealing, deal, deal_to, pairs_of, IsTheirs}
 use Rattle.ic_rounds.proofs.Batches.{AreDistinct}
 use Rattle.ic_rounds.proofs.PutBacks.{Rises, minus, sorted-remove}
-
-abbrev pub pairs_of : List Slot → List (List ℕ × Message)
-pairs_of slots = map (λ (slot : Slot). (slot.key, slot.message)) slots
-
-abbrev pub IsTheirs : List (List ℕ × Canister) → Slot → Type 0
-IsTheirs es slot = lookup (at slot.key) es ≡ Some slot.canister
 
 abbrev IsThere : List (List ℕ × Canister) → List ℕ × Message → Type 0
 IsThere es e = is_some (lookup (at e.0) es) ≡ true

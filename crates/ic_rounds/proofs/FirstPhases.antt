@@ -2,17 +2,17 @@
 use Rattle.std.proofs.Common.{◌≡◌, ◌≤◌, ℕ, suc, Bool, true, false, cond, List, [], ◌∷◌, length, map, Option, Some, None, inl, inr, refl, sym, ap, ◌∙◌, subst, arith}
 use Rattle.std.specs.Prelude.{is_some}
 use Rattle.std.specs.Option.{option_map}
-use Rattle.std.specs.List.{list_any, find, filter, fold, AllByRecursion}
-use Rattle.std.specs.Map.{lookup, keys_of, remove_entry}
+use Rattle.std.specs.List.{find, filter, fold, AllByRecursion}
+use Rattle.std.specs.Map.{lookup, keys_of}
 use Rattle.std.specs.Ordering.{nat_cmp}
 use Rattle.std.specs.Cmp.Lexicographic.{slice_cmp}
 use Rattle.std.proofs.lemmas.Bool.{cases_Bool}
 use Rattle.std.proofs.lemmas.List.{length-map}
 use Rattle.std.proofs.lemmas.Map.Keys.{IsDistinct-from_sorted}
-use Rattle.std.proofs.lemmas.Map.Made.{is_some-lookup, keys_of-map_values, lookup-map_values}
+use Rattle.std.proofs.lemmas.Map.Made.{keys_of-map_values, lookup-map_values}
 use Rattle.ic_behaviour.specs.declared.call.Message.{Message}
-use Rattle.ic_behaviour.specs.State.{at, callee_of, Canister, State}
-use Rattle.ic_behaviour.specs.Counted.{counted, dropped}
+use Rattle.ic_behaviour.specs.State.{at, callee_of, State}
+use Rattle.ic_behaviour.specs.Counted.{dropped}
 use Rattle.ic_behaviour.specs.Deliver.{Outside, as_absent, env_at}
 use Rattle.ic_behaviour.specs.Sound.{Sound}
 use Rattle.ic_behaviour.proofs.Ties.{tallied}
@@ -29,13 +29,13 @@ use Rattle.ic_accounting.specs.System.{system_rules}
 use Rattle.ic_rounds.specs.Settling.{entering}
 use Rattle.ic_rounds.specs.declared.slot.Slot.{Slot as StoredSlot}
 use Rattle.ic_rounds.specs.Taking.{Taking, is_key, sort_out, none_taken}
-use Rattle.ic_rounds.specs.Dealing.{Dealing, deal, none_dealt}
-use Rattle.ic_rounds.specs.Settling.{Stored, Slot, seen_entry, stored_of, slot_of, settle, IsReady, AreReady, AreCanisters}
+use Rattle.ic_rounds.specs.Dealing.{AreFirsts, slots_of, pairs_of, IsTheirs}
+use Rattle.ic_rounds.specs.Settling.{Stored, Slot, stored_of, slot_of, settle_in, IsReady, AreReady, AreCanisters}
 use Rattle.ic_accounting.proofs.Systems.{entries_keep}
 use Rattle.ic_rounds.proofs.Slots.{left, IsSlot}
-use Rattle.ic_rounds.proofs.Batches.{AreDistinct, keys_of_slots, counted_state, batch}
-use Rattle.ic_rounds.proofs.PutBacks.{Rises, minus, put_back}
-use Rattle.ic_rounds.proofs.Deals.{Deals, deals, pairs_of, IsTheirs, each-minus}
+use Rattle.ic_rounds.proofs.Batches.{AreDistinct, counted_state, batch}
+use Rattle.ic_rounds.proofs.PutBacks.{Rises}
+use Rattle.ic_rounds.proofs.Dealings.{pairs, theirs, keys_are, distinct}
 use Rattle.ic_rounds.proofs.Takes.{left_by}
 use Rattle.ic_rounds.proofs.Firsts.{find_self, left_is, sorted, found, firsts_busy, left_taken, slot_message}
 use Rattle.ic_rounds.proofs.Ready.{ready, ready_all}
@@ -64,18 +64,6 @@ each-lookup P (e ∷ es) key c all is =
       | inr there ↦ let later : lookup (at key) es ≡ Some c = rw there at is in each-lookup P es key c all.1 later
     ]
 
-seen-remove : (key : List ℕ) (es : List (List ℕ × StoredCanister)) → map seen_entry (remove_entry (at key) es) ≡ remove_entry (at key) (map seen_entry es)
-seen-remove key [] = refl
-seen-remove key (e ∷ es) = elim (cases_Bool (at key e.0)) [ inl here ↦ rw here refl | inr there ↦ rw there (ap (λ l. seen_entry e ∷ l) (seen-remove key es)) ]
-
-seen-minus : (keys : List (List ℕ)) (es : List (List ℕ × StoredCanister)) → map seen_entry (minus keys es) ≡ minus keys (map seen_entry es)
-seen-minus [] es = refl
-seen-minus (key ∷ keys) es = seen-minus keys (remove_entry (at key) es) ∙ ap (minus keys) (seen-remove key es)
-
-slot_keys : (slots : List StoredSlot) → keys_of_slots (map slot_of slots) ≡ keys_of (pairs_of slots)
-slot_keys [] = refl
-slot_keys (slot ∷ slots) = ap (λ l. slot.key ∷ l) (slot_keys slots)
-
 module _ (p : Parts) (is : IsWorld p) where
   abbrev pub s : State
   s = state_of p
@@ -86,11 +74,11 @@ module _ (p : Parts) (is : IsWorld p) where
   abbrev pub T : Taking
   T = fold (sort_out (is_key es)) none_taken p.messages
 
-  abbrev pub D : Dealing
-  D = fold deal (none_dealt es) T.firsts
+  abbrev pub dealt_slots : List StoredSlot
+  dealt_slots = slots_of es T.firsts
 
   abbrev slots : List Slot
-  slots = map slot_of D.slots
+  slots = map slot_of dealt_slots
 
   same_key : (key : List ℕ) → is_key s.canisters key ≡ is_key es key
   same_key key = ap is_some (lookup-map_values (λ c. dropped (seen c)) (at key) es) ∙ mapped (lookup (at key) es) where
@@ -132,20 +120,8 @@ module _ (p : Parts) (is : IsWorld p) where
     known true e = refl
     known false e = cc
 
-  dealt : Deals (none_dealt es) T.firsts D
-  dealt = deals (none_dealt es) T.firsts rises_stored firsts_distinct (there T.firsts firsts_are)
-
-  pairs : pairs_of D.slots ≡ T.firsts
-  pairs = ap pairs_of dealt.slots ∙ dealt.pairs
-
-  theirs : AllByRecursion (IsTheirs es) D.slots
-  theirs = subst (AllByRecursion (IsTheirs es)) (sym dealt.slots) dealt.theirs
-
-  keys_are : keys_of_slots slots ≡ keys_of T.firsts
-  keys_are = slot_keys D.slots ∙ ap keys_of pairs
-
-  distinct : AreDistinct (keys_of_slots slots)
-  distinct = subst AreDistinct (sym keys_are) firsts_distinct
+  pub are_firsts : AreFirsts es T.firsts
+  are_firsts = record { rising = rises_stored; distinct = firsts_distinct; there = there T.firsts firsts_are }
 
   -- ---- each is a slot of the state, and ready
 
@@ -162,75 +138,55 @@ module _ (p : Parts) (is : IsWorld p) where
   are_slots (slot ∷ more) their first = (is_slot slot their.0 first.0, are_slots more their.1 first.1)
 
   all_slots : AllByRecursion (IsSlot s) slots
-  all_slots = are_slots D.slots theirs (subst (AllByRecursion (λ (e : List ℕ × Message). lookup (at e.0) T.firsts ≡ Some e.1)) (sym pairs) firsts_are)
+  all_slots = are_slots dealt_slots (theirs es T.firsts are_firsts)
+      (subst (AllByRecursion (λ (e : List ℕ × Message). lookup (at e.0) T.firsts ≡ Some e.1)) (sym (pairs es T.firsts are_firsts)) firsts_are)
 
   are_ready : (limit price : ℕ) (more : List StoredSlot) → AllByRecursion (IsTheirs es) more → AllByRecursion (IsSlot s) (map slot_of more) → AllByRecursion IsReady more
   are_ready limit price [] their all = tt
   are_ready limit price (slot ∷ more) their all =
       (ready limit price s is.sound slot all.0 (each-lookup (λ e. IsCanister e.1) es slot.key slot.canister is.canisters their.0), are_ready limit price more their.1 all.1)
 
-  pub all_ready : (limit price : ℕ) (w : Stored) → w.burned ≡ p.burned → AreReady (env_at p.time limit price) w D.slots
-  all_ready limit price w same = ready_all limit price s w D.slots is.sound distinct all_slots (are_ready limit price D.slots theirs all_slots) same
-
-  pub idle_keep : AllByRecursion (λ (e : List ℕ × StoredCanister). IsCanister e.1) D.canisters
-  idle_keep = subst (AllByRecursion (λ (e : List ℕ × StoredCanister). IsCanister e.1)) (sym dealt.others) (each-minus (λ e. IsCanister e.1) (keys_of T.firsts) es is.canisters)
+  pub all_ready : (limit price : ℕ) (w : Stored) → w.burned ≡ p.burned → AreReady (env_at p.time limit price) w dealt_slots
+  all_ready limit price w same = ready_all limit price s w dealt_slots is.sound (distinct es T.firsts are_firsts) all_slots (are_ready limit price dealt_slots (theirs es T.firsts are_firsts) all_slots) same
 
   -- ---- the whole
 
   left_is_left : T.left ≡ left slots s.messages
   left_is_left =
       ap (λ (t : Taking). t.left) (sym taken_is) ∙ left_taken s rises ∙ ap (λ (t : Taking). left_by (keys_of t.firsts) s.messages) taken_is
-      ∙ ap (λ ks. left_by ks s.messages) (sym keys_are) ∙ left_is slots s.messages
+      ∙ ap (λ ks. left_by ks s.messages) (sym (keys_are es T.firsts are_firsts)) ∙ left_is slots s.messages
 
-  keys_stored : keys_of (counted_state s).canisters ≡ keys_of s.canisters
-  keys_stored = same s.canisters where
-    same : (fs : List (List ℕ × Canister)) → keys_of (map (λ (e : List ℕ × Canister). (e.0, counted s e.0 e.1)) fs) ≡ keys_of fs
-    same [] = refl
-    same (f ∷ fs) = ap (λ l. f.0 ∷ l) (same fs)
-
-  known : AllByRecursion (λ (slot : Slot). list_any (at slot.key) (keys_of s.canisters) ≡ true) slots
-  known = each slots all_slots where
-    each : (more : List Slot) → AllByRecursion (IsSlot s) more → AllByRecursion (λ (slot : Slot). list_any (at slot.key) (keys_of s.canisters) ≡ true) more
-    each [] all = tt
-    each (slot ∷ more) all = (sym (is_some-lookup (at slot.key) s.canisters) ∙ ap is_some all.0.there, each more all.1)
-
-  begins_at : record (stored_of p) { canisters = map seen_entry D.canisters; messages = T.left }
-      ≡ record (counted_state s) { canisters = minus (keys_of_slots slots) (counted_state s).canisters; messages = left slots s.messages }
-  begins_at =
-      let canisters : map seen_entry D.canisters ≡ minus (keys_of_slots slots) (counted_state s).canisters =
-      ap (map seen_entry) dealt.others ∙ seen-minus (keys_of T.firsts) es ∙ ap (λ (w : Stored). minus (keys_of T.firsts) w.canisters) (stored_is p is) ∙ ap (λ ks. minus ks (counted_state s).canisters) (sym keys_are) in
-      let messages = left_is_left in
-      λ i. record (counted_state s) { canisters = canisters i; messages = messages i }
+  begins_at : record (stored_of p) { messages = T.left } ≡ record (counted_state s) { messages = left slots s.messages }
+  begins_at = let stored = stored_is p is in let messages = left_is_left in λ i. record (stored i) { messages = messages i }
 
   phase_is : (outside : Outside) (limit price : ℕ)
-      → fold (settle (env_at p.time limit price)) (record (stored_of p) { canisters = map seen_entry D.canisters; messages = T.left }) slots
+      → fold (settle_in (env_at p.time limit price)) (record (stored_of p) { messages = T.left }) slots
       ≡ counted_state (along (system_rules outside limit price) s (first_phase (system_rules outside limit price) s))
   unfolding first_phase
   phase_is outside limit price =
-      ap (λ w. fold (settle (env_at p.time limit price)) w slots) begins_at
-      ∙ put_back (env_at p.time limit price) (keys_of s.canisters) (record (counted_state s) { messages = left slots s.messages }) slots keys_stored rises distinct known
-      ∙ sym (batch outside limit price s slots is.sound distinct all_slots)
-      ∙ ap (λ ks. counted_state (along (system_rules outside limit price) s (turns (system_rules outside limit price) s ks))) (keys_are ∙ busy_is)
+      ap (λ w. fold (settle_in (env_at p.time limit price)) w slots) begins_at
+      ∙ sym (batch outside limit price s slots is.sound (distinct es T.firsts are_firsts) all_slots)
+      ∙ ap (λ ks. counted_state (along (system_rules outside limit price) s (turns (system_rules outside limit price) s ks))) (keys_are es T.firsts are_firsts ∙ busy_is)
 
-  many_slots : length D.slots ≡ length (busy s)
-  many_slots = sym (length-map D.slots (λ (slot : StoredSlot). (slot.key, slot.message))) ∙ ap length pairs ∙ sym (length-map T.firsts (λ e. e.0)) ∙ ap length busy_is
+  many_firsts : length T.firsts ≡ length (busy s)
+  many_firsts = sym (length-map T.firsts (λ e. e.0)) ∙ ap length busy_is
 
-  pub many : (outside : Outside) (limit price : ℕ) → length D.slots ≡ length (first_phase (system_rules outside limit price) s)
+  pub many : (outside : Outside) (limit price : ℕ) → length T.firsts ≡ length (first_phase (system_rules outside limit price) s)
   unfolding first_phase
-  many outside limit price = many_slots ∙ sym (length-turns (system_rules outside limit price) s (busy s))
+  many outside limit price = many_firsts ∙ sym (length-turns (system_rules outside limit price) s (busy s))
 
   fewer : (test : List ℕ → Bool) (keys : List (List ℕ)) → length (filter test keys) ≤ length keys
   fewer test [] = omega arith
   fewer test (key ∷ keys) = elim (cases_Bool (test key)) [ inl here ↦ rw here (omega (arith, fewer test keys)) | inr there ↦ rw there (omega (arith, fewer test keys)) ]
 
-  pub few : length D.slots ≤ 64
+  pub few : length T.firsts ≤ 64
   few =
       let keys : length (keys_of s.canisters) ≡ length s.canisters = length-map s.canisters (λ e. e.0) in
-      omega (arith, many_slots, fewer (has_message s.messages) (keys_of s.canisters), keys, is.sound.sizes.canisters)
+      omega (arith, many_firsts, fewer (has_message s.messages) (keys_of s.canisters), keys, is.sound.sizes.canisters)
 
   -- what the slots come to is a world, and the state after the first phase
   pub phase_ends : (limit price : ℕ) (after : Parts) → AreCanisters after
-      → stored_of after ≡ fold (settle (env_at p.time limit price)) (record (stored_of p) { canisters = map seen_entry D.canisters; messages = T.left }) slots
+      → stored_of after ≡ fold (settle_in (env_at p.time limit price)) (record (stored_of p) { messages = T.left }) slots
       → IsWorld after × ((outside : Outside) → state_of after ≡ along (system_rules outside limit price) s (first_phase (system_rules outside limit price) s))
   phase_ends limit price after keep stored =
       let end = λ (outside : Outside). along (system_rules outside limit price) s (first_phase (system_rules outside limit price) s) in
@@ -241,28 +197,30 @@ module _ (p : Parts) (is : IsWorld p) where
         same_end outside = sym (bare_back _) ∙ ap bare_state (sym (phase_is as_absent limit price) ∙ phase_is outside limit price) ∙ bare_back _
 
   -- the values that the code has
-  pub record Passed (left : List Message) (canisters : List (List ℕ × StoredCanister)) (dealt_slots : List StoredSlot) : Type 0 where
+  pub record Passed (left : List Message) (firsts : List (List ℕ × Message)) : Type 0 where
     pub left_are : left ≡ T.left
-    pub canisters_are : canisters ≡ D.canisters
-    pub slots_are : dealt_slots ≡ D.slots
+    pub firsts_are : firsts ≡ T.firsts
 
-  pub passed : (code_taken : Taking) (firsts : List (List ℕ × Message)) (left : List Message) (dealing : Dealing) (canisters : List (List ℕ × StoredCanister)) (dealt_slots : List StoredSlot)
-      → code_taken ≡ T → firsts ≡ code_taken.firsts → left ≡ code_taken.left → dealing ≡ fold deal (none_dealt es) firsts → canisters ≡ dealing.canisters → dealt_slots ≡ dealing.slots
-      → Passed left canisters dealt_slots
-  passed code_taken firsts left dealing canisters dealt_slots is_taken is_firsts is_left is_dealing is_canisters is_slots =
-      let all : dealing ≡ D = is_dealing ∙ ap (fold deal (none_dealt es)) (is_firsts ∙ ap (λ (t : Taking). t.firsts) is_taken) in
-      record {
-        left_are = is_left ∙ ap (λ (t : Taking). t.left) is_taken;
-        canisters_are = is_canisters ∙ ap (λ (d : Dealing). d.canisters) all;
-        slots_are = is_slots ∙ ap (λ (d : Dealing). d.slots) all;
-      }
+  pub passed : (taking : Taking) (firsts : List (List ℕ × Message)) (left : List Message) → taking ≡ T → firsts ≡ taking.firsts → left ≡ taking.left → Passed left firsts
+  passed taking firsts left is_taking is_firsts is_left = record {
+    left_are = is_left ∙ ap (λ (t : Taking). t.left) is_taking;
+    firsts_are = is_firsts ∙ ap (λ (t : Taking). t.firsts) is_taking;
+  }
 
-  pub code_ends : (limit price : ℕ) (left : List Message) (canisters : List (List ℕ × StoredCanister)) (dealt_slots : List StoredSlot) (after : Parts) → Passed left canisters dealt_slots → AreCanisters after
-      → stored_of after ≡ fold (settle (env_at p.time limit price)) (record (stored_of p) { canisters = map seen_entry canisters; messages = left }) (map slot_of dealt_slots)
-      → IsWorld after × ((outside : Outside) → state_of after ≡ along (system_rules outside limit price) s (first_phase (system_rules outside limit price) s))
-  code_ends limit price left canisters dealt_slots after values keep stored =
-      let canisters_are = values.canisters_are in
-      let left_are = values.left_are in
-      let slots_are = values.slots_are in
-      phase_ends limit price after keep
-      (stored ∙ (λ i. fold (settle (env_at p.time limit price)) (record (stored_of p) { canisters = map seen_entry (canisters_are i); messages = left_are i }) (map slot_of (slots_are i))))
+  module _ (left : List Message) (firsts : List (List ℕ × Message)) (values : Passed left firsts) where
+    pub passed_few : length firsts ≤ 64
+    passed_few = omega (arith, ap length values.firsts_are, few)
+
+    pub passed_firsts : AreFirsts es firsts
+    passed_firsts = subst (AreFirsts es) (sym values.firsts_are) are_firsts
+
+    pub passed_ready : (limit price : ℕ) (w : Stored) → w.burned ≡ p.burned → AreReady (env_at p.time limit price) w (slots_of es firsts)
+    passed_ready limit price w same = subst (λ fs. AreReady (env_at p.time limit price) w (slots_of es fs)) (sym values.firsts_are) (all_ready limit price w same)
+
+    pub code_ends : (limit price : ℕ) (after : Parts) → AreCanisters after
+        → stored_of after ≡ fold (settle_in (env_at p.time limit price)) (record (stored_of p) { messages = left }) (map slot_of (slots_of es firsts))
+        → IsWorld after × ((outside : Outside) → state_of after ≡ along (system_rules outside limit price) s (first_phase (system_rules outside limit price) s))
+    code_ends limit price after keep stored =
+        let left_are = values.left_are in
+        let firsts_are = values.firsts_are in
+        phase_ends limit price after keep (stored ∙ (λ i. fold (settle_in (env_at p.time limit price)) (record (stored_of p) { messages = left_are i }) (map slot_of (slots_of es (firsts_are i)))))

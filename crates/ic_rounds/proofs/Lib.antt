@@ -9,6 +9,8 @@ pub mod Settles
 pub mod Batches
 pub mod PutBacks
 pub mod Deals
+pub mod Dealings
+pub mod InPlaces
 pub mod Firsts
 pub mod Ready
 pub mod Worlds

@@ -14,8 +14,8 @@ use Rattle.std.proofs.lemmas.Map.Keys.{IsDistinct-tail, IsDistinct-head}
 use Rattle.ic_behaviour.specs.declared.env.Env.{Env}
 use Rattle.ic_behaviour.specs.State.{at}
 use Rattle.ic_behaviour.proofs.Weights.{laws, at-is}
-use Rattle.ic_rounds.specs.Settling.{Stored, Slot, ran, settle}
-use Rattle.ic_rounds.proofs.Batches.{AreDistinct, keys_of_slots, put_in, settle_in}
+use Rattle.ic_rounds.specs.Settling.{Stored, Slot, ran, settle, put_in, settle_in}
+use Rattle.ic_rounds.proofs.Batches.{AreDistinct, keys_of_slots}
 
 abbrev pub cmp : List ℕ → List ℕ → Ordering
 cmp = slice_cmp nat_cmp

@@ -2,12 +2,14 @@
 use Rattle.std.specs.Prelude.{◌≡◌, ℕ, ◌+◌, ◌-◌, ◌≤◌, ◌^◌, List, [], ◌∷◌, ◌++◌, map}
 use Rattle.std.specs.List.{flat_map, fold, AllByRecursion}
 use Rattle.std.specs.BTreeMap.{insert_entry}
+use Rattle.std.specs.Map.{set_value}
 use Rattle.std.specs.Ordering.{nat_cmp}
 use Rattle.std.specs.Cmp.Lexicographic.{slice_cmp}
 use Rattle.ic_behaviour.specs.declared.call.Message.{Message}
 use Rattle.ic_behaviour.specs.declared.request.Request.{Request}
 use Rattle.ic_behaviour.specs.declared.env.Env.{Env}
 use Rattle.ic_behaviour.specs.Items.{item_of, cycles_in}
+use Rattle.ic_behaviour.specs.State.{at}
 use Rattle.ic_behaviour.specs.Counted.{CountedCanister}
 use Rattle.ic_behaviour.specs.Closing.{Handled}
 use Rattle.ic_behaviour.specs.Local.{local}
@@ -77,6 +79,13 @@ put w key h = record w {
 
 abbrev pub settle : Env → Stored → Slot → Stored
 settle env w slot = put w slot.key (ran env slot)
+
+-- a canister that stays in its place is put there, and what it sends comes last
+abbrev pub put_in : Stored → (key : List ℕ) → Handled → Stored
+put_in w key h = record (put w key h) { canisters = set_value (at key) w.canisters h.canister }
+
+abbrev pub settle_in : Env → Stored → Slot → Stored
+settle_in env w slot = put_in w slot.key (ran env slot)
 
 -- ---- what is asked of slots
 

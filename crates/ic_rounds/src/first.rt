@@ -4,9 +4,8 @@ ghost use Rattle.ic_runs.specs.Steps.{along};
 ghost use Rattle.ic_runs.specs.Round.{first_phase};
 ghost use Rattle.ic_accounting.specs.System.{system_rules};
 
-use crate::dealt::deal_out;
-use crate::settling::settled;
 use crate::taken::taken_out;
+use crate::turns::all_turns;
 use ic_base::NoMemory;
 use ic_outside::Gate;
 use ic_state::{Env, Parts, World};
@@ -46,8 +45,7 @@ pub fn canister_turns<R: Threads + Sync, G: Gate + Sync>(
         next_canister,
     } = world.open();
     let (firsts, left) = taken_out(alloc, &canisters, messages)?.open(alloc)?;
-    let (canisters, slots) = deal_out(alloc, canisters, firsts)?.open();
-    let handled = slots.len() as u64;
+    let handled = firsts.len() as u64;
     let parts = Parts {
         canisters,
         messages: left,
@@ -57,14 +55,7 @@ pub fn canister_turns<R: Threads + Sync, G: Gate + Sync>(
         burned,
         next_canister,
     };
-    let parts = settled(
-        alloc,
-        rt,
-        parts,
-        slots,
-        workers,
-        Env { time, limit, price },
-        gate,
-    )?;
+    let env = Env { time, limit, price };
+    let parts = all_turns(alloc, rt, parts, firsts, workers, env, gate)?;
     Ok((World::seal(parts), handled))
 }

@@ -1,49 +1,75 @@
-use Rattle.std.proofs.Common.{refl, ap, ◌∙◌, arith}
+use Rattle.std.proofs.Common.{ap, ◌∙◌, arith}
 use Rattle.ic_behaviour.specs.State.{State}
 use Rattle.ic_runs.specs.Steps.{along}
 use Rattle.ic_runs.specs.Round.{first_phase}
 use Rattle.ic_accounting.specs.System.{system_rules}
-use Rattle.ic_queue_rounds.proofs.Fronts.{begins, slots_ready, few_slots, rest_keep, sealed}
+use Rattle.ic_queue_rounds.proofs.Fronts.{begins, firsts_ready, are_firsts, few_firsts, rest_keep, sealed}
 use Rattle.ic_queue_rounds.proofs.first.canister_turns.Goals as goal
 
-pub settled-requires-clause-ready : goal.settled-requires-clause-ready
-settled-requires-clause-ready g c κs within =
-    let began = begins c.open-rest.result.0 c.open-rest.result.1 c.open-rest.ensures.keeps c.in_ok-keys.keys.items c.in_ok-draw_all.field-0 c.open-firsts.result.0.items c.open-firsts.result.1
-    c.in_ok-deal_out.field-0 c.open-canisters.result.0.entries c.open-canisters.result.1.items c.in_ok-keys.ensures c.in_ok-draw_all.ensures c.open-firsts.ensures.firsts c.open-firsts.ensures.queues
-    c.in_ok-deal_out.ensures c.open-canisters.ensures.canisters c.open-canisters.ensures.slots in
-    slots_ready c.open-rest.result.0 c.open-rest.result.1 c.open-rest.ensures.keeps c.args.limit c.args.price _ _ _ began _ refl
+pub all_turns-requires-clause-few : goal.all_turns-requires-clause-few
+all_turns-requires-clause-few g c κs within =
+    let rest = c.open-rest.result.0 in
+    let queues = c.open-rest.result.1 in
+    let is = c.open-rest.ensures.keeps in
+    let firsts = c.open-firsts.result.0.items in
+    let left = c.open-firsts.result.1 in
+    let began = begins rest queues is c.in_ok-keys.keys.items c.in_ok-draw_all.field-0 firsts left c.in_ok-keys.ensures c.in_ok-draw_all.ensures c.open-firsts.ensures.firsts c.open-firsts.ensures.queues in
+    omega (arith, c.open-firsts.result.0.ok.0, few_firsts rest queues is c.args.limit c.args.price firsts left began)
 
-pub settled-requires-clause-few : goal.settled-requires-clause-few
-settled-requires-clause-few g c κs within =
-    let began = begins c.open-rest.result.0 c.open-rest.result.1 c.open-rest.ensures.keeps c.in_ok-keys.keys.items c.in_ok-draw_all.field-0 c.open-firsts.result.0.items c.open-firsts.result.1
-    c.in_ok-deal_out.field-0 c.open-canisters.result.0.entries c.open-canisters.result.1.items c.in_ok-keys.ensures c.in_ok-draw_all.ensures c.open-firsts.ensures.firsts c.open-firsts.ensures.queues
-    c.in_ok-deal_out.ensures c.open-canisters.ensures.canisters c.open-canisters.ensures.slots in
-    omega (arith, c.open-canisters.result.1.ok.0, few_slots c.open-rest.result.0 c.open-rest.result.1 c.open-rest.ensures.keeps c.args.limit c.args.price _ _ _ began)
+pub all_turns-requires-clause-firsts : goal.all_turns-requires-clause-firsts
+all_turns-requires-clause-firsts g c κs within =
+    let rest = c.open-rest.result.0 in
+    let queues = c.open-rest.result.1 in
+    let is = c.open-rest.ensures.keeps in
+    let firsts = c.open-firsts.result.0.items in
+    let left = c.open-firsts.result.1 in
+    let began = begins rest queues is c.in_ok-keys.keys.items c.in_ok-draw_all.field-0 firsts left c.in_ok-keys.ensures c.in_ok-draw_all.ensures c.open-firsts.ensures.firsts c.open-firsts.ensures.queues in
+    are_firsts rest queues is c.args.limit c.args.price firsts left began
 
-pub settled-requires-clause-keep : goal.settled-requires-clause-keep
-settled-requires-clause-keep g c κs within =
-    let began = begins c.open-rest.result.0 c.open-rest.result.1 c.open-rest.ensures.keeps c.in_ok-keys.keys.items c.in_ok-draw_all.field-0 c.open-firsts.result.0.items c.open-firsts.result.1
-    c.in_ok-deal_out.field-0 c.open-canisters.result.0.entries c.open-canisters.result.1.items c.in_ok-keys.ensures c.in_ok-draw_all.ensures c.open-firsts.ensures.firsts c.open-firsts.ensures.queues
-    c.in_ok-deal_out.ensures c.open-canisters.ensures.canisters c.open-canisters.ensures.slots in
-    rest_keep c.open-rest.result.0 c.open-rest.result.1 c.open-rest.ensures.keeps c.args.limit c.args.price _ _ _ began
+pub all_turns-requires-clause-ready : goal.all_turns-requires-clause-ready
+all_turns-requires-clause-ready g c κs within =
+    let rest = c.open-rest.result.0 in
+    let queues = c.open-rest.result.1 in
+    let is = c.open-rest.ensures.keeps in
+    let firsts = c.open-firsts.result.0.items in
+    let left = c.open-firsts.result.1 in
+    let began = begins rest queues is c.in_ok-keys.keys.items c.in_ok-draw_all.field-0 firsts left c.in_ok-keys.ensures c.in_ok-draw_all.ensures c.open-firsts.ensures.firsts c.open-firsts.ensures.queues in
+    firsts_ready rest queues is c.args.limit c.args.price firsts left began
+
+pub all_turns-requires-clause-keep : goal.all_turns-requires-clause-keep
+all_turns-requires-clause-keep g c κs within =
+    let rest = c.open-rest.result.0 in
+    let queues = c.open-rest.result.1 in
+    let is = c.open-rest.ensures.keeps in
+    let firsts = c.open-firsts.result.0.items in
+    let left = c.open-firsts.result.1 in
+    let began = begins rest queues is c.in_ok-keys.keys.items c.in_ok-draw_all.field-0 firsts left c.in_ok-keys.ensures c.in_ok-draw_all.ensures c.open-firsts.ensures.firsts c.open-firsts.ensures.queues in
+    rest_keep rest queues is c.args.limit c.args.price firsts left began
 
 pub seal-requires : goal.seal-requires
 seal-requires g c =
-    let began = begins c.open-rest.result.0 c.open-rest.result.1 c.open-rest.ensures.keeps c.in_ok-keys.keys.items c.in_ok-draw_all.field-0 c.open-firsts.result.0.items c.open-firsts.result.1
-    c.in_ok-deal_out.field-0 c.open-canisters.result.0.entries c.open-canisters.result.1.items c.in_ok-keys.ensures c.in_ok-draw_all.ensures c.open-firsts.ensures.firsts c.open-firsts.ensures.queues
-    c.in_ok-deal_out.ensures c.open-canisters.ensures.canisters c.open-canisters.ensures.slots in
-    let ends = sealed c.open-rest.result.0 c.open-rest.result.1 c.open-rest.ensures.keeps c.args.limit c.args.price _ _ _ began c.in_ok-parts.parts c.taken_apart-rest.result.0 c.in_ok-queues.queues
+    let rest = c.open-rest.result.0 in
+    let queues = c.open-rest.result.1 in
+    let is = c.open-rest.ensures.keeps in
+    let firsts = c.open-firsts.result.0.items in
+    let left = c.open-firsts.result.1 in
+    let began = begins rest queues is c.in_ok-keys.keys.items c.in_ok-draw_all.field-0 firsts left c.in_ok-keys.ensures c.in_ok-draw_all.ensures c.open-firsts.ensures.firsts c.open-firsts.ensures.queues in
+    let ends = sealed rest queues is c.args.limit c.args.price firsts left began c.in_ok-parts.parts c.taken_apart-rest.result.0 c.in_ok-queues.queues
     c.taken_apart-rest.result.1 c.in_ok-parts.ensures.keep c.in_ok-parts.ensures.stored c.taken_apart-rest.ensures.rest c.taken_apart-rest.ensures.messages
     c.in_ok-queues.ensures.messages c.in_ok-queues.ensures.canisters in
     ends.keeps
 
 pub returns : goal.returns
-returns g c = λ outside.
-    let began = begins c.open-rest.result.0 c.open-rest.result.1 c.open-rest.ensures.keeps c.in_ok-keys.keys.items c.in_ok-draw_all.field-0 c.open-firsts.result.0.items c.open-firsts.result.1
-    c.in_ok-deal_out.field-0 c.open-canisters.result.0.entries c.open-canisters.result.1.items c.in_ok-keys.ensures c.in_ok-draw_all.ensures c.open-firsts.ensures.firsts c.open-firsts.ensures.queues
-    c.in_ok-deal_out.ensures c.open-canisters.ensures.canisters c.open-canisters.ensures.slots in
-    let ends = sealed c.open-rest.result.0 c.open-rest.result.1 c.open-rest.ensures.keeps c.args.limit c.args.price _ _ _ began c.in_ok-parts.parts c.taken_apart-rest.result.0 c.in_ok-queues.queues
+returns g c =
+    let rest = c.open-rest.result.0 in
+    let queues = c.open-rest.result.1 in
+    let is = c.open-rest.ensures.keeps in
+    let firsts = c.open-firsts.result.0.items in
+    let left = c.open-firsts.result.1 in
+    let began = begins rest queues is c.in_ok-keys.keys.items c.in_ok-draw_all.field-0 firsts left c.in_ok-keys.ensures c.in_ok-draw_all.ensures c.open-firsts.ensures.firsts c.open-firsts.ensures.queues in
+    let ends = sealed rest queues is c.args.limit c.args.price firsts left began c.in_ok-parts.parts c.taken_apart-rest.result.0 c.in_ok-queues.queues
     c.taken_apart-rest.result.1 c.in_ok-parts.ensures.keep c.in_ok-parts.ensures.stored c.taken_apart-rest.ensures.rest c.taken_apart-rest.ensures.messages
     c.in_ok-queues.ensures.messages c.in_ok-queues.ensures.canisters in
+    λ outside.
     let rules = system_rules outside c.args.limit c.args.price in
     c.seal.ensures ∙ ends.state outside ∙ ap (λ (t : State). along rules t (first_phase rules t)) c.open-rest.ensures.state
