@@ -5,7 +5,7 @@ ghost use Rattle.ic_rounds.specs.Turns.{IsTurn, entry};
 use crate::slot::Slot;
 use crate::turn::Turn;
 use ic_base::NoMemory;
-use ic_exec::handle;
+use ic_exec::{Done, handle};
 use ic_state::Env;
 use std::alloc::Global;
 use std::marker::Model;
@@ -17,7 +17,7 @@ pub struct Filed {
     number: u32,
     content: Result<Turn, NoMemory>,
     slot: Snapshot<Slot>,
-    env: Env,
+    env: Snapshot<Env>,
 }
 
 impl Model for Filed {
@@ -27,9 +27,9 @@ impl Model for Filed {
 
     ghost Value = { Entry };
 
-    ghost view = { λ f. entry f.number f.slot.value f.env };
+    ghost view = { λ f. entry f.number f.slot.value f.env.value };
 
-    ghost invariant = { λ f. (turn : Turn) → f.content ≡ Ok turn → IsTurn f.env f.slot.value turn };
+    ghost invariant = { λ f. (turn : Turn) → f.content ≡ Ok turn → IsTurn f.env.value f.slot.value turn };
 }
 
 // Handles the message of a slot.
@@ -44,11 +44,18 @@ fn handled(alloc: Global, slot: Slot, env: Env) -> Result<Turn, NoMemory>
         message,
     } = slot;
     let mut canister = canister;
-    let done = handle(alloc, canister.get_mut(), message.take(), env)?;
+    let Done {
+        calls,
+        answers,
+        burned,
+        ..
+    } = handle(alloc, canister.get_mut(), message.take(), env)?;
     Ok(Turn {
         key,
         canister,
-        done,
+        calls,
+        answers,
+        burned,
     })
 }
 
@@ -64,7 +71,7 @@ impl Filed {
             number,
             content: handled(alloc, slot, env),
             slot: kept,
-            env,
+            env: Snapshot::of(&env),
         }
     }
 

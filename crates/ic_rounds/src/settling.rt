@@ -10,7 +10,6 @@ use crate::slot::Slot;
 use crate::turn::Turn;
 use ic_base::NoMemory;
 use ic_calls::send;
-use ic_exec::Done;
 use ic_outside::Gate;
 use ic_principal::Principal;
 use ic_state::{CanisterPlace, Env, Parts};
@@ -35,7 +34,7 @@ fn put_back(
 // Puts what came of a slot where it belongs: its canister goes back, and what it sends goes on.
 fn settle(parts: &mut Parts, turn: Turn) -> Result<(), NoMemory>
     requires keeps { IsCanister turn.canister }
-    requires room { parts.old.burned + turn.done.burned ≤ 2 ^ 127 - 1 }
+    requires room { parts.old.burned + turn.burned ≤ 2 ^ 127 - 1 }
     requires keep { AreCanisters parts.old }
     ensures stored { OnOk result (stored_of parts.new ≡ put_turn (stored_of parts.old) turn) }
     ensures keep { OnOk result (AreCanisters parts.new) }
@@ -43,14 +42,10 @@ fn settle(parts: &mut Parts, turn: Turn) -> Result<(), NoMemory>
     let Turn {
         key,
         canister,
-        done,
-    } = turn;
-    let Done {
         calls,
         answers,
         burned,
-        ..
-    } = done;
+    } = turn;
     put_back(parts, key, canister, burned)?;
     send(parts, &key, calls, answers)
 }

@@ -1,11 +1,12 @@
-use ic_exec::Done;
 use ic_principal::Principal;
-use ic_state::CanisterPlace;
+use ic_state::{AnsweredList, CanisterPlace, Messages};
 
 /// What came of a slot.
 #[derive(Drop)]
 pub struct Turn {
     pub key: Principal,
     pub canister: CanisterPlace,
-    pub done: Done,
+    pub calls: Messages,
+    pub answers: AnsweredList,
+    pub burned: u128,
 }

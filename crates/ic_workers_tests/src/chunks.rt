@@ -7,7 +7,7 @@ ghost use Rattle.ic_rounds.specs.Settling.{IsReady};
 ghost use Rattle.ic_rounds.specs.Turns.{IsTurn};
 
 use ic_base::NoMemory;
-use ic_exec::handle;
+use ic_exec::{Done, handle};
 use ic_outside::Gate;
 use ic_rounds::{Slot, Turn};
 use ic_state::Env;
@@ -65,11 +65,18 @@ fn handled(alloc: Global, slot: Slot, env: Env) -> Result<Turn, NoMemory>
         message,
     } = slot;
     let mut canister = canister;
-    let done = handle(alloc, canister.get_mut(), message.take(), env)?;
+    let Done {
+        calls,
+        answers,
+        burned,
+        ..
+    } = handle(alloc, canister.get_mut(), message.take(), env)?;
     Ok(Turn {
         key,
         canister,
-        done,
+        calls,
+        answers,
+        burned,
     })
 }
 

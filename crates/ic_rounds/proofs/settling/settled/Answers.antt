@@ -30,7 +30,7 @@ settle-requires-clause-room g c =
     let so_far = YieldsList-so_far road c.loop-turn.yielded c.loop-turn.turn-iterator c.loop-turn.yielded_by in
     let fits = turn_fits c.args.env (stored_of c.args.parts) c.args.slots.items turns.items c.loop-turn.yielded c.in-Some.turn c.requires.ready c.in_ok-turns.ensures here.0 here.1
     (sym (map-id c.loop-turn.yielded) ∙ so_far) in
-    subst (λ (n : ℕ). n + c.in-Some.turn.done.burned ≤ 2 ^ 127 - 1) (sym (ap (λ (w : Stored). w.burned) c.loop-turn.invariant.stored)) fits.1
+    subst (λ (n : ℕ). n + c.in-Some.turn.burned ≤ 2 ^ 127 - 1) (sym (ap (λ (w : Stored). w.burned) c.loop-turn.invariant.stored)) fits.1
 
 pub returns-clause-stored : goal.returns-clause-stored
 returns-clause-stored g c =
