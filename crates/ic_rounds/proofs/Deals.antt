@@ -1,16 +1,16 @@
 -- Canisters dealt into slots.
-use Rattle.std.proofs.Common.{◌≡◌, ℕ, true, false, List, [], ◌∷◌, ◌++◌, Option, Some, None, refl, sym, ap, ◌∙◌, subst, inl, inr, append_assoc, append-nil}
-use Rattle.std.specs.Prelude.{is_some}
-use Rattle.std.specs.List.{AllByRecursion, fold}
+use Rattle.std.proofs.Common.{◌≡◌, ℕ, true, false, List, [], ◌∷◌, ◌++◌, map, length, arith, Option, Some, None, refl, sym, ap, ◌∙◌, subst, inl, inr, append_assoc, append-nil}
+use Rattle.std.specs.Prelude.{is_some, nat_eq}
+use Rattle.std.specs.List.{AllByRecursion, fold, list_all, zip}
 use Rattle.std.specs.Ordering.{nat_cmp}
-use Rattle.std.specs.Cmp.Lexicographic.{slice_cmp}
+use Rattle.std.specs.Cmp.Lexicographic.{slice_cmp, pointwise, texts_ties}
 use Rattle.std.specs.Map.{lookup, keys_of, remove_entry}
-use Rattle.std.proofs.lemmas.Bool.{cases_Bool, cond-false}
+use Rattle.std.proofs.lemmas.Bool.{cases_Bool, cond-true, cond-false, and_parts}
 use Rattle.std.proofs.lemmas.Map.{lookup-remove_entry}
 use Rattle.std.proofs.lemmas.Map.Keys.{IsDistinct-from_sorted, IsDistinct-head, IsDistinct-tail}
 use Rattle.ic_behaviour.specs.declared.call.Message.{Message}
 use Rattle.ic_behaviour.specs.State.{at}
-use Rattle.ic_behaviour.proofs.Weights.{laws}
+use Rattle.ic_behaviour.proofs.Weights.{laws, at-is, at-self}
 use Rattle.ic_state.specs.declared.canister.Canister.{Canister}
 use Rattle.ic_rounds.specs.declared.slot.Slot.{Slot}
 use Rattle.ic_rounds.specs.Dealing.{Dealing, deal, deal_to, pairs_of, IsTheirs}
@@ -19,6 +19,41 @@ use Rattle.ic_rounds.proofs.PutBacks.{Rises, minus, sorted-remove}
 
 abbrev IsThere : List (List ℕ × Canister) → List ℕ × Message → Type 0
 IsThere es e = is_some (lookup (at e.0) es) ≡ true
+
+-- ---- all at once
+
+abbrev pub slot_from : (List ℕ × Canister) × (List ℕ × Message) → Slot
+slot_from p = record { key = p.1.0; canister = p.0.1; message = p.1.1 }
+
+-- where the keys are the same, each is the first that is left
+pub deals_all : (es : List (List ℕ × Canister)) (fs : List (List ℕ × Message)) (slots : List Slot) → keys_of fs ≡ keys_of es
+    → fold deal (record { canisters = es; slots = slots }) fs ≡ record { canisters = []; slots = slots ++ map slot_from (zip es fs) }
+deals_all [] [] slots same = ap (λ l. record { canisters = []; slots = l }) (sym (append-nil slots))
+deals_all [] (f ∷ fs) slots same = cc
+deals_all (e ∷ es) [] slots same = cc
+deals_all (e ∷ es) (f ∷ fs) slots same =
+    let head : f.0 ≡ e.0 = cc in
+    let rest : keys_of fs ≡ keys_of es = cc in
+    let here : at f.0 e.0 ≡ true = subst (λ (k : List ℕ). at f.0 k ≡ true) head (at-self f.0) in
+    let w : Dealing = record { canisters = e ∷ es; slots = slots } in
+    let more = slots ++ slot_from (e, f) ∷ [] in
+    let found : lookup (at f.0) (e ∷ es) ≡ Some e.1 = cond-true _ _ _ here in
+    let gone : remove_entry (at f.0) (e ∷ es) ≡ es = cond-true _ _ _ here in
+    let one : deal w f ≡ record { canisters = es; slots = more } = ap (deal_to w f) found ∙ (λ i. record { canisters = gone i; slots = more }) in
+    ap (λ (v : Dealing). fold deal v fs) one ∙ deals_all es fs more rest ∙ ap (λ l. record { canisters = []; slots = l }) (append_assoc slots (slot_from (e, f) ∷ []) (map slot_from (zip es fs)))
+
+-- keys that are the same one by one
+pub same_keys : {X Y : Type 0} (es : List (List ℕ × X)) (fs : List (List ℕ × Y)) → length es ≡ length fs
+    → list_all (λ (p : List ℕ × (List ℕ × Y)). pointwise nat_eq p.0 p.1.0) (zip (keys_of es) fs) ≡ true → keys_of fs ≡ keys_of es
+same_keys [] [] many all = refl
+same_keys [] (f ∷ fs) many all = absurd (omega (arith, many))
+same_keys (e ∷ es) [] many all = absurd (omega (arith, many))
+same_keys (e ∷ es) (f ∷ fs) many all =
+    let parts = and_parts (pointwise nat_eq e.0 f.0) _ all in
+    let head : f.0 ≡ e.0 = sym (at-is e.0 f.0 (sym (texts_ties e.0 f.0) ∙ parts.0)) in
+    λ i. head i ∷ same_keys es fs (omega (arith, many)) parts.1 i
+
+-- ---- one at a time
 
 -- the slots come in the entries' order, each with its canister, and the others stay
 pub record Deals (w : Dealing) (es : List (List ℕ × Message)) (end : Dealing) : Type 0 where

@@ -1,5 +1,6 @@
-ghost use Rattle.std.specs.Prelude.{◌≡◌, [], IfOk, OnOk};
+ghost use Rattle.std.specs.Prelude.{◌≡◌, true, [], IfOk, OnOk};
 ghost use Rattle.std.specs.List.{fold};
+ghost use Rattle.std.specs.Map.{keys_of};
 ghost use Rattle.ic_rounds.specs.Dealing.{deal, none_dealt};
 
 use crate::slot::Slot;
@@ -63,6 +64,43 @@ impl Dealt {
     }
 }
 
+// Whether there is a first message to each canister, and no other.
+fn are_all(
+    canisters: &BTreeMap<Principal, CanisterPlace>,
+    firsts: &[(Principal, MessagePlace)],
+) -> bool
+    ensures { result ≡ true → keys_of firsts.now ≡ keys_of canisters.now.entries }
+{
+    canisters.len() == firsts.len()
+        && canisters
+            .keys()
+            .zip(firsts)
+            .all(|(key, first)| *key == first.0)
+}
+
+// Puts each canister into a slot, with its first message. The map is taken apart in one pass.
+fn all_dealt(
+    alloc: Global,
+    canisters: BTreeMap<Principal, CanisterPlace>,
+    firsts: Vec<(Principal, MessagePlace)>,
+) -> Result<Dealt, NoMemory>
+    requires all { keys_of firsts.items ≡ keys_of canisters.entries }
+    ensures { IfOk result (λ w. w ≡ fold deal (none_dealt canisters.entries) firsts.items) }
+{
+    let mut slots = Vec::with_capacity(alloc, firsts.len())?;
+    for ((_, canister), (key, message)) in canisters.into_iter().zip(firsts) {
+        slots.push_reserved(Slot {
+            key,
+            canister,
+            message,
+        });
+    }
+    Ok(Dealt {
+        canisters: BTreeMap::new(alloc),
+        slots,
+    })
+}
+
 /// Puts the canisters that have a first message into slots, in rising order.
 pub fn deal_out(
     alloc: Global,
@@ -71,6 +109,9 @@ pub fn deal_out(
 ) -> Result<Dealt, NoMemory>
     ensures { IfOk result (λ w. w ≡ fold deal (none_dealt canisters.entries) firsts.items) }
 {
+    if are_all(&canisters, firsts.as_slice()) {
+        return all_dealt(alloc, canisters, firsts);
+    }
     let mut dealt = Dealt::new(alloc, canisters, firsts.len())?;
     for (key, message) in firsts {
         dealt.deal(key, message)?;
