@@ -56,8 +56,9 @@ fn side_by_side<R: Threads + Sync, G: Gate + Sync>(
 }
 
 /// Handles the first messages to canisters, in rising order of these, and sends what they send in that
-/// order. One worker needs no slots. Of several, up to `workers` share them out by tickets. Before each message
-/// its worker passes the gate, with its own number, from 0, and the message's place among them.
+/// order. One worker, and so one message, needs no slots. Several workers, as many as there are messages at most,
+/// share them out by tickets. Before each message its worker passes the gate, with its own number, from 0, and the
+/// message's place among them.
 pub fn all_turns<R: Threads + Sync, G: Gate + Sync>(
     alloc: Global,
     rt: &R,
@@ -77,7 +78,7 @@ pub fn all_turns<R: Threads + Sync, G: Gate + Sync>(
         ≡ fold (settle_in env) (stored_of parts) (map slot_of (slots_of parts.canisters.entries firsts.items))) }
     ensures keep { IfOk result AreCanisters }
 {
-    if workers == 1 {
+    if workers == 1 || firsts.len() <= 1 {
         in_turn(alloc, parts, firsts, env, gate)
     } else {
         side_by_side(alloc, rt, parts, firsts, workers, env, gate)
