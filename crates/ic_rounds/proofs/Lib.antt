@@ -5,6 +5,7 @@ pub mod Elements
 pub mod Crossings
 pub mod Works
 pub mod Files
+pub mod MadeMaps
 pub mod Settles
 pub mod Batches
 pub mod PutBacks

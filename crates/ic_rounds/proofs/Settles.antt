@@ -2,11 +2,12 @@
 use Rattle.std.proofs.Common.{◌≡◌, ℕ, ◌+◌, ◌-◌, ◌<◌, ◌≤◌, ◌^◌, List, [], ◌∷◌, ◌++◌, map, length, take, refl, sym, ap, ◌∙◌, subst, arith, not-suc-le-zero}
 use Rattle.std.specs.Prelude.{get_or}
 use Rattle.std.specs.List.{fold, flat_map, AllByRecursion, AllZip}
-use Rattle.std.specs.BTreeMap.{insert_entry}
+use Rattle.std.specs.BTreeMap.{BTreeMap, insert_entry}
 use Rattle.std.specs.declared.cmp.Ordering.{Ordering}
 use Rattle.std.specs.declared.cmp.Ordering.TheVariants.{Less, Equal, Greater}
 use Rattle.std.specs.Ordering.{nat_cmp, match_ordering}
 use Rattle.std.specs.Cmp.Lexicographic.{slice_cmp}
+use Rattle.std.proofs.lemmas.List.Sums.{fold-append}
 use Rattle.ic_behaviour.specs.declared.env.Env.{Env}
 use Rattle.ic_behaviour.specs.Deliver.{filled, routed}
 use Rattle.ic_state.specs.declared.canister.Canister.{Canister as StoredCanister}
@@ -16,7 +17,7 @@ use Rattle.ic_state.specs.IsCanister.{IsCanister}
 use Rattle.ic_calls.specs.Sent.{sent_from}
 use Rattle.ic_rounds.specs.declared.slot.Slot.{Slot as StoredSlot}
 use Rattle.ic_rounds.specs.declared.turn.Turn.{Turn}
-use Rattle.ic_rounds.specs.Turns.{IsTurn, put_turn}
+use Rattle.ic_rounds.specs.Turns.{IsTurn, put_turn, insert_all, AreTurns}
 use Rattle.ic_rounds.specs.Settling.{Stored, seen_entry, stored_of, slot_of, settle, IsReady, AreReady, AreCanisters, IsBack}
 
 -- ---- the map of canisters
@@ -71,6 +72,44 @@ keep-is before back after x keeps all back_is after_is =
     subst AreCanisters (sym after_is)
     (subst (AllByRecursion (λ (e : List ℕ × StoredCanister). IsCanister e.1)) (sym back_is.canisters) (each-insert IsCanister before.canisters.entries x.key x.canister keeps all))
 
+-- ---- the map is made at the end
+
+-- turns were put, their canisters are aside
+pub record Aside (w : Stored) (turns : List Turn) (p : Parts) (pairs : List (List ℕ × StoredCanister)) : Type 0 where
+  pub others : stored_of p ≡ record (fold put_turn w turns) { canisters = [] }
+  pub canisters : map seen_entry (insert_all pairs) ≡ (fold put_turn w turns).canisters
+  pub keep : AllByRecursion (λ (e : List ℕ × StoredCanister). IsCanister e.1) (insert_all pairs)
+
+pub Aside-none : (p : Parts) → p.canisters.entries ≡ [] → Aside (stored_of p) [] p []
+Aside-none p none = record {
+  others = ap (λ es. record (stored_of p) { canisters = map seen_entry es }) none;
+  canisters = sym (ap (map seen_entry) none);
+  keep = tt;
+}
+
+pub Aside-more : (w : Stored) (turns : List Turn) (p after : Parts) (pairs : List (List ℕ × StoredCanister)) (x : Turn) → Aside w turns p pairs → IsCanister x.canister
+    → after ≡ sent_from x.key x.calls x.answers (record p { burned = p.burned + x.burned }) → Aside w (turns ++ x ∷ []) after (pairs ++ (x.key, x.canister) ∷ [])
+Aside-more w turns p after pairs x so_far keeps after_is =
+    let put_more = sym (fold-append put_turn w turns (x ∷ [])) in
+    let insert_more = fold-append (λ (es : List (List ℕ × StoredCanister)) (e : List ℕ × StoredCanister). insert_entry (slice_cmp nat_cmp) es e.0 e.1) [] pairs ((x.key, x.canister) ∷ []) in
+    record {
+      others = ap stored_of after_is ∙ ap (λ (v : Stored). record v {
+        messages = v.messages ++ x.calls ++ flat_map (routed x.key) x.answers;
+        requests = fold filled v.requests x.answers;
+        burned = v.burned + x.burned;
+      }) so_far.others ∙ ap (λ (v : Stored). record v { canisters = [] }) put_more;
+      canisters = ap (map seen_entry) insert_more ∙ seen-insert (insert_all pairs) x.key x.canister
+          ∙ ap (λ l. insert_entry (slice_cmp nat_cmp) l x.key (seen x.canister)) so_far.canisters ∙ ap (λ (v : Stored). v.canisters) put_more;
+      keep = subst (AllByRecursion (λ (e : List ℕ × StoredCanister). IsCanister e.1)) (sym insert_more) (each-insert IsCanister (insert_all pairs) x.key x.canister keeps so_far.keep);
+    }
+
+pub Aside-end : (w : Stored) (turns : List Turn) (p : Parts) (pairs : List (List ℕ × StoredCanister)) (m : BTreeMap (List ℕ) StoredCanister) → Aside w turns p pairs
+    → m.entries ≡ insert_all pairs → stored_of (record p { canisters = m }) ≡ fold put_turn w turns
+Aside-end w turns p pairs m so_far is =
+    let canisters = ap (map seen_entry) is ∙ so_far.canisters in
+    let others = so_far.others in
+    λ i. record (others i) { canisters = canisters i }
+
 -- ---- slots in their turn
 
 pub all-ready : (env : Env) (w : Stored) (slots : List StoredSlot) → AreReady env w slots → AllByRecursion IsReady slots
@@ -92,20 +131,22 @@ put-same env w slot x is =
       burned = w.burned + burned i;
     }
 
-pub turn_fits : (env : Env) (w : Stored) (slots : List StoredSlot) (all front : List Turn) (x : Turn) → AreReady env w slots → AllZip (IsTurn env) slots all
-    → length front < length all → x ≡ get_or all (length front) x → front ≡ take (length front) all
+pub are_turns : (env : Env) (w : Stored) (slots : List StoredSlot) (all : List Turn) → AreReady env w slots → AllZip (IsTurn env) slots all → AreTurns w all
+are_turns env w [] [] ready zip = tt
+are_turns env w [] (y ∷ all) ready zip = absurd zip
+are_turns env w (slot ∷ slots) [] ready zip = absurd zip
+are_turns env w (slot ∷ slots) (y ∷ all) ready zip =
+    (zip.0.keeps, omega (arith, ready.1, zip.0.burned), subst (λ (v : Stored). AreTurns v all) (sym (put-same env w slot y zip.0)) (are_turns env (settle env w (slot_of slot)) slots all ready.2 zip.1))
+
+pub turn_fits : (w : Stored) (all front : List Turn) (x : Turn) → AreTurns w all → length front < length all → x ≡ get_or all (length front) x → front ≡ take (length front) all
     → IsCanister x.canister × ((fold put_turn w front).burned + x.burned ≤ 2 ^ 127 - 1)
-turn_fits env w [] [] front x ready zip inside is so_far = absurd (not-suc-le-zero inside)
-turn_fits env w [] (y ∷ all) front x ready zip inside is so_far = absurd zip
-turn_fits env w (slot ∷ slots) [] front x ready zip inside is so_far = absurd zip
-turn_fits env w (slot ∷ slots) (y ∷ all) [] x ready zip inside is so_far =
-    subst (λ (z : Turn). IsCanister z.canister × (w.burned + z.burned ≤ 2 ^ 127 - 1)) (sym is) (zip.0.keeps, omega (arith, ready.1, zip.0.burned))
-turn_fits env w (slot ∷ slots) (y ∷ all) (z ∷ front) x ready zip inside is so_far =
+turn_fits w [] front x turns inside is so_far = absurd (not-suc-le-zero inside)
+turn_fits w (y ∷ all) [] x turns inside is so_far = subst (λ (z : Turn). IsCanister z.canister × (w.burned + z.burned ≤ 2 ^ 127 - 1)) (sym is) (turns.0, turns.1)
+turn_fits w (y ∷ all) (z ∷ front) x turns inside is so_far =
     let first : z ≡ y = cc in
     let rest : front ≡ take (length front) all = cc in
-    let more = turn_fits env (settle env w (slot_of slot)) slots all front x ready.2 zip.1 (omega (arith, inside)) is rest in
-    let same : put_turn w z ≡ settle env w (slot_of slot) = ap (put_turn w) first ∙ put-same env w slot y zip.0 in
-    subst (λ (v : Stored). IsCanister x.canister × ((fold put_turn v front).burned + x.burned ≤ 2 ^ 127 - 1)) (sym same) more
+    let more = turn_fits (put_turn w y) all front x turns.2 (omega (arith, inside)) is rest in
+    subst (λ (v : Turn). IsCanister x.canister × ((fold put_turn (put_turn w v) front).burned + x.burned ≤ 2 ^ 127 - 1)) (sym first) more
 
 pub turns_all : (env : Env) (w : Stored) (slots : List StoredSlot) (all : List Turn) → AllZip (IsTurn env) slots all → fold put_turn w all ≡ fold (settle env) w (map slot_of slots)
 turns_all env w [] [] zip = refl

@@ -1,5 +1,5 @@
 -- Slots are worked on side by side, and what came of them is put in their order. No standard has this.
-use Rattle.std.specs.Prelude.{◌≡◌, ℕ, ◌+◌, ◌++◌}
+use Rattle.std.specs.Prelude.{◌≡◌, ℕ, ◌+◌, ◌-◌, ◌≤◌, ◌^◌, List, [], ◌∷◌, ◌++◌}
 use Rattle.std.specs.List.{flat_map, fold}
 use Rattle.std.specs.BTreeMap.{insert_entry}
 use Rattle.std.specs.Ordering.{nat_cmp}
@@ -29,6 +29,15 @@ put_turn w x = record w {
   requests = fold filled w.requests x.answers;
   burned = w.burned + x.burned;
 }
+
+-- one after another: what was burned until then stays within what was created
+abbrev pub AreTurns : Stored → List Turn → Type 0
+AreTurns w [] = Unit {0}
+AreTurns w (x ∷ xs) = IsCanister x.canister × (w.burned + x.burned ≤ 2 ^ 127 - 1) × AreTurns (put_turn w x) xs
+
+-- pairs are inserted one after another
+abbrev pub insert_all : {X : Type 0} → List (List ℕ × X) → List (List ℕ × X)
+insert_all pairs = fold (λ es e. insert_entry (slice_cmp nat_cmp) es e.0 e.1) [] pairs
 
 -- an entry of an outbox: the slot with this number was handled so
 pub record Entry : Type 0 where

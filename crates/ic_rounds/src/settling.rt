@@ -1,9 +1,9 @@
-ghost use Rattle.std.specs.Prelude.{◌≡◌, ◌+◌, ◌-◌, ◌<◌, ◌≤◌, ◌^◌, ℕ, List, map, IfOk, OnOk, vec_len};
+ghost use Rattle.std.specs.Prelude.{◌≡◌, ◌+◌, ◌-◌, ◌<◌, ◌≤◌, ◌^◌, ℕ, List, [], map, IfOk, OnOk, vec_len};
 ghost use Rattle.std.specs.List.{fold, AllByRecursion};
 ghost use Rattle.ic_state.specs.declared.canister.Canister.{Canister as ACanister};
 ghost use Rattle.ic_state.specs.IsCanister.{IsCanister};
 ghost use Rattle.ic_rounds.specs.Settling.{stored_of, slot_of, settle, AreReady, AreCanisters, IsBack};
-ghost use Rattle.ic_rounds.specs.Turns.{put_turn};
+ghost use Rattle.ic_rounds.specs.Turns.{put_turn, insert_all, AreTurns};
 
 use crate::phase::turns_of;
 use crate::slot::Slot;
@@ -14,6 +14,7 @@ use ic_outside::Gate;
 use ic_principal::Principal;
 use ic_state::{CanisterPlace, Env, Parts};
 use std::alloc::Global;
+use std::collections::BTreeMap;
 use std::thread::Threads;
 
 // Puts a canister into the map; what it burned was burned.
@@ -50,6 +51,42 @@ fn settle(parts: &mut Parts, turn: Turn) -> Result<(), NoMemory>
     send(parts, &key, calls, answers)
 }
 
+// The map of these canisters.
+fn made(
+    alloc: Global,
+    canisters: Vec<(Principal, CanisterPlace)>,
+) -> Result<BTreeMap<Principal, CanisterPlace>, NoMemory>
+    ensures { IfOk result (λ m. m.entries ≡ insert_all canisters.items) }
+{
+    let map = canisters.into_iter().collect(alloc)?;
+    Ok(map)
+}
+
+// Puts what came of slots where it belongs, where all canisters are in slots. Their map is made at once.
+fn all_settled(alloc: Global, parts: Parts, turns: Vec<Turn>) -> Result<Parts, NoMemory>
+    requires none { parts.canisters.entries ≡ [] }
+    requires turns { AreTurns (stored_of parts) turns.items }
+    ensures stored { IfOk result (λ p. stored_of p ≡ fold put_turn (stored_of parts) turns.items) }
+    ensures keep { IfOk result AreCanisters }
+{
+    let mut parts = parts;
+    let mut canisters = Vec::with_capacity(alloc, turns.len())?;
+    for turn in turns {
+        parts.burned += turn.burned;
+        let Turn {
+            key,
+            canister,
+            calls,
+            answers,
+            ..
+        } = turn;
+        send(&mut parts, &key, calls, answers)?;
+        canisters.push_reserved((key, canister));
+    }
+    parts.canisters = made(alloc, canisters)?;
+    Ok(parts)
+}
+
 /// Handles the messages of slots on up to `workers` workers, and puts back their canisters, in the
 /// order of the slots.
 pub fn settled<R: Threads + Sync, G: Gate + Sync>(
@@ -71,6 +108,9 @@ pub fn settled<R: Threads + Sync, G: Gate + Sync>(
     ensures keep { IfOk result AreCanisters }
 {
     let turns = turns_of(alloc, rt, slots, workers, env, gate)?;
+    if parts.canisters.is_empty() {
+        return all_settled(alloc, parts, turns);
+    }
     let mut parts = parts;
     for turn in turns {
         settle(&mut parts, turn)?;
