@@ -76,8 +76,8 @@ pub record Seen {S : Type 0} (left : S → Option (List ℕ)) (ended : S → Boo
   pub at_end : IsTrue now.ended → IsTrue start.ended ⊎ IsAtEnd (left source)
   pub gave_end : IsTrue now.ended → IsTrue start.ended ⊎ IsTrue (ended source)
   pub untouched : ((source ≡ before) × (read ≡ [])) ⊎ (HasNoLf start.kept × (start.ended ≡ false))
-  pub later : faults before ≤ faults source
-  pub sure : cannot_fail before → cannot_fail source × (faults source ≡ faults before)
+  pub counted : faults source ≡ faults before
+  pub sure : cannot_fail before → cannot_fail source
 
 module _ {S : Type 0} (left : S → Option (List ℕ)) (ended : S → Bool) (faults : S → ℕ) (cannot_fail : S → Type 0) (start : LineReader) (before : S) where
   pub Seen-none : Seen left ended faults cannot_fail start before start before
@@ -90,8 +90,8 @@ module _ {S : Type 0} (left : S → Option (List ℕ)) (ended : S → Bool) (fau
     at_end = λ h. inl h;
     gave_end = λ h. inl h;
     untouched = inl (refl, refl);
-    later = omega arith;
-    sure = λ h. (h, refl);
+    counted = refl;
+    sure = λ h. h;
   }
 
   module _ (now : LineReader) (source : S) (seen : Seen left ended faults cannot_fail start before now source) where
@@ -107,9 +107,9 @@ module _ {S : Type 0} (left : S → Option (List ℕ)) (ended : S → Bool) (fau
     ends block none size = record { before = seen.read; block = block; parts = refl; no_lf = subst HasNoLf kept_is none; size = size }
 
     pub Seen-filled : (next : LineReader) (after : S) → HasNoLf now.kept → now.ended ≡ false → Filled now (left source) (left after) (ended after) next
-        → faults source ≤ faults after → (cannot_fail source → cannot_fail after × (faults after ≡ faults source))
+        → faults after ≡ faults source → (cannot_fail source → cannot_fail after)
         → Seen left ended faults cannot_fail start before next after
-    Seen-filled next after none going filled later sure =
+    Seen-filled next after none going filled counted sure =
         let first = begun none going in
         let is_next : next ≡ grown start (seen.read ++ filled.read) filled.ended =
         filled.reader ∙ ap (λ r. grown r filled.read filled.ended) seen.reader ∙ ap (λ k. with_kept start k filled.ended) (append_assoc start.kept seen.read filled.read) in
@@ -124,11 +124,8 @@ module _ {S : Type 0} (left : S → Option (List ℕ)) (ended : S → Bool) (fau
           at_end = λ h. inr (over h).0;
           gave_end = λ h. inr (over h).1;
           untouched = inr first;
-          later = omega (arith, seen.later, later);
-          sure = λ h.
-              let old = seen.sure h in
-              let new = sure old.0 in
-              (new.0, new.1 ∙ old.1);
+          counted = counted ∙ seen.counted;
+          sure = λ h. sure (seen.sure h);
         }
 
     -- nothing was read where a whole line was kept or the end was given

@@ -11,19 +11,8 @@ pub record Sent {K : Type 0} (taken : K → Option (List ℕ)) (faults : K → �
   pub whole : bytes ≡ sent ++ rest
   pub appended : taken sink ≡ append_known (taken start) sent
   pub fell : fits start ≡ room_before (length sent) (fits sink)
-  pub later : faults start ≤ faults sink
-  pub sure : IfSome (fits start) (λ room. faults sink ≡ faults start)
+  pub counted : faults sink ≡ faults start
   pub nothing : bytes ≡ [] → sink ≡ start
-
--- a write that took bytes had room for them
-sure-more : (start at after : Option ℕ) (before now then : ℕ) (sent len n : ℕ) → start ≡ room_before sent at → at ≡ room_before n after → 0 < n
-    → IfSome start (λ room. now ≡ before) → IfSome at (λ room. (0 < len → 0 < room) → then ≡ now) → IfSome start (λ room. then ≡ before)
-sure-more None at after before now then sent len n told is some first second = tt
-sure-more (Some room) None after before now then sent len n told is some first second = cc
-sure-more (Some room) (Some left) None before now then sent len n told is some first second = cc
-sure-more (Some room) (Some left) (Some rest) before now then sent len n told is some first second =
-    let enough : left ≡ rest + n = ap (λ o. unwrap_or o 0) is in
-    second (λ _. omega (arith, enough)) ∙ first
 
 -- where all the bytes fit, a write of the rest does not fail
 pub broke : (start at : Option ℕ) (total sent rest : ℕ) → total ≡ sent + rest → 0 < rest → start ≡ room_before sent at
@@ -41,19 +30,14 @@ module _ {K : Type 0} (taken : K → Option (List ℕ)) (faults : K → ℕ) (fi
     whole = refl;
     appended = sym (append_known-nil (taken start));
     fell = room_before-none (fits start);
-    later = omega arith;
-    sure = same (fits start);
+    counted = refl;
     nothing = λ e. refl;
-  } where
-    same : (room : Option ℕ) → IfSome room (λ _. faults start ≡ faults start)
-    same None = tt
-    same (Some room) = refl
+  }
 
   pub Sent-more : (sink : K) (rest : List ℕ) (next : K) (left : List ℕ) (n : ℕ) → Sent taken faults fits start bytes sink rest → n ≤ length rest → 0 < length rest → 0 < n
-      → left ≡ drop n rest → taken next ≡ append_known (taken sink) (take n rest) → faults sink ≤ faults next → fits sink ≡ room_before n (fits next)
-      → IfSome (fits sink) (λ room. (0 < length rest → 0 < room) → faults next ≡ faults sink)
+      → left ≡ drop n rest → taken next ≡ append_known (taken sink) (take n rest) → faults next ≡ faults sink → fits sink ≡ room_before n (fits next)
       → Sent taken faults fits start bytes next left
-  Sent-more sink rest next left n so_far within some took is_left appended later fell sure =
+  Sent-more sink rest next left n so_far within some took is_left appended counted fell =
       let front = take n rest in
       let whole : bytes ≡ (so_far.sent ++ front) ++ left =
       so_far.whole ∙ ap (λ l. so_far.sent ++ l) (sym (take-append-drop n rest) ∙ ap (λ l. front ++ l) (sym is_left)) ∙ sym (append_assoc so_far.sent front left) in
@@ -63,7 +47,6 @@ module _ {K : Type 0} (taken : K → Option (List ℕ)) (faults : K → ℕ) (fi
         whole = whole;
         appended = appended ∙ ap (λ k. append_known k front) so_far.appended ∙ sym (append_known-append (taken start) so_far.sent front);
         fell = so_far.fell ∙ ap (room_before (length so_far.sent)) fell ∙ room_before-more (length so_far.sent) n (fits next) ∙ ap (λ k. room_before k (fits next)) (sym grown);
-        later = omega (arith, so_far.later);
-        sure = sure-more (fits start) (fits sink) (fits next) (faults start) (faults sink) (faults next) (length so_far.sent) (length rest) n so_far.fell fell took so_far.sure sure;
+        counted = counted ∙ so_far.counted;
         nothing = λ none. absurd (omega (arith, ap length none, ap length so_far.whole, length-append so_far.sent rest));
       }

@@ -1,9 +1,9 @@
 //! The outside of a replica: sources of bytes and sinks for bytes, the lines of a script, sending,
 //! and the gate at which a test may hold a worker.
 //!
-//! A stream tells what it has left or has taken where it can, and counts its faults. Every read or
-//! write that is said to have failed has its cause in such a count, so that no body can answer a
-//! fault of a stream that was none. Lines are the bytes before each LF (0A hex); a script's largest line and largest size are
+//! A stream tells what it has left or has taken where it can, and counts its faults: one for each read
+//! or write that fails. Calls say by how much such a count rises, so that no body can answer a fault of
+//! a stream that was none, or try once more what failed. Lines are the bytes before each LF (0A hex); a script's largest line and largest size are
 //! limits that the reader keeps.
 #![tactic(auto)]
 

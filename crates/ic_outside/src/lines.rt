@@ -1,7 +1,7 @@
 ghost use Rattle.std.specs.Prelude.{◌≡◌, ◌<◌, ◌≤◌, ◌+◌, ◌-◌, ◌^◌, ◌⊎◌, ◌≢◌, ℕ, List, [], Option, None, Some, Err, IsTrue, false, Contains, length, take, vec_len, IfSome, IfOk, IfErr, OnOk, OnErr, MatchOption, MatchResult};
 ghost use Rattle.std.specs.Bool.{OnTrue, OnFalse};
 ghost use Rattle.std.specs.Io.KnownBytes.{prepend_known, IsAtEnd};
-ghost use Rattle.ic_outside.specs.Faults.{Rose};
+ghost use Rattle.ic_outside.specs.Faults.{Rose, count_after_line};
 ghost use Rattle.ic_outside.specs.Limits.{excess};
 ghost use Rattle.ic_outside.specs.Pieces.{HasNoLf};
 ghost use Rattle.ic_outside.specs.Reads.{Reads, AnswersBySeen};
@@ -101,6 +101,8 @@ impl Lines {
         // Where a whole line is kept nothing is read.
         ensures kept { Contains self.old.kept 10 → source.new ≡ source.old }
         ensures gave_end { IsTrue self.new.ended → IsTrue self.old.ended ⊎ IsTrue (S.ended source.new) }
+        // The source's count is one more exactly where the source fails now.
+        ensures counted { self.old.fault ≡ None → S.faults source.new ≡ count_after_line (S.faults source.old) result }
         ensures later { S.faults source.old ≤ S.faults source.new }
         ensures cause { result ≡ Err LineFault.ReadFault
             → (self.old.fault ≡ Some LineFault.ReadFault) ⊎ Rose (S.faults source.old) (S.faults source.new) }
@@ -137,8 +139,7 @@ impl Lines {
         ensures fault { self.new.fault ≡ self.old.fault }
         ensures untouched { (source.new ≡ source.old) ⊎ (HasNoLf self.old.kept × (self.old.ended ≡ false)) }
         ensures gave_end { IsTrue self.new.ended → IsTrue self.old.ended ⊎ IsTrue (S.ended source.new) }
-        ensures later { S.faults source.old ≤ S.faults source.new }
-        ensures cause { result ≡ Err LineFault.ReadFault → Rose (S.faults source.old) (S.faults source.new) }
+        ensures counted { S.faults source.new ≡ count_after_line (S.faults source.old) result }
         ensures sure { S.cannot_fail source.old → S.cannot_fail source.new
             × (S.faults source.new ≡ S.faults source.old) × (result ≢ Err LineFault.ReadFault) }
     {
@@ -265,8 +266,7 @@ impl Lines {
             (Filled self.old (S.left source.old) (S.left source.new) (S.ended source.new) self.new) }
         ensures unfilled { IfErr result (Unfilled (S.left source.old) (S.left source.new)) }
         ensures as_before { OnErr result (self.new ≡ self.old) }
-        ensures later { S.faults source.old ≤ S.faults source.new }
-        ensures cause { result ≡ Err LineFault.ReadFault → Rose (S.faults source.old) (S.faults source.new) }
+        ensures counted { S.faults source.new ≡ count_after_line (S.faults source.old) result }
         ensures sure { S.cannot_fail source.old → S.cannot_fail source.new
             × (S.faults source.new ≡ S.faults source.old) × (result ≢ Err LineFault.ReadFault) }
     {
@@ -293,12 +293,13 @@ fn read_block<S: Source>(
 ) -> Result<usize, LineFault>
     requires { IsBlock (vec_len block.old) }
     ensures block { IsBlock (vec_len block.new) }
+    // One block is asked for at a time.
+    ensures asked { vec_len block.new ≤ 65536 }
     ensures bound { IfOk result (λ n. n ≤ vec_len block.new) }
     ensures taken { IfOk result (λ n. S.left source.old ≡ prepend_known (take n block.new.items) (S.left source.new)) }
     ensures at_end { IfOk result (λ n. n ≡ 0 → IsAtEnd (S.left source.new) × IsTrue (S.ended source.new)) }
     ensures unfilled { IfErr result (Unfilled (S.left source.old) (S.left source.new)) }
-    ensures later { S.faults source.old ≤ S.faults source.new }
-    ensures cause { result ≡ Err LineFault.ReadFault → Rose (S.faults source.old) (S.faults source.new) }
+    ensures counted { S.faults source.new ≡ count_after_line (S.faults source.old) result }
     ensures sure { S.cannot_fail source.old → S.cannot_fail source.new
         × (S.faults source.new ≡ S.faults source.old) × (result ≢ Err LineFault.ReadFault) }
 {

@@ -1,6 +1,6 @@
 ghost use Rattle.std.specs.Prelude.{◌≡◌, ◌<◌, ◌≤◌, ◌^◌, ℕ, List, [], Option, Some, Ok, Err, length, IfOk, IfSome, if◌then◌else◌};
 ghost use Rattle.std.specs.Io.KnownBytes.{append_known};
-ghost use Rattle.ic_outside.specs.Faults.{HasCause, capped};
+ghost use Rattle.ic_outside.specs.Faults.{capped, count_after};
 ghost use Rattle.ic_outside.specs.Given.{bytes_moved};
 ghost use Rattle.ic_outside.specs.Reading.{IsSure};
 ghost use Rattle.ic_outside.specs.Writing.{count_moved, room_before};
@@ -95,7 +95,7 @@ impl Sink for MemorySink {
         ensures bound { IfOk result (λ n. n ≤ length piece.now) }
         ensures some { IfOk result (λ n. 0 < length piece.now → 0 < n) }
         ensures appended { Some self.new.taken ≡ append_known (Some self.old.taken) (bytes_moved result piece.now) }
-        ensures cause { HasCause (capped self.old.faults) (capped self.new.faults) result }
+        ensures counted { capped self.new.faults ≡ count_after (capped self.old.faults) result }
         ensures room { room_without_faults self.old ≡ room_before (count_moved result) (room_without_faults self.new) }
         ensures fitting { IfSome (room_without_faults self.old) (λ room. (0 < length piece.now → 0 < room)
             → IsSure (capped self.old.faults) (capped self.new.faults) result) }

@@ -1,7 +1,7 @@
 ghost use Rattle.std.specs.Prelude.{◌≡◌, [], ◌||◌, ◌<◌, ◌≤◌, false, Some, Ok, Err, length, take, IfOk, if◌then◌else◌};
 ghost use Rattle.std.specs.Io.{ReadsAtMost};
 ghost use Rattle.std.specs.Io.KnownBytes.{prepend_known, IsAtEnd};
-ghost use Rattle.ic_outside.specs.Faults.{HasCause, capped};
+ghost use Rattle.ic_outside.specs.Faults.{capped, count_after};
 ghost use Rattle.ic_outside.specs.Given.{bytes_moved, gives_end};
 ghost use Rattle.ic_outside.specs.Reading.{IsSure};
 ghost use Rattle.ic_outside.specs.MemoryReader.{read_fails, read_size, after_read};
@@ -85,7 +85,7 @@ impl Source for MemorySource {
         ensures taken { Some self.old.left ≡ prepend_known (bytes_moved result buffer.new) (Some self.new.left) }
         ensures at_end { IfOk result (λ n. n ≡ 0 → 0 < length buffer.new → IsAtEnd (Some self.new.left)) }
         ensures ended { self.new.ended ≡ (self.old.ended || gives_end result buffer.new) }
-        ensures cause { HasCause (capped self.old.faults) (capped self.new.faults) result }
+        ensures counted { capped self.new.faults ≡ count_after (capped self.old.faults) result }
         ensures sure { self.old.failing ≡ []
             → (self.new.failing ≡ []) × IsSure (capped self.old.faults) (capped self.new.faults) result }
         // It fails exactly at the reads whose numbers stand in the list.

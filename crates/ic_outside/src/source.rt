@@ -1,7 +1,7 @@
 ghost use Rattle.std.specs.Prelude.{◌≡◌, ◌||◌, ◌<◌, ◌^◌, ℕ, List, Bool, Option, IsTrue, length, IfOk};
 ghost use Rattle.std.specs.Io.{ReadsAtMost};
 ghost use Rattle.std.specs.Io.KnownBytes.{prepend_known, IsAtEnd};
-ghost use Rattle.ic_outside.specs.Faults.{HasCause};
+ghost use Rattle.ic_outside.specs.Faults.{count_after};
 ghost use Rattle.ic_outside.specs.Given.{bytes_moved, gives_end};
 ghost use Rattle.ic_outside.specs.Reading.{IsSure};
 
@@ -12,7 +12,7 @@ pub trait Source {
     // The bytes left, where the source tells them. Whether it tells them never changes.
     ghost left: { Self → Option (List ℕ) };
 
-    // A count of faults that never falls, and rises where a read fails, up to 2^64-1.
+    // A count of faults: one more for each read that fails, up to 2^64-1.
     ghost faults: { Self → ℕ };
 
     // No read will fail.
@@ -28,7 +28,7 @@ pub trait Source {
         ensures taken { left self.old ≡ prepend_known (bytes_moved result buffer.new) (left self.new) }
         ensures at_end { IfOk result (λ n. n ≡ 0 → 0 < length buffer.new → IsAtEnd (left self.new)) }
         ensures ended { ended self.new ≡ (ended self.old || gives_end result buffer.new) }
-        ensures cause { HasCause (faults self.old) (faults self.new) result }
+        ensures counted { faults self.new ≡ count_after (faults self.old) result }
         ensures sure { cannot_fail self.old → cannot_fail self.new × IsSure (faults self.old) (faults self.new) result };
 
     // A law: the count fits 64 bits.

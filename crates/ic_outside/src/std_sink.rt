@@ -1,6 +1,6 @@
 ghost use Rattle.std.specs.Prelude.{◌≡◌, ◌<◌, ◌≤◌, ◌^◌, ℕ, List, Option, None, Ok, Err, length, IfOk, IfSome};
 ghost use Rattle.std.specs.Io.KnownBytes.{append_known};
-ghost use Rattle.ic_outside.specs.Faults.{HasCause, capped, count_after};
+ghost use Rattle.ic_outside.specs.Faults.{capped, count_after};
 ghost use Rattle.ic_outside.specs.Given.{bytes_moved};
 ghost use Rattle.ic_outside.specs.Reading.{IsSure};
 ghost use Rattle.ic_outside.specs.Writing.{count_moved, room_before};
@@ -59,7 +59,7 @@ impl<W: Write> Sink for StdSink<W> {
         ensures bound { IfOk result (λ n. n ≤ length piece.now) }
         ensures some { IfOk result (λ n. 0 < length piece.now → 0 < n) }
         ensures appended { None ≡ append_known None (bytes_moved result piece.now) }
-        ensures cause { HasCause (capped (sink_faults self.old)) (capped (sink_faults self.new)) result }
+        ensures counted { capped (sink_faults self.new) ≡ count_after (capped (sink_faults self.old)) result }
         ensures room { None ≡ room_before (count_moved result) None }
         ensures fitting { IfSome None (λ room. (0 < length piece.now → 0 < room)
             → IsSure (capped (sink_faults self.old)) (capped (sink_faults self.new)) result) }

@@ -1,7 +1,7 @@
 ghost use Rattle.std.specs.Prelude.{◌≡◌, ◌||◌, ◌<◌, ◌^◌, ℕ, List, Bool, false, Option, None, Ok, Err, IsTrue, length, IfOk};
 ghost use Rattle.std.specs.Io.{ReadsAtMost};
 ghost use Rattle.std.specs.Io.KnownBytes.{prepend_known, IsAtEnd, ReadConsumes};
-ghost use Rattle.ic_outside.specs.Faults.{HasCause, capped, count_after};
+ghost use Rattle.ic_outside.specs.Faults.{capped, count_after};
 ghost use Rattle.ic_outside.specs.Given.{bytes_moved, gives_end};
 ghost use Rattle.ic_outside.specs.Reading.{IsSure};
 ghost use Rattle.ic_outside.specs.StdEnds.{std_reader, source_faults, source_ended};
@@ -51,7 +51,7 @@ impl<R: Read> Source for StdSource<R> {
         ensures taken { None ≡ prepend_known (bytes_moved result buffer.new) None }
         ensures at_end { IfOk result (λ n. n ≡ 0 → 0 < length buffer.new → IsAtEnd None) }
         ensures ended { source_ended self.new ≡ (source_ended self.old || gives_end result buffer.new) }
-        ensures cause { HasCause (capped (source_faults self.old)) (capped (source_faults self.new)) result }
+        ensures counted { capped (source_faults self.new) ≡ count_after (capped (source_faults self.old)) result }
         ensures sure { ⊥
             → ⊥ × IsSure (capped (source_faults self.old)) (capped (source_faults self.new)) result }
         // The count rises exactly where the call fails.

@@ -34,7 +34,7 @@ pub reading-preserved : goal.reading-preserved
 reading-preserved g c =
     let going : c.reading.self.ended ≡ false = sym (ap (λ r. r.ended) c.self.view_is) ∙ c.if-self.false in
     Seen-filled _ _ _ _ _ _ c.reading.self c.reading.source c.reading.invariant c.fill.new.self c.fill.new.source
-    c.in_default.ensures going c.in_default-fill.ensures.filled c.fill.ensures.later (λ h. let sure = c.fill.ensures.sure h in (sure.0, sure.1))
+    c.in_default.ensures going c.in_default-fill.ensures.filled c.in_default-fill.ensures.counted (λ h. (c.fill.ensures.sure h).0)
 
 pub reading-smaller : goal.reading-smaller
 reading-smaller g c =

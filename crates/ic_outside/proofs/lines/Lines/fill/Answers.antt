@@ -1,8 +1,8 @@
-use Rattle.std.proofs.Common.{◌≡◌, ℕ, ◌<◌, ◌≤◌, inl, inr, List, [], ◌++◌, length, take, ap, sym, subst, ◌∙◌, append-nil, length-take, vec_len, false, arith}
+use Rattle.std.proofs.Common.{◌≡◌, ℕ, ◌<◌, ◌≤◌, List, [], ◌++◌, length, take, ap, sym, subst, ◌∙◌, append-nil, length-take, false, arith}
 use Rattle.ic_outside.specs.LinesInside.{IsSound, reader_of}
 use Rattle.std.specs.Io.KnownBytes.{prepend_known}
 use Rattle.ic_outside.specs.LineReader.{LineReader}
-use Rattle.ic_outside.specs.Steps.{IsBlock, Filled}
+use Rattle.ic_outside.specs.Steps.{Filled}
 use Rattle.ic_outside.proofs.Seen.{not_both}
 use Rattle.ic_outside.proofs.InsideLaws.{IsSound-filled}
 use Rattle.ic_outside.proofs.lines.Lines.fill.Goals as goal
@@ -27,9 +27,7 @@ invariant_of-self-in-Ok g c =
     λ read is short. IsSound-filled l c.args.self.now _ read c.push.new.self _ l.ended c.self.invariant c.self.view_is c.requires.one_line c.requires.fits
     (ap length c.as_slice.ensures) is short c.read_block.ensures.block in
     let bytes = take c.in-Ok.count c.deref.result.now in
-    let block : IsBlock (vec_len c.read_block.new.block) = c.read_block.ensures.block in
-    let most : vec_len c.read_block.new.block ≤ 65536 = elim block [ inl e ↦ omega arith | inr e ↦ omega arith ] in
-    let short : length bytes ≤ 65536 = omega (arith, length-take c.in-Ok.count c.deref.result.now, c.deref.ensures.len, most) in
+    let short : length bytes ≤ 65536 = omega (arith, length-take c.in-Ok.count c.deref.result.now, c.deref.ensures.len, c.read_block.ensures.asked) in
     elim c.match-push.branch [
       | in-Ok-push w ↦ sound bytes w.in-Ok-push.ensures.ok short
       | in-Err-push w ↦ sound [] (w.in-Err-push.ensures.err ∙ sym (append-nil l.kept)) (omega arith)
@@ -41,8 +39,6 @@ returns-after-push-clause-filled g c =
     let bytes = take c.in-Ok.count c.deref.result.now in
     let going : l.ended ≡ false = ap (λ r. r.ended) c.self.view_is ∙ c.requires.going in
     let some : 0 < length bytes = omega (arith, length-take c.in-Ok.count c.deref.result.now, c.deref.ensures.len, c.in-Ok.ensures.bound, c.in-Ok.count-test.1) in
-    let block : IsBlock (vec_len c.read_block.new.block) = c.read_block.ensures.block in
-    let most : vec_len c.read_block.new.block ≤ 65536 = elim block [ inl e ↦ omega arith | inr e ↦ omega arith ] in
     let is_read : bytes ≡ take c.in-Ok.count c.read_block.new.block.items = ap (take c.in-Ok.count) c.deref.ensures.value in
     let before = g.S.Source.left c.args.source.now in
     let after = g.S.Source.left c.read_block.new.source in
@@ -53,7 +49,7 @@ returns-after-push-clause-filled g c =
       ended = l.ended;
       taken = c.in-Ok.ensures.taken ∙ ap (λ b. prepend_known b after) (sym is_read);
       reader = ap (λ k. record (reader_of l) { kept = k }) is_kept;
-      size = omega (arith, length-take c.in-Ok.count c.deref.result.now, c.deref.ensures.len, most);
+      size = omega (arith, length-take c.in-Ok.count c.deref.result.now, c.deref.ensures.len, c.read_block.ensures.asked);
       some = λ _. some;
       at_end = λ h. absurd (not_both l.ended h going);
     }) in
