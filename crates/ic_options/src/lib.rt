@@ -7,6 +7,8 @@
 //! that asks for help is refused.
 #![tactic(auto)]
 
+mod words;
+
 ghost use Rattle.std.specs.Prelude.{◌≡◌, IfOk, IfSome, [], false, map, string_bytes};
 ghost use Rattle.clap.specs.Words.{app_of, groups_of, rule_of};
 ghost use Rattle.clap.specs.declared.builder.command.Command.TheViews.{out-Command};
@@ -18,6 +20,7 @@ use clap::error::ErrorKind;
 use clap::{Arg, Command};
 use ic_base::NoMemory;
 use std::alloc::{AllocError, Global};
+pub use words::words_of;
 
 /// What the words of the command line ask for.
 #[derive(Clone, Copy, Debug)]
