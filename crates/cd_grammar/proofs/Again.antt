@@ -13,7 +13,7 @@ use Rattle.cd_grammar.specs.declared.written.Written.TheVariants.{Opt, Seq, Rec,
 use Rattle.cd_grammar.specs.Words.{spelling}
 use Rattle.cd_grammar.specs.Grammar.{Writes, WritesField, WritesCase, after_field, no_place, WritesArgument, WritesTuple, WritesNotes, WritesFunction, WritesMethod, WritesName, WritesService, WritesFields, WritesInner, WritesBehind, WritesType, WritesMethodType}
 use Rattle.cd_grammar.specs.Read.{Reads, is_mark, starts, named_at, labelled_at, field_at, case_at, argument_at, tuple_at, first_note, notes_at, function_at, method_at, service_at, fields_at, inner_at, behind_word_at, type_at, method_type_at}
-use Rattle.cd_grammar.proofs.Words.{word_again, free_again, name_no_word, note_again}
+use Rattle.cd_grammar.proofs.Words.{word_again, free_again, argument_name_again, argument_no_mark, name_no_word, note_again}
 use Rattle.cd_grammar.proofs.PartLemmas.{Complete, enclosed_again}
 use Rattle.cd_grammar.proofs.Takes.{first_way, second_way}
 
@@ -155,7 +155,7 @@ argument_again P read begins law next before part after front rest w free = elim
   | inl alone ↦
       let b = begins before part after front rest alone free in
       alone_argument read next before part after (front ++ rest) b.more rest b.first b.is b.second (law before part after front rest alone free)
-  | inr n ↦ rw (n.2, free_again n.0 n.3) (law before part after n.1 rest n.4 free)
+  | inr n ↦ rw (n.2, argument_name_again n.0 n.3) (law before part after n.1 rest n.4 free)
 ]
 
 method_again : (M : Writes Part) (read : Reads Part) → Complete is_free M read → (next : ℕ) → Complete is_free (WritesMethod M next) (method_at read next)
@@ -181,7 +181,7 @@ case_on P next before field after front rest w = elim w [
 argument_on : (depth next : ℕ) (before : List Written) (part : Part) (after : List Written) (front rest : List Token) → WritesArgument (WritesType depth) next before part after front → starts (is_mark 41) (front ++ rest) ≡ false
 argument_on depth next before part after front rest w = elim w [
   | inl alone ↦ let f = first_run depth before part after front alone in run_no_end front rest f.1 f.0 41 f.2
-  | inr n ↦ run_no_end front rest (mark 58 ∷ n.1) n.0 41 n.2
+  | inr n ↦ rw n.2 (argument_no_mark n.0 41 n.3)
 ]
 
 method_on : (M : Writes Part) (next : ℕ) (before : List Written) (method : List ℕ × Part) (after : List Written) (front rest : List Token) → WritesMethod M next before method after front → starts (is_mark 125) (front ++ rest) ≡ false

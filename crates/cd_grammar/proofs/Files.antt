@@ -18,8 +18,8 @@ use Rattle.cd_grammar.specs.declared.written.Main.{Main}
 use Rattle.cd_grammar.specs.File.{File}
 use Rattle.cd_grammar.specs.Words.{word}
 use Rattle.cd_grammar.specs.Grammar.{Writes, WritesName, WritesService, WritesType, WritesMethodType, IsEnd, IsServiceName, WritesInstalled, WritesMain, WritesDefinition, WritesRest, WritesFile, IsFile}
-use Rattle.cd_grammar.specs.Read.{is_mark, is_arrow, starts, then_make, token_word, free_name, tuple_at, named_at, service_at, type_at, method_type_at, definition_at, is_type, is_service, passes, is_word, are_none, behind_definition, definitions_at, past_colon, past_name, past_arrow, installed_at, served_at, is_end, main_of, main_at, rest_at, with_rest, file_at}
-use Rattle.cd_grammar.proofs.Words.{true_or_false, started, arrow_started, token_takes, free_takes, word_again, free_again}
+use Rattle.cd_grammar.specs.Read.{is_mark, is_arrow, starts, then_make, token_word, free_name, tuple_at, named_at, service_at, type_at, method_type_at, definition_at, is_type, is_service, passes, is_word, are_none, behind_definition, definitions_at, is_any_word, past_colon, past_name, past_arrow, installed_at, served_at, is_end, main_of, main_at, rest_at, with_rest, file_at}
+use Rattle.cd_grammar.proofs.Words.{true_or_false, started, arrow_started, token_takes, free_takes, any_word_takes, word_again, free_again}
 use Rattle.cd_grammar.proofs.PartLemmas.{Takes}
 use Rattle.cd_grammar.proofs.Takes.{made_of, chosen, first_way, second_way, named_takes, tuple_takes, service_takes, type_takes, method_type_takes}
 use Rattle.cd_grammar.proofs.Again.{is_free, named_again, tuple_again, service_again, type_again, method_type_again}
@@ -103,14 +103,16 @@ name_part (t ∷ more) rest e = elim (true_or_false (is_mark 58 t)) [
       let f : Some more ≡ Some rest = rw colon at e in
       ([], started 58 (t ∷ more) colon ∙ ap (λ (ts : List Token). mark 58 ∷ ts) (some_is {A = List Token} more rest f), inl refl)
   | inr named ↦
-      let f : (free_name t >>= λ name. past_colon more) ≡ Some rest = rw named at e in
-      let a = bind_some (free_name t) (λ name. past_colon more) rest f in
-      let n = free_takes t a.0 a.1 in
-      elim (true_or_false (starts (is_mark 58) more)) [
-        | inl colon ↦
-            let g : Some (drop 1 more) ≡ Some rest = rw colon at a.2 in
-            (t ∷ [], ap (λ (ts : List Token). t ∷ ts) (started 58 more colon ∙ ap (λ (ts : List Token). mark 58 ∷ ts) (some_is {A = List Token} (drop 1 more) rest g)), inr (a.0, ap (λ (x : Token). x ∷ []) n.0, n.1))
-        | inr never ↦ let g : None ≡ Some rest = rw never at a.2 in absurd cc
+      let f : (if is_any_word t then past_colon more else None) ≡ Some rest = rw named at e in
+      elim (chosen (is_any_word t) (past_colon more) None (Some rest) f) [
+        | inl word ↦
+            let n = any_word_takes t word.0 in
+            elim (chosen (starts (is_mark 58) more) (Some (drop 1 more)) None (Some rest) word.1) [
+              | inl colon ↦
+                  (t ∷ [], ap (λ (ts : List Token). t ∷ ts) (started 58 more colon.0 ∙ ap (λ (ts : List Token). mark 58 ∷ ts) (some_is {A = List Token} (drop 1 more) rest colon.1)), inr (n.0, ap (λ (x : Token). x ∷ []) n.1, n.2))
+              | inr never ↦ let g : None ≡ Some rest = never.1 in absurd cc
+            ]
+        | inr never ↦ let g : None ≡ Some rest = never.1 in absurd cc
       ]
 ]
 
@@ -240,7 +242,7 @@ end_again : (tokens : List Token) → IsEnd tokens → (is_end tokens ≡ true) 
 end_again tokens w = elim w [ inl none ↦ rw none (refl, refl) | inr one ↦ rw one (refl, refl) ]
 
 name_again : (name rest : List Token) → IsServiceName name → past_name (name ++ (mark 58 ∷ rest)) ≡ Some rest
-name_again name rest w = elim w [ inl none ↦ rw none refl | inr n ↦ rw (n.1, free_again n.0 n.2) refl ]
+name_again name rest w = elim w [ inl none ↦ rw none refl | inr n ↦ rw (n.1, n.2) refl ]
 
 -- the service begins with a brace or a name
 no_paren : (before : List Written) (part : Part) (after : List Written) (front rest : List Token) → Served before part after front → starts (is_mark 40) (front ++ rest) ≡ false

@@ -14,8 +14,8 @@ use Rattle.cd_grammar.specs.declared.written.Part.TheVariants.{Prim, Float, Name
 use Rattle.cd_grammar.specs.declared.written.Written.{Written}
 use Rattle.cd_grammar.specs.declared.written.Written.TheVariants.{Opt, Seq, Rec, Var, Func, Service}
 use Rattle.cd_grammar.specs.Grammar.{Writing, Writes, WritesLabelled, WritesField, WritesCase, after_field, no_place, WritesArgument, WritesTuple, WritesNotes, WritesFunction, WritesMethod, WritesName, WritesService, WritesFields, WritesInner, WritesBehind, WritesType, WritesMethodType}
-use Rattle.cd_grammar.specs.Read.{Reads, is_mark, is_arrow, starts, then_make, enclosed_at, added, token_word, free_name, named_at, labelled_at, field_at, case_at, argument_at, tuple_at, token_note, with_note, notes_at, noted, results_at, function_at, method_at, service_at, fields_at, inner_at, behind_word_at, worded_at, type_at, method_type_at}
-use Rattle.cd_grammar.proofs.Words.{true_or_false, started, arrow_started, token_takes, free_takes, note_takes}
+use Rattle.cd_grammar.specs.Read.{Reads, is_mark, is_arrow, starts, then_make, enclosed_at, added, token_word, free_name, named_at, labelled_at, field_at, case_at, is_argument_name, argument_at, tuple_at, token_note, with_note, notes_at, noted, results_at, function_at, method_at, service_at, fields_at, inner_at, behind_word_at, worded_at, type_at, method_type_at}
+use Rattle.cd_grammar.proofs.Words.{true_or_false, started, arrow_started, token_takes, free_takes, argument_name_takes, note_takes}
 use Rattle.cd_grammar.proofs.PartLemmas.{Takes, Sound, enclosed_takes}
 
 -- the value of which something was made
@@ -92,15 +92,17 @@ argument_takes : (P : Writes Part) (read : Reads Part) → Sound P read → (nex
 argument_takes P read law next state [] z e = absurd cc
 argument_takes P read law next state (t ∷ rest) z e = elim (true_or_false (starts (is_mark 58) rest)) [
   | inl colon ↦
-      let f : (free_name t >>= λ name. read state (drop 1 rest)) ≡ Some z = rw colon at e in
-      let a = bind_some (free_name t) (λ name. read state (drop 1 rest)) z f in
-      let n = free_takes t a.0 a.1 in
-      let s = law state (drop 1 rest) z a.2 in
-      record {
-        front = t ∷ mark 58 ∷ s.front;
-        parts = ap (λ (ts : List Token). t ∷ ts) (started 58 rest colon ∙ ap (λ (ts : List Token). mark 58 ∷ ts) s.parts);
-        written = inr (a.0, s.front, ap (λ (x : Token). x ∷ mark 58 ∷ s.front) n.0, n.1, s.written);
-      }
+      let f : (if is_argument_name t then read state (drop 1 rest) else None) ≡ Some z = rw colon at e in
+      elim (chosen (is_argument_name t) (read state (drop 1 rest)) None (Some z) f) [
+        | inl named ↦
+            let s = law state (drop 1 rest) z named.1 in
+            record {
+              front = t ∷ mark 58 ∷ s.front;
+              parts = ap (λ (ts : List Token). t ∷ ts) (started 58 rest colon ∙ ap (λ (ts : List Token). mark 58 ∷ ts) s.parts);
+              written = inr (t, s.front, refl, argument_name_takes t named.0, s.written);
+            }
+        | inr never ↦ let g : None ≡ Some z = never.1 in absurd cc
+      ]
   | inr alone ↦
       let f : read state (t ∷ rest) ≡ Some z = rw alone at e in
       widened P (WritesArgument P next) state (t ∷ rest) z (λ front w. inl w) (law state (t ∷ rest) z f)

@@ -1,15 +1,19 @@
 -- Words and names of interface files are read exactly.
 use Rattle.std.proofs.Common.{◌≡◌, ℕ, Bool, true, false, List, [], ◌∷◌, drop, Option, Some, None, refl, ap, subst, inl, inr, ◌⊎◌, arith}
-use Rattle.std.specs.Prelude.{◌==◌, bytes_eq, find}
+use Rattle.std.specs.Prelude.{◌==◌, bytes_eq, find, is_some}
 use Rattle.std.proofs.lemmas.Slice.Eq.{bytes_eq-Decides}
 use Rattle.ic_base.proofs.Steps.{bind_some, some_is}
 use Rattle.cd_types.specs.declared.primitive.Primitive.TheVariants as primitives
 use Rattle.cd_tokens.specs.Token.{Token, run, quoted, mark, arrow}
 use Rattle.cd_tokens.specs.Label.{is_name}
+use Rattle.cd_tokens.specs.ReadString.{unescaped_of}
+use Rattle.cd_tokens.specs.Unescaped.{Unescaped}
+use Rattle.cd_tokens.proofs.Strings.{unescaped_again, unescaped_takes}
 use Rattle.cd_grammar.specs.declared.word.Word.{Word}
 use Rattle.cd_grammar.specs.declared.word.Word.TheVariants.{Prim, Float32, Float64, Blob, Opt, Seq, Rec, Var, Func, Service, Definition, Query, Oneway, CompositeQuery}
 use Rattle.cd_grammar.specs.Words.{spelling, words, word_of, word, IsFreeName, note_of}
-use Rattle.cd_grammar.specs.Read.{is_mark, is_arrow, starts, token_word, unless_word, free_name, token_note}
+use Rattle.cd_grammar.specs.Grammar.{IsArgumentName}
+use Rattle.cd_grammar.specs.Read.{is_mark, is_arrow, starts, token_word, unless_word, free_name, is_argument_name, is_any_word, token_note}
 
 pub true_or_false : (b : Bool) → (b ≡ true) ⊎ (b ≡ false)
 true_or_false true = inl refl
@@ -97,6 +101,10 @@ unless_takes : (r name : List ℕ) (found : Option Word) → unless_word r found
 unless_takes r name None e = (some_is {A = List ℕ} r name e, refl)
 unless_takes r name (Some w) e = absurd cc
 
+string_says : (s : List ℕ) (found : Option (List ℕ)) → unescaped_of s ≡ found → is_some found ≡ true → (said : List ℕ) × Unescaped said s
+string_says s None is e = absurd cc
+string_says s (Some said) is e = (said, unescaped_takes said s is)
+
 pub free_takes : (t : Token) (name : List ℕ) → free_name t ≡ Some name → (t ≡ run name) × IsFreeName name
 free_takes (run r) name e = elim (true_or_false (is_name r)) [
   | inl holds ↦
@@ -111,6 +119,31 @@ free_takes arrow name e = absurd cc
 
 pub free_again : (name : List ℕ) → IsFreeName name → free_name (run name) ≡ Some name
 free_again name free = rw (free.0, free.1) refl
+
+-- what has no meaning
+pub argument_name_takes : (t : Token) → is_argument_name t ≡ true → IsArgumentName t
+argument_name_takes (run r) e = e
+argument_name_takes (quoted s) e = string_says s (unescaped_of s) refl e
+argument_name_takes (mark m) e = absurd cc
+argument_name_takes arrow e = absurd cc
+
+pub argument_name_again : (t : Token) → IsArgumentName t → is_argument_name t ≡ true
+argument_name_again (run r) name = name
+argument_name_again (quoted s) says = rw (unescaped_again says.0 s says.1) refl
+argument_name_again (mark m) none = absurd none
+argument_name_again arrow none = absurd none
+
+pub argument_no_mark : (t : Token) (k : ℕ) → IsArgumentName t → is_mark k t ≡ false
+argument_no_mark (run r) k name = refl
+argument_no_mark (quoted s) k says = refl
+argument_no_mark (mark m) k none = absurd none
+argument_no_mark arrow k none = absurd none
+
+pub any_word_takes : (t : Token) → is_any_word t ≡ true → (r : List ℕ) × (t ≡ run r) × (is_name r ≡ true)
+any_word_takes (run r) e = (r, refl, e)
+any_word_takes (quoted s) e = absurd cc
+any_word_takes (mark m) e = absurd cc
+any_word_takes arrow e = absurd cc
 
 -- a free name is no annotation
 pub name_no_word : (name : List ℕ) → IsFreeName name → token_word (run name) ≡ None

@@ -2,9 +2,10 @@
 use Rattle.std.specs.Prelude.{◌≡◌, ℕ, zero, suc, true, List, [], ◌∷◌, ◌++◌, length, Option, Some, None, ◌⊎◌}
 use Rattle.std.specs.Str.{is_utf8}
 use Rattle.cd_types.specs.declared.primitive.Primitive.TheVariants as primitives
-use Rattle.cd_tokens.specs.Token.{Token, run, arrow}
-use Rattle.cd_tokens.specs.Label.{IsLabel, IsNameOf}
+use Rattle.cd_tokens.specs.Token.{Token, run, quoted, mark, arrow}
+use Rattle.cd_tokens.specs.Label.{is_name, IsLabel, IsNameOf}
 use Rattle.cd_tokens.specs.Lexed.{IsTokens}
+use Rattle.cd_tokens.specs.Unescaped.{Unescaped}
 use Rattle.cd_grammar.specs.declared.word.Word.{Word}
 use Rattle.cd_grammar.specs.declared.word.Word.TheVariants as words
 use Rattle.cd_grammar.specs.declared.written.Part.{Part}
@@ -52,10 +53,17 @@ after_field field = suc field.0
 abbrev pub no_place : {A : Type 0} → A → ℕ
 no_place x = 0
 
+-- the name before an argument's colon, which has no meaning: any word, those of the grammar among them, or any string
+abbrev pub IsArgumentName : Token → Type 0
+IsArgumentName (run r) = is_name r ≡ true
+IsArgumentName (quoted s) = (said : List ℕ) × Unescaped said s
+IsArgumentName (mark m) = ⊥
+IsArgumentName arrow = ⊥
+
 -- a type of a tuple, maybe behind a name and a colon
 abbrev pub WritesArgument : Writes Part → ℕ → Writes Part
 WritesArgument P next before part after tokens = P before part after tokens
-    ⊎ ((name : List ℕ) × (inner : List Token) × (tokens ≡ run name ∷ colon ∷ inner) × IsFreeName name × P before part after inner)
+    ⊎ ((name : Token) × (inner : List Token) × (tokens ≡ name ∷ colon ∷ inner) × IsArgumentName name × P before part after inner)
 
 -- types in parentheses
 abbrev pub WritesTuple : Writes Part → Writes (List Part)
@@ -137,9 +145,9 @@ max_depth = 128
 abbrev pub IsEnd : List Token → Type 0
 IsEnd tokens = (tokens ≡ []) ⊎ (tokens ≡ semicolon ∷ [])
 
--- the name of the service, which may be left out
+-- the name of the service, which has no meaning: any word, those of the grammar among them, or none
 abbrev pub IsServiceName : List Token → Type 0
-IsServiceName tokens = (tokens ≡ []) ⊎ ((name : List ℕ) × (tokens ≡ run name ∷ []) × IsFreeName name)
+IsServiceName tokens = (tokens ≡ []) ⊎ ((name : List ℕ) × (tokens ≡ run name ∷ []) × (is_name name ≡ true))
 
 -- the types that the service is installed with, and an arrow, which may be left out
 abbrev pub WritesInstalled : Writes (List Part)

@@ -1,10 +1,11 @@
 -- Interface files as functions that read tokens.
-use Rattle.std.specs.Prelude.{ℕ, zero, suc, Bool, true, false, ◌==◌, ◌+◌, List, [], ◌∷◌, ◌++◌, length, drop, Option, Some, None, if◌then◌else◌}
+use Rattle.std.specs.Prelude.{ℕ, zero, suc, Bool, true, false, ◌==◌, ◌+◌, List, [], ◌∷◌, ◌++◌, length, drop, Option, Some, None, is_some, if◌then◌else◌}
 use Rattle.ic_base.specs.Reader.{◌>>=◌}
 use Rattle.cd_types.specs.declared.primitive.Primitive.TheVariants as primitives
 use Rattle.cd_tokens.specs.Token.{Token, run, quoted, mark, arrow}
 use Rattle.cd_tokens.specs.Label.{is_name}
 use Rattle.cd_tokens.specs.ReadLabel.{name_of, label_of}
+use Rattle.cd_tokens.specs.ReadString.{unescaped_of}
 use Rattle.cd_grammar.specs.declared.reading.Rows.{Rows}
 use Rattle.cd_grammar.specs.declared.reading.Rows.TheVariants.{Fields, Cases}
 use Rattle.cd_grammar.specs.declared.word.Word.{Word}
@@ -136,10 +137,17 @@ abbrev pub rows_made : Rows → List (ℕ × Part) → Written
 rows_made Fields items = Rec items
 rows_made Cases items = Var items
 
+-- the name before an argument's colon
+abbrev pub is_argument_name : Token → Bool
+is_argument_name (run r) = is_name r
+is_argument_name (quoted s) = is_some (unescaped_of s)
+is_argument_name (mark m) = false
+is_argument_name arrow = false
+
 abbrev pub argument_at : Reads Part → ℕ → Reads Part
 argument_at read next types [] = None
 argument_at read next types (t ∷ rest) =
-    if starts (is_mark 58) rest then (free_name t >>= λ name. read types (drop 1 rest)) else read types (t ∷ rest)
+    if starts (is_mark 58) rest then (if is_argument_name t then read types (drop 1 rest) else None) else read types (t ∷ rest)
 
 abbrev pub tuple_at : Reads Part → Reads (List Part)
 tuple_at read types tokens = enclosed_at 40 44 41 (argument_at read) no_place types tokens
@@ -257,13 +265,20 @@ definitions_at zero types tokens = None
 definitions_at (suc fuel) types tokens =
     if starts (is_word is_type) tokens then (definition_at types (drop 1 tokens) >>= behind_definition (definitions_at fuel)) else Some ([], types, tokens)
 
+-- the token is a word
+abbrev pub is_any_word : Token → Bool
+is_any_word (run r) = is_name r
+is_any_word (quoted s) = false
+is_any_word (mark m) = false
+is_any_word arrow = false
+
 -- behind the service's name and colon
 abbrev pub past_colon : List Token → Option (List Token)
 past_colon tokens = if starts (is_mark 58) tokens then Some (drop 1 tokens) else None
 
 abbrev pub past_name : List Token → Option (List Token)
 past_name [] = None
-past_name (t ∷ rest) = if is_mark 58 t then Some rest else (free_name t >>= λ name. past_colon rest)
+past_name (t ∷ rest) = if is_mark 58 t then Some rest else if is_any_word t then past_colon rest else None
 
 abbrev pub past_arrow : List Part × List Written × List Token → Option (List Part × List Written × List Token)
 past_arrow x = if starts is_arrow x.2 then Some (x.0, x.1, drop 1 x.2) else None

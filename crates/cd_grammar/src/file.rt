@@ -1,4 +1,4 @@
-ghost use Rattle.std.specs.Prelude.{◌≡◌, ◌≤◌, [], IfOk, length};
+ghost use Rattle.std.specs.Prelude.{◌≡◌, ◌≤◌, [], IfOk, length, Some, None, if◌then◌else◌};
 ghost use Rattle.std.specs.Str.{is_utf8};
 ghost use Rattle.ic_base.specs.Gives.{Gives};
 ghost use Rattle.cd_tokens.specs.Lexed.{Agrees};
@@ -8,7 +8,7 @@ ghost use Rattle.cd_grammar.specs.Fits.{FitsFile};
 ghost use Rattle.cd_grammar.specs.Grammar.{IsFile, no_place};
 ghost use Rattle.cd_grammar.specs.Read.{starts, with_part, is_word, is_type, is_service, are_none, is_end, defined_as, definition_at, definitions_at, past_colon, past_name, installed_at, served_at, main_with, main_at, rest_at, file_from, file_at};
 
-use crate::front::{name_of, rest_of, starts_arrow, starts_mark, word_of};
+use crate::front::{is_any_word, name_of, rest_of, starts_arrow, starts_mark, word_of};
 use crate::reading::{Reader, named_of, service_of, tuple_of, type_of};
 use crate::word::Word;
 use crate::written::{File, Main, Part, Parts};
@@ -123,34 +123,36 @@ fn add_definitions(
     Err(ReadError::Refused)
 }
 
-fn past_colon(reader: &mut Reader<'_, '_>) -> Result<(), ReadError>
-    ensures rest { Gives (λ done. token_views reader.new.rest.now) result (past_colon (token_views reader.old.rest.now)) }
+// Moves behind a colon, where one stands.
+fn past_colon(reader: &mut Reader<'_, '_>) -> bool
+    ensures rest { (if result then Some (token_views reader.new.rest.now) else None) ≡ past_colon (token_views reader.old.rest.now) }
     ensures types { reader.new.types.items ≡ reader.old.types.items }
 {
     if !starts_mark(reader.rest, b':') {
-        return Err(ReadError::Refused);
+        return false;
     }
     reader.rest = rest_of(reader.rest);
-    Ok(())
+    true
 }
 
-// Up to the tokens behind the service's name and its colon.
-fn past_name(reader: &mut Reader<'_, '_>) -> Result<(), ReadError>
-    ensures rest { Gives (λ done. token_views reader.new.rest.now) result (past_name (token_views reader.old.rest.now)) }
+// Moves behind the service's name and its colon, where they stand.
+fn past_name(reader: &mut Reader<'_, '_>) -> bool
+    ensures rest { (if result then Some (token_views reader.new.rest.now) else None) ≡ past_name (token_views reader.old.rest.now) }
     ensures types { reader.new.types.items ≡ reader.old.types.items }
 {
     let tokens = reader.rest;
     match tokens {
-        [] => Err(ReadError::Refused),
+        [] => false,
         [first, rest @ ..] => {
-            reader.rest = rest;
             if starts_mark(tokens, b':') {
-                return Ok(());
+                reader.rest = rest;
+                return true;
             }
-            match name_of(reader.alloc, first) {
-                Ok(_name) => past_colon(reader),
-                Err(e) => Err(e),
+            if !is_any_word(first) {
+                return false;
             }
+            reader.rest = rest;
+            past_colon(reader)
         }
     }
 }
@@ -215,11 +217,11 @@ fn main_with(reader: &mut Reader<'_, '_>, tuple: Parts) -> Result<Main, ReadErro
 fn main_of(reader: &mut Reader<'_, '_>) -> Result<Main, ReadError>
     ensures { Gives (λ main. (main, reader.new.types.items)) result (main_at reader.old.types.items (token_views reader.old.rest.now)) }
 {
-    match past_name(reader) {
-        Ok(()) => match installed_of(reader) {
-            Ok(items) => main_with(reader, Parts { items }),
-            Err(e) => Err(e),
-        },
+    if !past_name(reader) {
+        return Err(ReadError::Refused);
+    }
+    match installed_of(reader) {
+        Ok(items) => main_with(reader, Parts { items }),
         Err(e) => Err(e),
     }
 }

@@ -2,10 +2,10 @@ ghost use Rattle.std.specs.Prelude.{◌≡◌, drop};
 ghost use Rattle.ic_base.specs.Gives.{Gives};
 ghost use Rattle.cd_tokens.specs.View.{token_view, token_views};
 ghost use Rattle.cd_grammar.specs.Words.{word_of};
-ghost use Rattle.cd_grammar.specs.Read.{is_mark, is_arrow, starts, first_word, token_word, free_name, unless_word};
+ghost use Rattle.cd_grammar.specs.Read.{is_mark, is_arrow, starts, first_word, token_word, is_any_word, is_argument_name, free_name, unless_word};
 
 use crate::word::Word;
-use cd_tokens::{Token, is_name};
+use cd_tokens::{Token, is_name, says_bytes};
 use ic_base::ReadError;
 use ic_principal::Bytes;
 use std::alloc::Global;
@@ -69,6 +69,30 @@ pub(crate) fn first_word(tokens: &[Token<'_>]) -> Option<Word>
     match tokens {
         [] => None,
         [first, ..] => word_of(first),
+    }
+}
+
+/// Whether the token is a word, of the grammar or not.
+pub(crate) fn is_any_word(token: &Token<'_>) -> bool
+    ensures { result ≡ is_any_word (token_view token.now) }
+{
+    match token {
+        Token::Run(run) => is_name(run.bytes),
+        Token::Quoted(_) => false,
+        Token::Mark(_) => false,
+        Token::Arrow => false,
+    }
+}
+
+/// Whether the token may be an argument's name: any word, or any string.
+pub(crate) fn is_argument_name(token: &Token<'_>) -> bool
+    ensures { result ≡ is_argument_name (token_view token.now) }
+{
+    match token {
+        Token::Run(run) => is_name(run.bytes),
+        Token::Quoted(string) => says_bytes(string.bytes),
+        Token::Mark(_) => false,
+        Token::Arrow => false,
     }
 }
 

@@ -18,5 +18,5 @@ mod token;
 pub use label::{is_name, label_of, name_of, text_of};
 pub use number::{integer_of, natural_of};
 pub use piece::Piece;
-pub use string::unescaped_of;
+pub use string::{says_bytes, unescaped_of};
 pub use token::{Token, tokens_of};

@@ -1,4 +1,4 @@
-ghost use Rattle.std.specs.Prelude.{◌≡◌, ◌++◌, ◌==◌, ◌&&◌, ◌<◌, nat_lt, if◌then◌else◌, Some, None, OnOk};
+ghost use Rattle.std.specs.Prelude.{◌≡◌, ◌++◌, ◌==◌, ◌&&◌, ◌<◌, nat_lt, if◌then◌else◌, Some, None, is_some, OnOk};
 ghost use Rattle.std.proofs.Math.Utf8.{scalar};
 ghost use Rattle.ic_base.specs.Gives.{Gives};
 ghost use Rattle.cd_tokens.specs.Numeral.{digit_of as hex_digit_of};
@@ -173,6 +173,20 @@ impl Within {
     {
         matches!(self, Within::Plain)
     }
+}
+
+/// Whether a string says bytes, of what stands between its quotes.
+pub fn says_bytes(written: &[u8]) -> bool
+    ensures { result ≡ is_some (unescaped_of written.now) }
+{
+    let mut within = Within::Plain;
+    for byte in written {
+        match within.step(*byte) {
+            None => return false,
+            Some((next, _)) => within = next,
+        }
+    }
+    within.is_plain()
 }
 
 /// The bytes that a string says, of what stands between its quotes; they may be no UTF-8.
