@@ -4,7 +4,7 @@ use std::test::*;
 
 const NOT_INTERFACE: Option<DidFault> = Some(DidFault::NotInterface);
 
-static ROWS: [(&[u8], Option<DidFault>); 57] = [
+static ROWS: [(&[u8], Option<DidFault>); 65] = [
     // Files, and their ends.
     (b"", None),
     (b"type A = nat", None),
@@ -48,11 +48,28 @@ static ROWS: [(&[u8], Option<DidFault>); 57] = [
     (b"type queries = nat", None),
     (b"type nat = int", NOT_INTERFACE),
     (b"type A = query", NOT_INTERFACE),
-    (b"service text : {}", NOT_INTERFACE),
+    (b"service text : {}", None),
+    (b"service service : {}", None),
+    (b"service \"s\" : {}", NOT_INTERFACE),
+    (b"service 1 : {}", NOT_INTERFACE),
     (b"service : nat", NOT_INTERFACE),
     (b"service : { f : nat }", NOT_INTERFACE),
-    (b"service : { f : (text : text) -> () }", NOT_INTERFACE),
-    (b"service : { f : (to : text) -> () }", None),
+    (b"service : { f : (to : text, text : text) -> () }", None),
+    (
+        b"service : (type : nat, import : nat, service : nat, func : nat) -> {}",
+        None,
+    ),
+    (
+        b"service : { f : (record : record {}, opt : opt nat) -> (blob : blob) }",
+        None,
+    ),
+    (
+        b"service : { f : (\"a b\" : nat, \"\" : nat, \"\\ff\" : nat) -> () }",
+        None,
+    ),
+    (b"service : { f : (\"\\q\" : nat) -> () }", NOT_INTERFACE),
+    (b"service : { f : (1 : nat) -> () }", NOT_INTERFACE),
+    (b"service : { f : (a : b : nat) -> () }", NOT_INTERFACE),
     (b"service : { f : func () -> () }", NOT_INTERFACE),
     // Labels.
     (b"type A = record { 4294967295 : nat }", None),

@@ -93,8 +93,8 @@ static ROWS: [Row; 23] = [
     ),
     // Names of arguments, and the service's name and tuple, have no meaning.
     (
-        b"service s : (nat) -> { f : (n : nat) -> () }",
-        b"service : { f : (m : nat) -> () }",
+        b"service text : (nat) -> { f : (n : nat, \"a b\" : text) -> () }",
+        b"service : { f : (nat : nat, text) -> () }",
         true,
     ),
     // Labels are their ids.
