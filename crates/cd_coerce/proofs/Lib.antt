@@ -16,3 +16,4 @@ pub mod PartsLemmas
 mod ValueLemmas
 mod RuleLemmas
 mod Exists
+mod CountLemmas

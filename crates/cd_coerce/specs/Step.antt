@@ -8,6 +8,7 @@ use Rattle.cd_types.specs.Shape.{Shape}
 use Rattle.cd_sub.specs.Below.{below}
 use Rattle.cd_codec.specs.declared.value.Value.{Value}
 use Rattle.cd_codec.specs.Content.{Content, null, reserved, plain, blob, none, some, list, record_of, variant}
+use Rattle.cd_codec.specs.Measure.{number}
 use Rattle.cd_codec.specs.View.{view, views_of_fields}
 use Rattle.cd_coerce.specs.declared.plain.OptRule.{OptRule}
 use Rattle.cd_coerce.specs.declared.plain.OptRule.TheVariants.{ToNone, Inner, Constituent}
@@ -74,6 +75,12 @@ abbrev pub coerced_by : Setting → Content → TyRef → Step → Option Conten
 coerced_by c v t (Done r) = Some (view r)
 coerced_by c v t (InnerStep x w) = some_if true (inner_at c v x w)
 coerced_by c v t (PartsStep w lift) = lifted lift (parts_at c v t w)
+
+-- how many values are made where the value is settled by a step: its parts are not counted yet
+abbrev pub number_by : Step → ℕ
+number_by (Done r) = number (view r)
+number_by (InnerStep x w) = 1
+number_by (PartsStep w lift) = 1
 
 -- the step that is answered gives what is to be read
 abbrev pub Settles : Option Content → (Step → Option Content) → Result Step ReadError → Type 0

@@ -1,5 +1,6 @@
-ghost use Rattle.std.specs.Prelude.{◌≡◌, ◌≤◌, IfOk, length, slice_get};
+ghost use Rattle.std.specs.Prelude.{◌≡◌, ◌≤◌, ◌+◌, IfOk, length, slice_get};
 ghost use Rattle.ic_base.specs.Gives.{Gives};
+ghost use Rattle.cd_codec.specs.Measure.{number, number_each};
 ghost use Rattle.cd_codec.specs.View.{view, views};
 ghost use Rattle.cd_coerce.specs.Step.{setting};
 ghost use Rattle.cd_coerce.specs.Decoded.{fits, unfit_from, argument_at, arguments_from};
@@ -14,7 +15,7 @@ impl<'a> Coercion<'a> {
     /// Whether the argument at this place has a subtype of the type, or is missing and may be.
     fn fits(&mut self, types: &[TyRef], place: usize, u: TyRef) -> Result<bool, NoMemory>
         ensures tables { self.new ≡ self.old }
-        ensures test { IfOk result (λ yes. yes ≡ fits (setting self.old.0 self.old.1) (slice_get types.now place) u) }
+        ensures test { IfOk result (λ yes. yes ≡ fits (setting self.old.0.0 self.old.0.1) (slice_get types.now place) u) }
     {
         match types.get(place) {
             Some(t) => self.is_below(*t, u),
@@ -30,7 +31,7 @@ impl<'a> Coercion<'a> {
     ) -> Result<Option<u32>, NoMemory>
         requires { length expected.now ≤ 10000 }
         ensures tables { self.new ≡ self.old }
-        ensures least { IfOk result (λ place. place ≡ unfit_from (setting self.old.0 self.old.1) 0 types.now expected.now) }
+        ensures least { IfOk result (λ place. place ≡ unfit_from (setting self.old.0.0 self.old.0.1) 0 types.now expected.now) }
     {
         for place in 0..expected.len() {
             if !self.fits(types, place, expected[place])? {
@@ -48,8 +49,9 @@ impl<'a> Coercion<'a> {
         place: usize,
         u: TyRef,
     ) -> Result<Value, ReadError>
-        ensures tables { self.new ≡ self.old }
-        ensures value { Gives view result (argument_at (setting self.old.0 self.old.1) (slice_get types.now place) (slice_get (views values.now) place) u) }
+        ensures tables { self.new.0 ≡ self.old.0 }
+        ensures value { Gives view result (argument_at (setting self.old.0.0 self.old.0.1) (slice_get types.now place) (slice_get (views values.now) place) u) }
+        ensures counted { IfOk result (λ v. number (view v) + self.new.1 ≡ self.old.1) }
     {
         match types.get(place) {
             None => self.missing(u),
@@ -67,8 +69,9 @@ impl<'a> Coercion<'a> {
         values: &[Value],
         expected: &[TyRef],
     ) -> Result<Vec<Value>, ReadError>
-        ensures tables { self.new ≡ self.old }
-        ensures values { Gives (λ vs. views vs.items) result (arguments_from (setting self.old.0 self.old.1) 0 types.now (views values.now) expected.now) }
+        ensures tables { self.new.0 ≡ self.old.0 }
+        ensures values { Gives (λ vs. views vs.items) result (arguments_from (setting self.old.0.0 self.old.0.1) 0 types.now (views values.now) expected.now) }
+        ensures counted { IfOk result (λ vs. number_each (views vs.items) + self.new.1 ≡ self.old.1) }
     {
         let mut items = Vec::new(self.alloc);
         for place in 0..expected.len() {

@@ -1,5 +1,6 @@
 ghost use Rattle.std.specs.Prelude.{◌≡◌, ◌↔◌, ◌≤◌, List, Ok, Err, IfOk, length, drop};
 ghost use Rattle.cd_codec.specs.Content.{Content};
+ghost use Rattle.cd_codec.specs.Measure.{number_each};
 ghost use Rattle.cd_codec.specs.AreValues.{HasTypes};
 ghost use Rattle.cd_codec.specs.Answers.{contents};
 ghost use Rattle.cd_coerce.specs.declared.fault.DidlFault.{DidlFault};
@@ -40,8 +41,9 @@ fn values_of(
     bytes: &[u8],
 ) -> Result<Values, DidlFault>
     requires inside { header.now.length ≤ length bytes.now }
-    requires table { coercion.old.0 ≡ header.now.table }
-    ensures { IsAnswer result (values_read (setting coercion.old.0 coercion.old.1) header.now.types expected.now (drop header.now.length bytes.now)) }
+    requires table { coercion.old.0.0 ≡ header.now.table }
+    ensures answer { IsAnswer result (values_read (setting coercion.old.0.0 coercion.old.0.1) header.now.types expected.now (drop header.now.length bytes.now)) }
+    ensures few { IfOk result (λ values. number_each (contents values) ≤ coercion.old.1) }
 {
     match read_values(alloc, header, bytes, header.length) {
         Ok(values) => match coercion.arguments(&header.types.items, &values.items, expected) {
@@ -63,7 +65,8 @@ fn message_of(
     most_values: u32,
 ) -> Result<Values, DidlFault>
     requires { header.now.length ≤ length bytes.now }
-    ensures { IsAnswer result (message_read (setting header.now.table expected.now.0) header.now.types expected.now.1 (drop header.now.length bytes.now)) }
+    ensures answer { IsAnswer result (message_read (setting header.now.table expected.now.0) header.now.types expected.now.1 (drop header.now.length bytes.now)) }
+    ensures few { IfOk result (λ values. number_each (contents values) ≤ most_values) }
 {
     let mut coercion = Coercion::new(alloc, &header.table, expected.table(), most_values);
     match coercion.unfit(&header.types.items, expected.types()) {
@@ -80,7 +83,8 @@ fn arguments_of(
     bytes: &[u8],
     most_values: u32,
 ) -> Result<Values, DidlFault>
-    ensures { IsAnswer result (decoded expected.now bytes.now) }
+    ensures answer { IsAnswer result (decoded expected.now bytes.now) }
+    ensures few { IfOk result (λ values. number_each (contents values) ≤ most_values) }
 {
     match header_of(alloc, bytes) {
         Ok(header) => message_of(alloc, expected, &header, bytes, most_values),
@@ -100,6 +104,8 @@ pub fn decode_within(
     ensures answer { IsAnswer result (decoded expected.now bytes.now) }
     // The values have the expected types.
     ensures typed { IfOk result (λ values. HasTypes expected.now.0 expected.now.1 (contents values)) }
+    // They and their parts are at most as many as may be made.
+    ensures few { IfOk result (λ values. number_each (contents values) ≤ most_values) }
 {
     // What the proof takes from elsewhere; these calls do nothing.
     one_answer();
@@ -119,6 +125,8 @@ pub fn decode(alloc: Global, expected: &Expected, bytes: &[u8]) -> Result<Values
     ensures fault { (fault : DidlFault) → (decoded expected.now bytes.now ≡ Err fault) ↔ HasFault expected.now bytes.now fault }
     // The values have the expected types.
     ensures typed { IfOk result (λ values. HasTypes expected.now.0 expected.now.1 (contents values)) }
+    // They and their parts are at most 16,777,216.
+    ensures few { IfOk result (λ values. number_each (contents values) ≤ 16777216) }
 {
     one_answer();
     decode_within(alloc, expected, bytes, MAX_VALUES)

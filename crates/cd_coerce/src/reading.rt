@@ -1,9 +1,10 @@
-ghost use Rattle.std.specs.Prelude.{◌≡◌, ℕ, Option, List, Some, None, map, true};
+ghost use Rattle.std.specs.Prelude.{◌≡◌, ℕ, suc, ◌+◌, IfOk, Option, List, Some, None, map, true};
 ghost use Rattle.ic_base.specs.Gives.{Gives};
 ghost use Rattle.cd_types.specs.declared.entry.TyRef.{TyRef};
 ghost use Rattle.cd_types.specs.IsOrdered.{ids_rise_from};
 ghost use Rattle.cd_types.specs.Shape.{shape};
 ghost use Rattle.cd_codec.specs.Content.{Content, blob, list, record_of, variant, contents_of, parts_of};
+ghost use Rattle.cd_codec.specs.Measure.{number, number_each};
 ghost use Rattle.cd_codec.specs.View.{view, views, views_of_fields};
 ghost use Rattle.cd_coerce.specs.Parts.{byte_value, under, with_fields, case_from};
 ghost use Rattle.cd_codec.specs.declared.value.Value.{Value};
@@ -21,10 +22,11 @@ use std::alloc::Global;
 impl<'a> Coercion<'a> {
     /// A value without parts, at a type.
     fn leaf(&mut self, value: &Value, t: TyRef, u: TyRef) -> Result<Value, ReadError>
-        requires parts { (t w : TyRef) → parts_at (setting self.old.0 self.old.1) (view value.now) t w ≡ None }
-        requires whole { (t w : TyRef) → inner_at (setting self.old.0 self.old.1) (view value.now) t w ≡ None }
-        ensures tables { self.new ≡ self.old }
-        ensures value { Gives view result (coerced (setting self.old.0 self.old.1) (view value.now) t u) }
+        requires parts { (t w : TyRef) → parts_at (setting self.old.0.0 self.old.0.1) (view value.now) t w ≡ None }
+        requires whole { (t w : TyRef) → inner_at (setting self.old.0.0 self.old.0.1) (view value.now) t w ≡ None }
+        ensures tables { self.new.0 ≡ self.old.0 }
+        ensures value { Gives view result (coerced (setting self.old.0.0 self.old.0.1) (view value.now) t u) }
+        ensures counted { IfOk result (λ v. number (view v) + self.new.1 ≡ self.old.1) }
     {
         self.count()?;
         match self.settle(value, t, u)? {
@@ -37,16 +39,18 @@ impl<'a> Coercion<'a> {
     /// A byte of a blob, at a type.
     #[tactic(auto, using(cd_codec::proofs::Views::layers))]
     fn byte(&mut self, byte: u8, t: TyRef, u: TyRef) -> Result<Value, ReadError>
-        ensures tables { self.new ≡ self.old }
-        ensures value { Gives view result (coerced (setting self.old.0 self.old.1) (byte_value byte) t u) }
+        ensures tables { self.new.0 ≡ self.old.0 }
+        ensures value { Gives view result (coerced (setting self.old.0.0 self.old.0.1) (byte_value byte) t u) }
+        ensures counted { IfOk result (λ v. number (view v) + self.new.1 ≡ self.old.1) }
     {
         let value = Value::Nat8(byte);
         self.leaf(&value, t, u)
     }
 
     fn bytes(&mut self, bytes: &[u8], t: TyRef, u: TyRef) -> Result<Vec<Value>, ReadError>
-        ensures tables { self.new ≡ self.old }
-        ensures values { Gives (λ vs. views vs.items) result (each_by (λ b. coerced (setting self.old.0 self.old.1) (byte_value b) t u) bytes.now) }
+        ensures tables { self.new.0 ≡ self.old.0 }
+        ensures values { Gives (λ vs. views vs.items) result (each_by (λ b. coerced (setting self.old.0.0 self.old.0.1) (byte_value b) t u) bytes.now) }
+        ensures counted { IfOk result (λ vs. number_each (views vs.items) + self.new.1 ≡ self.old.1) }
     {
         let mut items = Vec::with_capacity(self.alloc, bytes.len())?;
         for byte in bytes {
@@ -58,8 +62,9 @@ impl<'a> Coercion<'a> {
 
     /// A blob, at a type that is no opt.
     fn blob(&mut self, bytes: &[u8], t: TyRef, u: TyRef) -> Result<Value, ReadError>
-        ensures tables { self.new ≡ self.old }
-        ensures value { Gives view result (parts_at (setting self.old.0 self.old.1) (blob bytes.now) t u) }
+        ensures tables { self.new.0 ≡ self.old.0 }
+        ensures value { Gives view result (parts_at (setting self.old.0.0 self.old.0.1) (blob bytes.now) t u) }
+        ensures counted { IfOk result (λ v. number (view v) + self.new.1 ≡ suc self.old.1) }
     {
         match (item_of(self.wire, t), item_of(self.expected, u)) {
             (Some(from), Some(to)) => {
@@ -76,8 +81,9 @@ impl<'a> Coercion<'a> {
 
     /// What stands for a missing field of this type.
     pub(crate) fn missing(&mut self, u: TyRef) -> Result<Value, ReadError>
-        ensures tables { self.new ≡ self.old }
-        ensures value { Gives view result (missing (shape self.old.1 u)) }
+        ensures tables { self.new.0 ≡ self.old.0 }
+        ensures value { Gives view result (missing (shape self.old.0.1 u)) }
+        ensures counted { IfOk result (λ v. number (view v) + self.new.1 ≡ self.old.1) }
     {
         self.count()?;
         missing_value(self.expected, u)
@@ -85,7 +91,7 @@ impl<'a> Coercion<'a> {
 
     /// The type of the case at this place, and the place and type of the expected case with its id.
     fn target(&self, position: u32, t: TyRef, u: TyRef) -> Option<(TyRef, u32, TyRef)>
-        ensures { result ≡ target (shape self.now.0 t) (shape self.now.1 u) position }
+        ensures { result ≡ target (shape self.now.0.0 t) (shape self.now.0.1 u) position }
     {
         match (cases_of(self.wire, t), cases_of(self.expected, u)) {
             (Some(cases), Some(expected)) => {
@@ -101,8 +107,9 @@ impl<'a> Coercion<'a> {
     /// Each of the values, at a type.
     #[cycle(reader)]
     fn items(&mut self, values: &[Value], t: TyRef, u: TyRef) -> Result<Vec<Value>, ReadError>
-        ensures tables { self.new ≡ self.old }
-        ensures values { Gives (λ vs. views vs.items) result (each_by (λ v. coerced (setting self.old.0 self.old.1) (view v) t u) values.now) }
+        ensures tables { self.new.0 ≡ self.old.0 }
+        ensures values { Gives (λ vs. views vs.items) result (each_by (λ v. coerced (setting self.old.0.0 self.old.0.1) (view v) t u) values.now) }
+        ensures counted { IfOk result (λ vs. number_each (views vs.items) + self.new.1 ≡ self.old.1) }
     {
         let mut items = Vec::with_capacity(self.alloc, values.len())?;
         for value in values {
@@ -115,8 +122,9 @@ impl<'a> Coercion<'a> {
     /// A vec that is no blob, at a type that is no opt.
     #[cycle(reader)]
     fn list(&mut self, values: &[Value], t: TyRef, u: TyRef) -> Result<Value, ReadError>
-        ensures tables { self.new ≡ self.old }
-        ensures value { Gives view result (parts_at (setting self.old.0 self.old.1) (list (contents_of (views values.now))) t u) }
+        ensures tables { self.new.0 ≡ self.old.0 }
+        ensures value { Gives view result (parts_at (setting self.old.0.0 self.old.0.1) (list (contents_of (views values.now))) t u) }
+        ensures counted { IfOk result (λ v. number (view v) + self.new.1 ≡ suc self.old.1) }
     {
         match (item_of(self.wire, t), item_of(self.expected, u)) {
             (Some(from), Some(to)) => {
@@ -133,8 +141,9 @@ impl<'a> Coercion<'a> {
     /// The value of a case, at a type that is no opt.
     #[cycle(reader)]
     fn case(&mut self, position: u32, part: &Value, t: TyRef, u: TyRef) -> Result<Value, ReadError>
-        ensures tables { self.new ≡ self.old }
-        ensures value { Gives view result (parts_at (setting self.old.0 self.old.1) (variant position (view part.now)) t u) }
+        ensures tables { self.new.0 ≡ self.old.0 }
+        ensures value { Gives view result (parts_at (setting self.old.0.0 self.old.0.1) (variant position (view part.now)) t u) }
+        ensures counted { IfOk result (λ v. number (view v) + self.new.1 ≡ suc self.old.1) }
     {
         match self.target(position, t, u) {
             None => Err(ReadError::Refused),
@@ -155,8 +164,9 @@ impl<'a> Coercion<'a> {
         u: TyRef,
     ) -> Result<Value, ReadError>
         requires { ids_rise_from 0 (map (λ f. f.0) fields.now) ≡ true }
-        ensures tables { self.new ≡ self.old }
-        ensures value { Gives view result (field_at (setting self.old.0 self.old.1) (under id (with_fields fields.now (map (coercions (setting self.old.0 self.old.1)) (part_values parts.now)))) u) }
+        ensures tables { self.new.0 ≡ self.old.0 }
+        ensures value { Gives view result (field_at (setting self.old.0.0 self.old.0.1) (under id (with_fields fields.now (map (coercions (setting self.old.0.0 self.old.0.1)) (part_values parts.now)))) u) }
+        ensures counted { IfOk result (λ v. number (view v) + self.new.1 ≡ self.old.1) }
     {
         match find(fields, id) {
             Some((place, t)) => match parts.get(place) {
@@ -176,8 +186,9 @@ impl<'a> Coercion<'a> {
         expected: &[(u32, TyRef)],
     ) -> Result<Vec<(u32, Value)>, ReadError>
         requires { ids_rise_from 0 (map (λ f. f.0) fields.now) ≡ true }
-        ensures tables { self.new ≡ self.old }
-        ensures values { Gives (λ vs. views_of_fields vs.items) result (each_by (expected_at (setting self.old.0 self.old.1) fields.now (part_values parts.now)) expected.now) }
+        ensures tables { self.new.0 ≡ self.old.0 }
+        ensures values { Gives (λ vs. views_of_fields vs.items) result (each_by (expected_at (setting self.old.0.0 self.old.0.1) fields.now (part_values parts.now)) expected.now) }
+        ensures counted { IfOk result (λ vs. number_each (part_values vs.items) + self.new.1 ≡ self.old.1) }
     {
         let mut items = Vec::with_capacity(self.alloc, expected.len())?;
         for (id, ty) in expected {
@@ -190,8 +201,9 @@ impl<'a> Coercion<'a> {
     /// A record, at a type that is no opt.
     #[cycle(reader)]
     fn record(&mut self, parts: &[(u32, Value)], t: TyRef, u: TyRef) -> Result<Value, ReadError>
-        ensures tables { self.new ≡ self.old }
-        ensures value { Gives view result (parts_at (setting self.old.0 self.old.1) (record_of (parts_of (views_of_fields parts.now))) t u) }
+        ensures tables { self.new.0 ≡ self.old.0 }
+        ensures value { Gives view result (parts_at (setting self.old.0.0 self.old.0.1) (record_of (parts_of (views_of_fields parts.now))) t u) }
+        ensures counted { IfOk result (λ v. number (view v) + self.new.1 ≡ suc self.old.1) }
     {
         match (fields_of(self.wire, t), fields_of(self.expected, u)) {
             (Some(fields), Some(expected)) => record_read(self.fields(fields, parts, expected)),
@@ -203,8 +215,9 @@ impl<'a> Coercion<'a> {
     /// The value of the type t, read at the type u.
     #[cycle(reader)]
     pub(crate) fn read(&mut self, value: &Value, t: TyRef, u: TyRef) -> Result<Value, ReadError>
-        ensures tables { self.new ≡ self.old }
-        ensures value { Gives view result (coerced (setting self.old.0 self.old.1) (view value.now) t u) }
+        ensures tables { self.new.0 ≡ self.old.0 }
+        ensures value { Gives view result (coerced (setting self.old.0.0 self.old.0.1) (view value.now) t u) }
+        ensures counted { IfOk result (λ v. number (view v) + self.new.1 ≡ self.old.1) }
     {
         self.count()?;
         match self.settle(value, t, u)? {
@@ -255,7 +268,8 @@ fn find(fields: &[(u32, TyRef)], id: u32) -> Option<(usize, TyRef)>
 
 /// An empty blob, for a list without items.
 fn no_bytes(alloc: Global, values: &[Value]) -> Result<Value, ReadError>
-    ensures { (coercions : Value → Coercions) → Gives view result (empty_blob (map coercions values.now)) }
+    ensures value { (coercions : Value → Coercions) → Gives view result (empty_blob (map coercions values.now)) }
+    ensures counted { IfOk result (λ v. number (view v) ≡ 1) }
 {
     match values {
         [] => Ok(Value::of_bytes(Vec::new(alloc))),
@@ -264,16 +278,20 @@ fn no_bytes(alloc: Global, values: &[Value]) -> Result<Value, ReadError>
 }
 
 /// The list of the items that were read.
+#[tactic(auto, using(crate::proofs::CountLemmas::number_items))]
 fn list_read(items: Result<Vec<Value>, ReadError>) -> Result<Value, ReadError>
-    ensures { (values : Option (List Content)) → Gives (λ vs. views vs.items) items values → Gives view result (made (λ rs. list (contents_of rs)) values) }
+    ensures value { (values : Option (List Content)) → Gives (λ vs. views vs.items) items values → Gives view result (made (λ rs. list (contents_of rs)) values) }
+    ensures counted { (left total : ℕ) → IfOk items (λ vs. suc (number_each (views vs.items)) + left ≡ total) → IfOk result (λ v. number (view v) + left ≡ total) }
 {
     let items = items?;
     Ok(Value::of_items(items))
 }
 
 /// The record of the fields that were read.
+#[tactic(auto, using(crate::proofs::CountLemmas::number_fields))]
 fn record_read(items: Result<Vec<(u32, Value)>, ReadError>) -> Result<Value, ReadError>
-    ensures { (fields : Option (List (ℕ × Content))) → Gives (λ vs. views_of_fields vs.items) items fields → Gives view result (made (λ rs. record_of (parts_of rs)) fields) }
+    ensures value { (fields : Option (List (ℕ × Content))) → Gives (λ vs. views_of_fields vs.items) items fields → Gives view result (made (λ rs. record_of (parts_of rs)) fields) }
+    ensures counted { (left total : ℕ) → IfOk items (λ vs. suc (number_each (part_values vs.items)) + left ≡ total) → IfOk result (λ v. number (view v) + left ≡ total) }
 {
     let items = items?;
     Ok(Value::of_fields(items))
@@ -285,7 +303,8 @@ fn variant_read(
     position: u32,
     part: Result<Value, ReadError>,
 ) -> Result<Value, ReadError>
-    ensures { (content : Option Content) → Gives view part content → Gives view result (made (variant position) content) }
+    ensures value { (content : Option Content) → Gives view part content → Gives view result (made (variant position) content) }
+    ensures counted { (left total : ℕ) → IfOk part (λ v. suc (number (view v)) + left ≡ total) → IfOk result (λ v. number (view v) + left ≡ total) }
 {
     let part = part?;
     Ok(Value::of_case(alloc, position, part)?)

@@ -1,11 +1,12 @@
-ghost use Rattle.std.specs.Prelude.{◌≡◌, IfOk, Option, Some, length, true, ◌&&◌};
+ghost use Rattle.std.specs.Prelude.{◌≡◌, ℕ, suc, ◌+◌, IfOk, Option, Some, length, true, ◌&&◌};
 ghost use Rattle.cd_types.specs.IsInside.{is_inside};
 ghost use Rattle.ic_base.specs.Gives.{Gives};
 ghost use Rattle.cd_codec.specs.Content.{Content, plain, reserved, none, some};
+ghost use Rattle.cd_codec.specs.Measure.{number};
 ghost use Rattle.cd_codec.specs.View.{view};
 ghost use Rattle.cd_coerce.specs.declared.plain.OptRule.TheVariants.{Inner, Constituent};
 ghost use Rattle.cd_coerce.specs.Read.{coercions, coerced};
-ghost use Rattle.cd_coerce.specs.Step.{setting, opt_rule, lifted, coerced_by, Settles};
+ghost use Rattle.cd_coerce.specs.Step.{setting, opt_rule, lifted, coerced_by, Settles, number_by};
 
 use crate::plain::{OptRule, opt_rule_of, plain_of};
 use crate::shapes::{Way, is_outside_subtype, opt_of, way_of};
@@ -16,7 +17,8 @@ use ic_base::{NoMemory, ReadError};
 use std::alloc::{AllocError, Global};
 use std::marker::Model;
 
-/// Values read at types of one table as values of types of another. Contracts see both tables.
+/// Values read at types of one table as values of types of another. Contracts see both tables, and
+/// how many values may still be made.
 #[derive(Drop)]
 pub(crate) struct Coercion<'a> {
     pub(crate) alloc: Global,
@@ -30,12 +32,12 @@ pub(crate) struct Coercion<'a> {
 }
 
 impl<'a> Model for Coercion<'a> {
-    ghost use Rattle.std.specs.Prelude.{◌≡◌, List};
+    ghost use Rattle.std.specs.Prelude.{◌≡◌, ℕ, List};
     ghost use Rattle.cd_types.specs.declared.entry.Entry.{Entry};
 
-    ghost Value = { List Entry × List Entry };
+    ghost Value = { (List Entry × List Entry) × ℕ };
 
-    ghost view = { λ c. (c.wire.now, c.expected.now) };
+    ghost view = { λ c. ((c.wire.now, c.expected.now), c.left) };
 
     ghost invariant = { λ c. c.subtyping ≡ (c.wire.now, c.expected.now) };
 }
@@ -59,7 +61,7 @@ impl<'a> Coercion<'a> {
         expected: &'a TypeTable,
         most_values: u32,
     ) -> Coercion<'a>
-        ensures { result ≡ (wire.now, expected.now) }
+        ensures { result ≡ ((wire.now, expected.now), most_values) }
     {
         Coercion {
             alloc,
@@ -73,7 +75,8 @@ impl<'a> Coercion<'a> {
     /// Takes one from the values that may still be made.
     #[inline(always)]
     pub(crate) fn count(&mut self) -> Result<(), NoMemory>
-        ensures { self.new ≡ self.old }
+        ensures tables { self.new.0 ≡ self.old.0 }
+        ensures counted { IfOk result (λ done. suc self.new.1 ≡ self.old.1) }
     {
         if self.left == 0 {
             return Err(AllocError);
@@ -83,7 +86,7 @@ impl<'a> Coercion<'a> {
     }
 
     fn are_inside(&self, t: TyRef, u: TyRef) -> bool
-        ensures { result ≡ (is_inside (length self.now.0) t && is_inside (length self.now.1) u) }
+        ensures { result ≡ (is_inside (length self.now.0.0) t && is_inside (length self.now.0.1) u) }
     {
         self.wire.contains(t) && self.expected.contains(u)
     }
@@ -91,7 +94,7 @@ impl<'a> Coercion<'a> {
     /// Whether the one type is a subtype of the other.
     pub(crate) fn is_below(&mut self, t: TyRef, u: TyRef) -> Result<bool, NoMemory>
         ensures tables { self.new ≡ self.old }
-        ensures test { IfOk result (λ yes. yes ≡ (setting self.old.0 self.old.1).below t u) }
+        ensures test { IfOk result (λ yes. yes ≡ (setting self.old.0.0 self.old.0.1).below t u) }
     {
         if self.are_inside(t, u) {
             self.subtyping.is_subtype(t, u)
@@ -107,8 +110,9 @@ impl<'a> Coercion<'a> {
         lift: bool,
         read: Result<Value, ReadError>,
     ) -> Result<Value, ReadError>
-        ensures tables { self.new ≡ self.old }
+        ensures tables { self.new.0 ≡ self.old.0 }
         ensures lifts { (content : Option Content) → Gives view read content → Gives view result (lifted lift content) }
+        ensures counted { (total : ℕ) → IfOk read (λ v. number (view v) + self.old.1 ≡ total) → IfOk result (λ v. number (view v) + self.new.1 ≡ total) }
     {
         if !lift {
             return read;
@@ -127,8 +131,9 @@ impl<'a> Coercion<'a> {
         u: TyRef,
         lift: bool,
     ) -> Result<Step, ReadError>
-        ensures tables { self.new ≡ self.old }
-        ensures settles { Settles (lifted lift ((coercions (setting self.old.0 self.old.1) (view value.now)).own t u)) (coerced_by (setting self.old.0 self.old.1) (view value.now) t) result }
+        ensures tables { self.new.0 ≡ self.old.0 }
+        ensures settles { Settles (lifted lift ((coercions (setting self.old.0.0 self.old.0.1) (view value.now)).own t u)) (coerced_by (setting self.old.0.0 self.old.0.1) (view value.now) t) result }
+        ensures counted { IfOk result (λ step. number_by step + self.new.1 ≡ suc self.old.1) }
     {
         match plain_of(self.expected, value, u)? {
             None => Ok(Step::Parts(u, lift)),
@@ -142,8 +147,9 @@ impl<'a> Coercion<'a> {
     /// Some of a value, at an opt.
     fn settle_inner(&mut self, value: &Value, t: TyRef, w: TyRef) -> Result<Step, ReadError>
         requires { opt_rule (view value.now) ≡ Inner }
-        ensures tables { self.new ≡ self.old }
-        ensures settles { Settles ((coercions (setting self.old.0 self.old.1) (view value.now)).opt t w) (coerced_by (setting self.old.0 self.old.1) (view value.now) t) result }
+        ensures tables { self.new.0 ≡ self.old.0 }
+        ensures settles { Settles ((coercions (setting self.old.0.0 self.old.0.1) (view value.now)).opt t w) (coerced_by (setting self.old.0.0 self.old.0.1) (view value.now) t) result }
+        ensures counted { IfOk result (λ step. number_by step + self.new.1 ≡ suc self.old.1) }
     {
         match opt_of(self.wire, t) {
             None => Err(ReadError::Refused),
@@ -160,8 +166,9 @@ impl<'a> Coercion<'a> {
     /// A value that is neither null, reserved nor an opt, at an opt of the constituent type w.
     fn settle_constituent(&mut self, value: &Value, t: TyRef, w: TyRef) -> Result<Step, ReadError>
         requires { opt_rule (view value.now) ≡ Constituent }
-        ensures tables { self.new ≡ self.old }
-        ensures settles { Settles ((coercions (setting self.old.0 self.old.1) (view value.now)).opt t w) (coerced_by (setting self.old.0 self.old.1) (view value.now) t) result }
+        ensures tables { self.new.0 ≡ self.old.0 }
+        ensures settles { Settles ((coercions (setting self.old.0.0 self.old.0.1) (view value.now)).opt t w) (coerced_by (setting self.old.0.0 self.old.0.1) (view value.now) t) result }
+        ensures counted { IfOk result (λ step. number_by step + self.new.1 ≡ suc self.old.1) }
     {
         if may_miss(self.expected, w) {
             return Ok(Step::Done(Value::none()));
@@ -175,8 +182,9 @@ impl<'a> Coercion<'a> {
 
     #[inline(never)]
     fn settle_opt(&mut self, value: &Value, t: TyRef, w: TyRef) -> Result<Step, ReadError>
-        ensures tables { self.new ≡ self.old }
-        ensures settles { Settles ((coercions (setting self.old.0 self.old.1) (view value.now)).opt t w) (coerced_by (setting self.old.0 self.old.1) (view value.now) t) result }
+        ensures tables { self.new.0 ≡ self.old.0 }
+        ensures settles { Settles ((coercions (setting self.old.0.0 self.old.0.1) (view value.now)).opt t w) (coerced_by (setting self.old.0.0 self.old.0.1) (view value.now) t) result }
+        ensures counted { IfOk result (λ step. number_by step + self.new.1 ≡ suc self.old.1) }
     {
         match opt_rule_of(value) {
             OptRule::ToNone => Ok(Step::Done(Value::none())),
@@ -188,8 +196,9 @@ impl<'a> Coercion<'a> {
     /// How a value of the type t is read at the type u.
     #[inline(always)]
     pub(crate) fn settle(&mut self, value: &Value, t: TyRef, u: TyRef) -> Result<Step, ReadError>
-        ensures tables { self.new ≡ self.old }
-        ensures settles { Settles (coerced (setting self.old.0 self.old.1) (view value.now) t u) (coerced_by (setting self.old.0 self.old.1) (view value.now) t) result }
+        ensures tables { self.new.0 ≡ self.old.0 }
+        ensures settles { Settles (coerced (setting self.old.0.0 self.old.0.1) (view value.now) t u) (coerced_by (setting self.old.0.0 self.old.0.1) (view value.now) t) result }
+        ensures counted { IfOk result (λ step. number_by step + self.new.1 ≡ suc self.old.1) }
     {
         match way_of(self.expected, u) {
             Way::Reserved => Ok(Step::Done(reserved_value())),
@@ -208,7 +217,8 @@ fn reserved_value() -> Value
 
 /// Some of what was read.
 pub(crate) fn some_read(alloc: Global, read: Result<Value, ReadError>) -> Result<Value, ReadError>
-    ensures { (content : Option Content) → Gives view read content → Gives view result (lifted true content) }
+    ensures lifts { (content : Option Content) → Gives view read content → Gives view result (lifted true content) }
+    ensures counted { (left total : ℕ) → IfOk read (λ v. suc (number (view v)) + left ≡ total) → IfOk result (λ v. number (view v) + left ≡ total) }
 {
     let value = read?;
     Ok(Value::some(alloc, value)?)

@@ -10,4 +10,4 @@ returns-clause-typed c =
     let formed : IsTrue (is_table c.args.expected.now.0) = subst (λ (table : List Entry). IsTrue (is_table table)) c.table.ensures c.well_formed_table.ensures in
     let bytes = are_bytes c.args.bytes.now (λ i. let fits = c.type_inv.bytes i in search rules) in
     typed_answer c.arguments_of.result c.args.expected.now c.args.bytes.now
-    (λ rs e. results_typed c.args.expected.now c.args.bytes.now rs formed bytes ((c.one_answer.ensures.values c.args.expected.now c.args.bytes.now rs).0 e)) c.arguments_of.ensures
+    (λ rs e. results_typed c.args.expected.now c.args.bytes.now rs formed bytes ((c.one_answer.ensures.values c.args.expected.now c.args.bytes.now rs).0 e)) c.arguments_of.ensures.answer

@@ -8,7 +8,7 @@ use Rattle.cd_coerce.proofs.step.Coercion.blob.Goals as goal
 
 pub returns-else-is_nat8-clause-value : goal.returns-else-is_nat8-clause-value
 returns-else-is_nat8-clause-value c =
-    let lower : Some c.in-Some-Some.from ≡ seq_of (shape c.args.self.now.0 c.args.t) = search rules in
-    let upper : Some c.in-Some-Some.to ≡ seq_of (shape c.args.self.now.1 c.args.u) = search rules in
+    let lower : Some c.in-Some-Some.from ≡ seq_of (shape c.args.self.now.0.0 c.args.t) = search rules in
+    let upper : Some c.in-Some-Some.to ≡ seq_of (shape c.args.self.now.0.1 c.args.u) = search rules in
     let other : false ≡ is_nat8 c.in-Some-Some.to = search rules in
-    rw (blob_items (in_tables c.args.self.now) c.args.bytes.now c.args.t c.args.u c.in-Some-Some.from c.in-Some-Some.to lower upper other) (c.list_read.ensures _ c.bytes.ensures.values)
+    rw (blob_items (in_tables c.args.self.now.0) c.args.bytes.now c.args.t c.args.u c.in-Some-Some.from c.in-Some-Some.to lower upper other) (c.list_read.ensures.value _ c.bytes.ensures.values)

@@ -1,4 +1,5 @@
-use Rattle.std.proofs.Common.{◌≡◌, drop}
+use Rattle.std.proofs.Common.{◌≡◌, ◌+◌, drop}
+use Rattle.cd_codec.specs.Measure.{number_each}
 use Rattle.cd_codec.specs.View.{views}
 use Rattle.cd_coerce.specs.Parts.{byte_value}
 use Rattle.cd_coerce.specs.Read.{coerced}
@@ -10,7 +11,8 @@ use Rattle.cd_coerce.proofs.step.Coercion.bytes.Given as goal
 abbrev pub invariant-loop-byte : goal.invariant-loop-byte
 invariant-loop-byte l =
     record {
-      same : l.self ≡ l.fn.self;
-      read : after (views l.items.items) (each_by (λ b. coerced (setting l.fn.self.0 l.fn.self.1) (byte_value b) l.t l.u) (drop l.byte-index l.bytes))
-          ≡ each_by (λ b. coerced (setting l.fn.self.0 l.fn.self.1) (byte_value b) l.t l.u) l.bytes;
+      same : l.self.0 ≡ l.fn.self.0;
+      read : after (views l.items.items) (each_by (λ b. coerced (setting l.fn.self.0.0 l.fn.self.0.1) (byte_value b) l.t l.u) (drop l.byte-index l.bytes))
+          ≡ each_by (λ b. coerced (setting l.fn.self.0.0 l.fn.self.0.1) (byte_value b) l.t l.u) l.bytes;
+      counted : number_each (views l.items.items) + l.self.1 ≡ l.fn.self.1;
     }

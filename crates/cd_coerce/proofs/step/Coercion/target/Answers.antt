@@ -14,8 +14,8 @@ overflow_cast-result c =
 
 pub returns-in_ok-place-in-Some-Some : goal.returns-in_ok-place-in-Some-Some
 returns-in_ok-place-in-Some-Some c =
-    let lower : cases_of (shape c.args.self.now.0 c.args.t) ≡ Some c.in-Some-Some.cases.now = search rules in
-    let upper : cases_of (shape c.args.self.now.1 c.args.u) ≡ Some c.in-Some-Some.expected.now = search rules in
+    let lower : cases_of (shape c.args.self.now.0.0 c.args.t) ≡ Some c.in-Some-Some.cases.now = search rules in
+    let upper : cases_of (shape c.args.self.now.0.1 c.args.u) ≡ Some c.in-Some-Some.expected.now = search rules in
     let got : slice_get c.in-Some-Some.cases.now c.args.position ≡ Some c.in_ok-id-in-Some-Some.field-0.now =
     slice_get_read c.in-Some-Some.cases.now _ c.args.position c.in_ok-id-in-Some-Some.field-0.now refl c.in_ok-id-in-Some-Some.ensures.lookup.3.0 c.in_ok-id-in-Some-Some.ensures.lookup.1 in
-    target_is (shape c.args.self.now.0 c.args.t) (shape c.args.self.now.1 c.args.u) c.args.position c.in_ok-place-in-Some-Some.place _ _ c.in_ok-id-in-Some-Some.field-0.now c.in_ok-place-in-Some-Some.to lower got upper c.in_ok-place-in-Some-Some.ensures
+    target_is (shape c.args.self.now.0.0 c.args.t) (shape c.args.self.now.0.1 c.args.u) c.args.position c.in_ok-place-in-Some-Some.place _ _ c.in_ok-id-in-Some-Some.field-0.now c.in_ok-place-in-Some-Some.to lower got upper c.in_ok-place-in-Some-Some.ensures
