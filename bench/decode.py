@@ -1,9 +1,12 @@
 #!/usr/bin/env python3
-"""Writes a script of one `decode` line to standard output, of the kind that its first word names:
+"""Writes a script of one line to standard output: a `show` line where the first word is `show`, else a `decode` line.
+The next word names its kind:
 
 rings A B [late]   vec types in rings of A and of B entries, asked for at one argument; with `late`
                    variants in rings, of which one late pair does not fit
 fields A B N       the same late pair, asked for by N opt fields
+graphs N M         a vec of records without any: N records of M fields, each of which is one of these records, against
+                   N such records with other fields, so that all N times N pairs are asked for
 values N           N values, each read at opt
 records N M        N empty records, read at M opt fields
 """
@@ -60,6 +63,17 @@ def fields(words):
             header(sent, reference(lower)) + b"\x01\x00" * count)
 
 
+def graph(count, width, step):
+    """Records of which each names others: the field `at` of the record `place` is the record `place + step * at + 1`."""
+    return [record([reference((place + step * at + 1) % count) for at in range(width)]) for place in range(count)]
+
+
+def graphs(words):
+    count, width = int(words[0]), int(words[1])
+    expected, sent = (graph(count, width, step) + [vec(reference(0))] for step in (2, 1))
+    return (header(expected, reference(count)), header(sent, reference(count)) + b"\x00")
+
+
 def values(words):
     count = int(words[0])
     return (header([vec(reference(1)), opt(NAT)], reference(0)),
@@ -73,6 +87,8 @@ def records(words):
             header([vec(reference(1)), EMPTY_RECORD], reference(0)) + unsigned(count))
 
 
-kinds = {"rings": rings, "fields": fields, "values": values, "records": records}
-expected, message = kinds[sys.argv[1]](sys.argv[2:])
-print("decode", expected.hex(), message.hex())
+kinds = {"rings": rings, "fields": fields, "graphs": graphs, "values": values, "records": records}
+words = sys.argv[1:]
+verb = words.pop(0) if words[0] == "show" else "decode"
+expected, message = kinds[words[0]](words[1:])
+print(verb, expected.hex(), message.hex())

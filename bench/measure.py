@@ -3,15 +3,15 @@ import os
 import sys
 
 
-def measured(command, path):
-    """Processor seconds (user and system; the best of five runs) and peak kilobytes of a command
-    that reads the file from standard input."""
+def measured(command, path, runs=5, output=os.devnull):
+    """Processor seconds (user and system; the best of so many runs) and peak kilobytes of a command
+    that reads the file from standard input and writes to a file that is there."""
     seconds, peak = [], 0
-    for _ in range(5):
+    for _ in range(runs):
         child = os.fork()
         if child == 0:
             os.dup2(os.open(path, os.O_RDONLY), 0)
-            os.dup2(os.open(os.devnull, os.O_WRONLY), 1)
+            os.dup2(os.open(output, os.O_WRONLY | os.O_TRUNC), 1)
             os.execvp(command[0], command)
         _, status, used = os.wait4(child, 0)
         if status != 0:
