@@ -1,6 +1,6 @@
 -- The tokens of a text, one after the other.
 use Rattle.std.proofs.Common.{◌≡◌, ℕ, zero, suc, ◌+◌, ◌<◌, Bool, true, List, [], ◌∷◌, ◌++◌, length, Option, Some, None, refl, sym, ap, ◌∙◌, append_assoc, inl, inr, subst, arith}
-use Rattle.std.specs.Prelude.{Err}
+use Rattle.std.specs.Prelude.{Err, option_map}
 use Rattle.std.proofs.lemmas.List.{append-nil, length-append, nil_from_length}
 use Rattle.ic_base.specs.declared.read_error.ReadError.{ReadError}
 use Rattle.ic_base.specs.declared.read_error.ReadError.TheVariants.{NoMemory, Refused}
@@ -181,6 +181,14 @@ shorter comments rest t after behind e passed =
     ]
 
 -- why the loop stops before the end: no text has tokens then
+-- what the code found, seen by view, where it found something
+pub found_is : {A B : Type 0} (view : A → B) (found : Option A) (read : Option B) (x : A) → option_map view found ≡ read → found ≡ Some x → read ≡ Some (view x)
+found_is view found read x e is = sym e ∙ ap (option_map view) is
+
+pub none_fails : {A B : Type 0} (e : ReadError) (view : A → B) (found : Option A) (read : Option B) → option_map view found ≡ read → found ≡ None → Fails e read
+none_fails NoMemory view found read e is = tt
+none_fails Refused view found read e is = sym e ∙ ap (option_map view) is
+
 pub no_first_gap : {A : Type 0} (view : A → List Token) (e : ReadError) (comments : Bool) (text : List ℕ) → Fails e (past_gap comments text) → (tokens : List Token) → IsTokens comments tokens text → Agrees view (Err e) tokens
 no_first_gap view NoMemory comments text none tokens is = tt
 no_first_gap view Refused comments text none tokens is = no_gap comments text none tokens is

@@ -26,9 +26,13 @@ name_of arrow = None
 abbrev pub id_of : List ℕ → Option ℕ
 id_of name = Some (field_id_of name)
 
+-- the id of a label that is no string
+abbrev pub run_label : List ℕ → Option ℕ
+run_label r = if is_plain_number r then below (2 ^ 32) (numeral_of r) else if is_name r then id_of r else None
+
 -- the id of a label
 unfoldable pub label_of : Token → Option ℕ
-label_of (run r) = if is_plain_number r then below (2 ^ 32) (numeral_of r) else if is_name r then id_of r else None
+label_of (run r) = run_label r
 label_of (quoted s) = text_of s >>= id_of
 label_of (mark m) = None
 label_of arrow = None

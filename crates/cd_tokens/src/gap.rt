@@ -1,9 +1,6 @@
-ghost use Rattle.std.specs.Prelude.{◌≡◌, ◌==◌, ◌&&◌};
-ghost use Rattle.ic_base.specs.Gives.{Gives};
+ghost use Rattle.std.specs.Prelude.{◌≡◌, ◌==◌, ◌&&◌, option_map};
 ghost use Rattle.cd_tokens.specs.Bytes.{is_blank};
 ghost use Rattle.cd_tokens.specs.ReadGap.{step, may_end, may_stop, past_gap};
-
-use ic_base::ReadError;
 
 /// Where in a gap a byte stands.
 #[derive(Clone, Copy)]
@@ -89,9 +86,9 @@ impl Place {
     }
 }
 
-/// What stands behind the gap. `Refused`: a comment is not closed.
-pub(crate) fn past_gap(comments: bool, text: &[u8]) -> Result<&[u8], ReadError>
-    ensures { Gives (λ rest. rest.now) result (past_gap comments text.now) }
+/// What stands behind the gap. `None`: a comment is not closed.
+pub(crate) fn past_gap(comments: bool, text: &[u8]) -> Option<&[u8]>
+    ensures { option_map (λ rest. rest.now) result ≡ past_gap comments text.now }
 {
     let mut place = Place::Between;
     for (index, byte) in text.iter().enumerate() {
@@ -99,16 +96,12 @@ pub(crate) fn past_gap(comments: bool, text: &[u8]) -> Result<&[u8], ReadError>
             Some(next) => place = next,
             None => {
                 return if place.may_stop() {
-                    Ok(text.split_at(index).1)
+                    Some(text.split_at(index).1)
                 } else {
-                    Err(ReadError::Refused)
+                    None
                 };
             }
         }
     }
-    if place.may_end() {
-        Ok(&[])
-    } else {
-        Err(ReadError::Refused)
-    }
+    if place.may_end() { Some(&[]) } else { None }
 }

@@ -3,7 +3,7 @@ ghost use Rattle.std.specs.List.{list_all};
 ghost use Rattle.ic_base.specs.Gives.{Gives};
 ghost use Rattle.cd_tokens.specs.Bytes.{is_digit, is_word_byte};
 ghost use Rattle.cd_tokens.specs.Label.{is_name, is_plain_number};
-ghost use Rattle.cd_tokens.specs.ReadLabel.{utf8_of, text_of, name_of, label_of};
+ghost use Rattle.cd_tokens.specs.ReadLabel.{utf8_of, text_of, name_of, run_label, label_of};
 ghost use Rattle.cd_tokens.specs.ReadNumeral.{numeral_of, below};
 ghost use Rattle.cd_tokens.specs.View.{token_view};
 
@@ -17,15 +17,15 @@ use ic_principal::Text;
 use std::alloc::Global;
 
 // The text of bytes that are UTF-8.
-fn utf8_of(bytes: Vec<u8>) -> Result<Text, ReadError>
-    ensures { Gives (λ text. text) result (utf8_of bytes.items) }
+fn utf8_of(bytes: Vec<u8>) -> Option<Text>
+    ensures { result ≡ utf8_of bytes.items }
 {
     match String::from_utf8(bytes) {
         Ok(items) => {
             let _utf8 = items.as_str();
-            Ok(Text { items })
+            Some(Text { items })
         }
-        Err(_) => Err(ReadError::Refused),
+        Err(_) => None,
     }
 }
 
@@ -34,7 +34,7 @@ fn utf8_of(bytes: Vec<u8>) -> Result<Text, ReadError>
 pub fn text_of(alloc: Global, written: &[u8]) -> Result<Text, ReadError>
     ensures { Gives (λ text. text) result (text_of written.now) }
 {
-    utf8_of(unescaped_of(alloc, written)?)
+    utf8_of(unescaped_of(alloc, written)?).ok_or(ReadError::Refused)
 }
 
 fn are_word_bytes(bytes: &[u8]) -> bool
@@ -77,7 +77,7 @@ fn utf8_name(alloc: Global, name: &[u8]) -> Result<Text, ReadError>
         Ok(name) => Ok(Text {
             items: String::from_str(alloc, name)?,
         }),
-        Err(_) => Err(ReadError::Refused),
+        Err(_) => unreachable!(),
     }
 }
 
@@ -95,23 +95,35 @@ pub fn name_of(alloc: Global, token: &Token<'_>) -> Result<Text, ReadError>
             }
         }
         Token::Quoted(string) => text_of(alloc, string.bytes),
-        Token::Mark(_) => Err(ReadError::Refused),
-        Token::Arrow => Err(ReadError::Refused),
+        Token::Mark(_) | Token::Arrow => Err(ReadError::Refused),
     }
 }
 
-fn small_number(bytes: &[u8]) -> Result<u32, ReadError>
-    ensures { Gives (λ n. n) result (below (2 ^ 32) (numeral_of bytes.now)) }
+fn small_number(bytes: &[u8]) -> Option<u32>
+    ensures { result ≡ below (2 ^ 32) (numeral_of bytes.now) }
 {
     match numeral_of(bytes) {
-        None => Err(ReadError::Refused),
+        None => None,
         Some(number) => {
             if number < 1 << 32 {
-                Ok(number as u32)
+                Some(number as u32)
             } else {
-                Err(ReadError::Refused)
+                None
             }
         }
+    }
+}
+
+// The id of a label that is no string.
+fn run_label(run: &[u8]) -> Option<u32>
+    ensures { result ≡ run_label run.now }
+{
+    if is_plain_number(run) {
+        small_number(run)
+    } else if is_name(run) {
+        Some(field_id_of_bytes(run))
+    } else {
+        None
     }
 }
 
@@ -122,20 +134,11 @@ pub fn label_of(alloc: Global, token: &Token<'_>) -> Result<u32, ReadError>
     ensures { Gives (λ id. id) result (label_of (token_view token.now)) }
 {
     match token {
-        Token::Run(run) => {
-            if is_plain_number(run.bytes) {
-                small_number(run.bytes)
-            } else if is_name(run.bytes) {
-                Ok(field_id_of_bytes(run.bytes))
-            } else {
-                Err(ReadError::Refused)
-            }
-        }
+        Token::Run(run) => run_label(run.bytes).ok_or(ReadError::Refused),
         Token::Quoted(string) => {
             let name = text_of(alloc, string.bytes)?;
             Ok(field_id_of_bytes(name.items.as_bytes()))
         }
-        Token::Mark(_) => Err(ReadError::Refused),
-        Token::Arrow => Err(ReadError::Refused),
+        Token::Mark(_) | Token::Arrow => Err(ReadError::Refused),
     }
 }

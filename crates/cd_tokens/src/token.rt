@@ -1,6 +1,5 @@
-ghost use Rattle.std.specs.Prelude.{◌≡◌, ◌==◌, ◌&&◌, not, ℕ, ◌<◌, ◌≤◌, length, IfSome, false, List, IfOk};
+ghost use Rattle.std.specs.Prelude.{◌≡◌, ◌==◌, ◌&&◌, not, ℕ, ◌<◌, ◌≤◌, length, IfSome, false, List, IfOk, option_map};
 ghost use Rattle.std.specs.List.{prefix_len};
-ghost use Rattle.ic_base.specs.Gives.{Gives};
 ghost use Rattle.cd_tokens.specs.Bytes.{is_word_byte};
 ghost use Rattle.cd_tokens.specs.ReadToken.{end_of, string_at, run_at, ends_arrow, token_at};
 ghost use Rattle.cd_tokens.specs.Token.{begins_run};
@@ -61,15 +60,15 @@ fn end_of(bytes: &[u8]) -> Option<usize>
     None
 }
 
-fn string_of(bytes: &[u8]) -> Result<(Token<'_>, &[u8]), ReadError>
-    ensures { Gives (λ x. (token_view x.0, x.1.now)) result (string_at bytes.now) }
+fn string_of(bytes: &[u8]) -> Option<(Token<'_>, &[u8])>
+    ensures { option_map (λ x. (token_view x.0, x.1.now)) result ≡ string_at bytes.now }
 {
     match end_of(bytes) {
-        None => Err(ReadError::Refused),
+        None => None,
         Some(end) => {
             let (front, _) = bytes.split_at(end);
             let (_, rest) = bytes.split_at(end + 1);
-            Ok((Token::Quoted(Piece { bytes: front }), rest))
+            Some((Token::Quoted(Piece { bytes: front }), rest))
         }
     }
 }
@@ -99,22 +98,22 @@ fn is_arrow(byte: u8, rest: &[u8]) -> bool
 }
 
 #[tactic(auto, unfolding(crate::specs::ReadToken::token_at))]
-fn token_of(bytes: &[u8]) -> Result<(Token<'_>, &[u8]), ReadError>
-    ensures { Gives (λ x. (token_view x.0, x.1.now)) result (token_at bytes.now) }
+fn token_of(bytes: &[u8]) -> Option<(Token<'_>, &[u8])>
+    ensures { option_map (λ x. (token_view x.0, x.1.now)) result ≡ token_at bytes.now }
 {
     match bytes {
-        [] => Err(ReadError::Refused),
+        [] => None,
         [first, rest @ ..] => {
             if is_mark(*first) {
-                Ok((Token::Mark(*first), rest))
+                Some((Token::Mark(*first), rest))
             } else if *first == b'"' {
                 string_of(rest)
             } else if begins_run(*first, rest) {
-                Ok(run_of(bytes))
+                Some(run_of(bytes))
             } else if is_arrow(*first, rest) {
-                Ok((Token::Arrow, &rest[1..]))
+                Some((Token::Arrow, &rest[1..]))
             } else {
-                Err(ReadError::Refused)
+                None
             }
         }
     }
@@ -133,11 +132,11 @@ pub fn tokens_of<'a>(
     ensures only { (tokens : List token.Token) → IsTokens comments tokens text.now → Agrees (λ ts. token_views ts.items) result tokens }
 {
     let mut tokens = Vec::new(alloc);
-    let mut rest = past_gap(comments, text)?;
+    let mut rest = past_gap(comments, text).ok_or(ReadError::Refused)?;
     while !rest.is_empty() {
-        let (token, after) = token_of(rest)?;
+        let (token, after) = token_of(rest).ok_or(ReadError::Refused)?;
         tokens.push(token)?;
-        rest = past_gap(comments, after)?;
+        rest = past_gap(comments, after).ok_or(ReadError::Refused)?;
     }
     Ok(tokens)
 }
