@@ -34,7 +34,7 @@ put_moves {K} cmp x (first ∷ rows) = elim (true_or_false (is_lt (cmp x.0 first
       rw other (IsPermutation-trans (x ∷ first ∷ rows) (first ∷ x ∷ rows) (first ∷ put cmp x rows) swapped more)
 ]
 
-in_order_moves : {K : Type 0} (cmp : K → K → Ordering) (rows : List (K × TyRef)) → IsPermutation rows (in_order cmp rows)
+pub in_order_moves : {K : Type 0} (cmp : K → K → Ordering) (rows : List (K × TyRef)) → IsPermutation rows (in_order cmp rows)
 in_order_moves cmp [] = IsPermutation-refl []
 in_order_moves cmp (x ∷ rows) =
     IsPermutation-trans (x ∷ rows) (x ∷ in_order cmp rows) (put cmp x (in_order cmp rows))

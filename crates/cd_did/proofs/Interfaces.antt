@@ -29,8 +29,8 @@ use Rattle.cd_did.specs.Denotes.{Denotes, StandsFor, MainStands, FileStands}
 use Rattle.cd_did.specs.Interfaces.{HasEnded, service_at, IsTabled, IsWithin}
 use Rattle.cd_grammar.proofs.Words.{true_or_false}
 use Rattle.cd_did.proofs.ApartLemmas.{apart, all_bound}
-use Rattle.cd_did.proofs.Stands.{Known, Fine, is_fine, is_decided, decided_is, all_stand}
-use Rattle.cd_did.proofs.Tables.{Whole, made_table, target_inside, all_wider}
+use Rattle.cd_did.proofs.Stands.{Known, Fine, is_fine, is_decided, decided_is, AreLike, all_like, all_stand}
+use Rattle.cd_did.proofs.Tables.{Whole, made_table, target_within, all_wider}
 
 abbrev Row : Type 0
 Row = List ℕ × Part
@@ -170,22 +170,33 @@ all_shaped file ends has formed served = (
 
 -- ---- the interface
 
-place_stands : (file : File) (ends : List ℕ) (made : List Entry) → HasEnded file ends → FitsFile file → EntriesOf file ends made → length file.types ≤ 10000 → (place : ℕ) → place < length file.types → StandsFor file made (Place place) (refs.Index place)
+place_stands : (file : File) (ends : List ℕ) (made : List Entry) → HasEnded file ends → FitsFile file → AreLike file ends made → length file.types ≤ 10000 → (place : ℕ) → place < length file.types → StandsFor file made (Place place) (refs.Index place)
 place_stands file ends made has fits of few place below n =
     let small : nat_lt place (2 ^ 32) ≡ true = grind (arith, below, few) in
     let own : nat_lt place (length file.types) ≡ true = grind (arith, below) in
     let is : place_ref place ≡ refs.Index place = rw small refl in
     subst (λ (r : TyRef). Denotes n file made (Place place) r) is (all_stand n file ends made (known file ends has) (fine file has.0 fits).0 of few (Place place) (rw own refl))
 
-main_stands : (file : File) (ends : List ℕ) (made : List Entry) → HasEnded file ends → FitsFile file → EntriesOf file ends made → length file.types ≤ 10000 → (main : Option Main) → all_in_main (is_fine file) main ≡ true
+main_stands : (file : File) (ends : List ℕ) (made : List Entry) → HasEnded file ends → FitsFile file → AreLike file ends made → length file.types ≤ 10000 → (main : Option Main) → all_in_main (is_fine file) main ≡ true
     → MainStands file made main (option_map (λ (m : Main). target file.definitions ends m.service) main)
 main_stands file ends made has fits of few None e = tt
 main_stands file ends made has fits of few (Some main) e = λ n.
     all_stand n file ends made (known file ends has) (fine file has.0 fits).0 of few main.service (both_true (list_all (is_fine file) main.tuple) (is_fine file main.service) e).1
 
-main_within : (file : File) (ends : List ℕ) (made : List Entry) → Whole file ends made → (main : Option Main) → all_in_main (is_fine file) main ≡ true → IfSome (option_map (λ (m : Main). target file.definitions ends m.service) main) (λ r. IsTrue (is_inside (length made) r))
-main_within file ends made whole None e = tt
-main_within file ends made whole (Some main) e = target_inside file ends made whole main.service (both_true (list_all (is_fine file) main.tuple) (is_fine file main.service) e).1
+main_within : (file : File) (ends : List ℕ) → HasEnded file ends → FitsFile file → length file.types ≤ 10000 → (main : Option Main) → all_in_main (is_fine file) main ≡ true
+    → IfSome (option_map (λ (m : Main). target file.definitions ends m.service) main) (λ r. IsTrue (is_inside (length file.types) r))
+main_within file ends has fits few None e = tt
+main_within file ends has fits few (Some main) e =
+    target_within file ends (known file ends has) (fine file has.0 fits).0 few main.service (both_true (list_all (is_fine file) main.tuple) (is_fine file main.service) e).1
+
+-- what is made of a file stands for it
+pub made_stands : (file : File) (ends : List ℕ) (made : List Entry) → HasEnded file ends → FitsFile file → length made ≡ length file.types → AreLike file ends made → length file.types ≤ 10000
+    → FileStands file made (service_at file ends) × IfSome (service_at file ends) (λ r. IsTrue (is_inside (length made) r))
+made_stands file ends made has fits size like few =
+    let main_fine = (fine file has.0 fits).1 in (
+      record { types = place_stands file ends made has fits like few; main = main_stands file ends made has fits like few file.main main_fine },
+      subst (λ (n : ℕ). IfSome (service_at file ends) (λ r. IsTrue (is_inside n r))) (sym size) (main_within file ends has fits few file.main main_fine),
+    )
 
 -- a table's entries are few
 few_made : (file : File) (ends : List ℕ) (made : List Entry) → EntriesOf file ends made → is_table made ≡ true → length file.types ≤ 10000
@@ -198,12 +209,9 @@ pub answered : (file : File) (ends : List ℕ) (made : List Entry) (result : Res
     → IsTabled made (service_at file ends) result → Answers file result × IfOk result IsWithin
 answered file ends made (Ok interface) has fits of served tabled =
     let few = few_made file ends made of.0 tabled.2 in
-    let main_fine = (fine file has.0 fits).1 in
-    let within = main_within file ends made (whole file ends made has fits of.0 few) file.main main_fine in
-    let stands : FileStands file made (service_at file ends) =
-    record { types = place_stands file ends made has fits of.0 few; main = main_stands file ends made has fits of.0 few file.main main_fine } in (
-      ((has.0, all_shaped file ends has of.1 served), few, subst (λ (t : List Entry). FileStands file t interface.service) (sym tabled.0) (subst (λ (s : Option TyRef). FileStands file made s) (sym tabled.1) stands)),
-      subst (λ (t : List Entry). IfSome interface.service (λ r. IsTrue (is_inside (length t) r))) (sym tabled.0) (subst (λ (s : Option TyRef). IfSome s (λ r. IsTrue (is_inside (length made) r))) (sym tabled.1) within),
+    let m = made_stands file ends made has fits of.0.0 (all_like file ends made of.0) few in (
+      ((has.0, all_shaped file ends has of.1 served), few, subst (λ (t : List Entry). FileStands file t interface.service) (sym tabled.0) (subst (λ (s : Option TyRef). FileStands file made s) (sym tabled.1) m.0)),
+      subst (λ (t : List Entry). IfSome interface.service (λ r. IsTrue (is_inside (length t) r))) (sym tabled.0) (subst (λ (s : Option TyRef). IfSome s (λ r. IsTrue (is_inside (length made) r))) (sym tabled.1) m.1),
     )
 answered file ends made (Err fault) has fits of served tabled =
     let many : 10000 < length file.types = elim (true_or_false (nat_lt 10000 (length file.types))) [

@@ -13,3 +13,4 @@ pub mod InOrder
 pub mod RowOrder
 pub mod Decided
 pub mod Said
+pub mod Told

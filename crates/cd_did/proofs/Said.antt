@@ -55,7 +55,7 @@ ends_jump defs = (
       ∙ ap (λ (n : ℕ). Some n) (get_or-map-range_with_len (after_steps defs (length defs)) 0 (length defs) i i 0 below (omega arith)),
 )
 
-has_ends : (defs : Definitions) → HasEnds defs (ends_of defs)
+pub has_ends : (defs : Definitions) → HasEnds defs (ends_of defs)
 has_ends defs = (length defs, omega arith, ends_jump defs)
 
 no_ring : (file : File) → HasTypes file → least_from (is_named_at file.definitions) None (ends_of file.definitions) ≡ None

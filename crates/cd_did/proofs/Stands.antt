@@ -3,9 +3,12 @@ use Rattle.std.proofs.Common.{◌≡◌, ℕ, zero, suc, ◌+◌, ◌≤◌, ◌
 use Rattle.std.proofs.lemmas.List.Folds.{list_all-append}
 use Rattle.std.specs.Prelude.{◌&&◌, nat_lt, slice_get}
 use Rattle.std.specs.List.{list_all}
+use Rattle.std.specs.List.Sorted.{IsPermutation}
 use Rattle.ic_base.specs.Reader.{◌>>=◌}
 use Rattle.ic_base.proofs.Steps.{bind_some, some_is}
+use Rattle.cd_types.specs.declared.entry.TyRef.{TyRef}
 use Rattle.cd_types.specs.declared.entry.Entry.{Entry}
+use Rattle.cd_types.specs.declared.entry.Entry.TheVariants as entries
 use Rattle.cd_types.specs.Shape.{Shape, compound, entry_shape, shape}
 use Rattle.cd_types.proofs.EntryLemmas.{test_at}
 use Rattle.cd_types.proofs.FaultLemmas.{both_true}
@@ -127,17 +130,41 @@ labelled_stand n file ends made law (part ∷ parts) e =
     let h = both_true (is_fine file part.1) (list_all (is_fine file) (map (λ f. f.1) parts)) e in
     (target file.definitions ends part.1, map (row file.definitions ends) parts, refl, law part.1 h.0, labelled_stand n file ends made law parts h.1)
 
-type_stands : (n : ℕ) (file : File) (ends : List ℕ) (made : List Entry) → Stand n file ends made → (w : Written) (entry : Entry) → list_all (is_fine file) (parts_of w) ≡ true → EntryOf file ends w entry → TypeStands (Denotes n file made) (Some w) (compound entry)
+-- the entry of a type, its rows in any order
+abbrev pub IsLike : File → List ℕ → Written → Entry → Type 0
+IsLike file ends (Opt part) entry = entry ≡ entries.Opt (target file.definitions ends part)
+IsLike file ends (Seq part) entry = entry ≡ entries.Seq (target file.definitions ends part)
+IsLike file ends (Rec fields) entry = (rows : List (ℕ × TyRef)) × (entry ≡ entries.Rec rows) × IsPermutation (map (row file.definitions ends) fields) rows
+IsLike file ends (Var cases) entry = (rows : List (ℕ × TyRef)) × (entry ≡ entries.Var rows) × IsPermutation (map (row file.definitions ends) cases) rows
+IsLike file ends (Func args results notes) entry = entry ≡ entries.Func (map (target file.definitions ends) args) (map (target file.definitions ends) results) notes
+IsLike file ends (Service methods) entry = (rows : List (List ℕ × TyRef)) × (entry ≡ entries.Service rows) × IsPermutation (map (row file.definitions ends) methods) rows
+
+-- such entries of all types
+abbrev pub AreLike : File → List ℕ → List Entry → Type 0
+AreLike file ends made = (i : ℕ) (w : Written) → slice_get file.types i ≡ Some w → (entry : Entry) × (slice_get made i ≡ Some entry) × IsLike file ends w entry
+
+entry_like : (file : File) (ends : List ℕ) (w : Written) (entry : Entry) → EntryOf file ends w entry → IsLike file ends w entry
+entry_like file ends (Opt part) entry of = of
+entry_like file ends (Seq part) entry of = of
+entry_like file ends (Rec fields) entry of = (of.0, of.1, of.2.0)
+entry_like file ends (Var cases) entry of = (of.0, of.1, of.2.0)
+entry_like file ends (Func args results notes) entry of = of
+entry_like file ends (Service methods) entry of = (of.0, of.1, of.2.0)
+
+pub all_like : (file : File) (ends : List ℕ) (made : List Entry) → EntriesOf file ends made → AreLike file ends made
+all_like file ends made of i w at = let entry = of.1 i w at in (entry.0, entry.1, entry_like file ends w entry.0 entry.2)
+
+type_stands : (n : ℕ) (file : File) (ends : List ℕ) (made : List Entry) → Stand n file ends made → (w : Written) (entry : Entry) → list_all (is_fine file) (parts_of w) ≡ true → IsLike file ends w entry → TypeStands (Denotes n file made) (Some w) (compound entry)
 type_stands n file ends made law (Opt part) entry e of = let h = both_true (is_fine file part) true e in (target file.definitions ends part, ap compound of, law part h.0)
 type_stands n file ends made law (Seq part) entry e of = let h = both_true (is_fine file part) true e in (target file.definitions ends part, ap compound of, law part h.0)
-type_stands n file ends made law (Rec fields) entry e of = (of.0, ap compound of.1, (map (row file.definitions ends) fields, labelled_stand n file ends made law fields e, of.2.0))
-type_stands n file ends made law (Var cases) entry e of = (of.0, ap compound of.1, (map (row file.definitions ends) cases, labelled_stand n file ends made law cases e, of.2.0))
+type_stands n file ends made law (Rec fields) entry e of = (of.0, ap compound of.1, (map (row file.definitions ends) fields, labelled_stand n file ends made law fields e, of.2))
+type_stands n file ends made law (Var cases) entry e of = (of.0, ap compound of.1, (map (row file.definitions ends) cases, labelled_stand n file ends made law cases e, of.2))
 type_stands n file ends made law (Func args results notes) entry e of =
     let h = both_true (list_all (is_fine file) args) (list_all (is_fine file) results) (sym (list_all-append (is_fine file) args results) ∙ e) in
     (map (target file.definitions ends) args, map (target file.definitions ends) results, ap compound of, parts_stand n file ends made law args h.0, parts_stand n file ends made law results h.1)
-type_stands n file ends made law (Service methods) entry e of = (of.0, ap compound of.1, (map (row file.definitions ends) methods, labelled_stand n file ends made law methods e, of.2.0))
+type_stands n file ends made law (Service methods) entry e of = (of.0, ap compound of.1, (map (row file.definitions ends) methods, labelled_stand n file ends made law methods e, of.2))
 
-part_stands : (n : ℕ) (file : File) (ends : List ℕ) (made : List Entry) → Stand n file ends made → Fine file → EntriesOf file ends made → length file.types ≤ 10000 → (found : Part) → is_name found ≡ false → is_fine file found ≡ true
+part_stands : (n : ℕ) (file : File) (ends : List ℕ) (made : List Entry) → Stand n file ends made → Fine file → AreLike file ends made → length file.types ≤ 10000 → (found : Part) → is_name found ≡ false → is_fine file found ≡ true
     → PartStands (Denotes n file made) file.types found (shape made (ref_of found))
 part_stands n file ends made law fine of few (Prim p) none e = refl
 part_stands n file ends made law fine of few Float none e = absurd cc
@@ -146,13 +173,13 @@ part_stands n file ends made law fine of few (Place place) none e =
     let below : place < length file.types = grind (arith, e) in
     let small : nat_lt place (2 ^ 32) ≡ true = grind (arith, below, few) in
     let w = type_there file.types place below in
-    let entry = of.1 place w.0 w.1 in
+    let entry = of place w.0 w.1 in
     let shape_is : shape made (place_ref place) ≡ compound entry.0 = rw small (ap entry_shape entry.1) in
     subst (λ (s : Shape). TypeStands (Denotes n file made) (slice_get file.types place) s) (sym shape_is)
     (subst (λ (o : Option Written). TypeStands (Denotes n file made) o (compound entry.0)) (sym w.1)
     (type_stands n file ends made law w.0 entry.0 (test_at (λ written. list_all (is_fine file) (parts_of written)) file.types place w.0 fine.types w.1) entry.2))
 
-pub all_stand : (n : ℕ) (file : File) (ends : List ℕ) (made : List Entry) → Known file.definitions ends → Fine file → EntriesOf file ends made → length file.types ≤ 10000 → (part : Part) → is_fine file part ≡ true → Denotes n file made part (target file.definitions ends part)
+pub all_stand : (n : ℕ) (file : File) (ends : List ℕ) (made : List Entry) → Known file.definitions ends → Fine file → AreLike file ends made → length file.types ≤ 10000 → (part : Part) → is_fine file part ≡ true → Denotes n file made part (target file.definitions ends part)
 all_stand zero file ends made known fine of few part e = tt
 all_stand (suc n) file ends made known fine of few part e =
     let h = both_true (is_bound file.definitions part) (is_no_float part && part_fits (length file.types) part) e in

@@ -66,14 +66,18 @@ found_inside n (Place place) few none e =
     let small : nat_lt place (2 ^ 32) ≡ true = grind (arith, below, few) in
     rw small below
 
-pub target_inside : (file : File) (ends : List ℕ) (made : List Entry) → Whole file ends made → (part : Part) → is_fine file part ≡ true → is_inside (length made) (target file.definitions ends part) ≡ true
-target_inside file ends made whole part e =
+pub target_within : (file : File) (ends : List ℕ) → Known file.definitions ends → Fine file → length file.types ≤ 10000 → (part : Part) → is_fine file part ≡ true → is_inside (length file.types) (target file.definitions ends part) ≡ true
+target_within file ends known fine few part e =
     let h = both_true (is_bound file.definitions part) (is_no_float part && part_fits (length file.types) part) e in
-    let b = found_stands file.definitions ends whole.known part h.0 in
-    let f = found_fine file ends whole.fine part b e in
+    let b = found_stands file.definitions ends known part h.0 in
+    let f = found_fine file ends fine part b e in
     let g = both_true (is_bound file.definitions (found_at file.definitions ends part)) (is_no_float (found_at file.definitions ends part) && part_fits (length file.types) (found_at file.definitions ends part)) f in
+    found_inside (length file.types) (found_at file.definitions ends part) few b.stands.0 g.1
+
+target_inside : (file : File) (ends : List ℕ) (made : List Entry) → Whole file ends made → (part : Part) → is_fine file part ≡ true → is_inside (length made) (target file.definitions ends part) ≡ true
+target_inside file ends made whole part e =
     let size = whole.of in
-    subst (λ n. is_inside n (target file.definitions ends part) ≡ true) (sym size.0) (found_inside (length file.types) (found_at file.definitions ends part) whole.few b.stands.0 g.1)
+    subst (λ n. is_inside n (target file.definitions ends part) ≡ true) (sym size.0) (target_within file ends whole.known whole.fine whole.few part e)
 
 parts_inside : (file : File) (ends : List ℕ) (made : List Entry) → Whole file ends made → (parts : List Part) → list_all (is_fine file) parts ≡ true → list_all (is_inside (length made)) (map (target file.definitions ends) parts) ≡ true
 parts_inside file ends made whole parts e = all_mapped (is_inside (length made)) (target file.definitions ends) parts (all_wider (is_fine file) (λ p. is_inside (length made) (target file.definitions ends p)) parts (target_inside file ends made whole) e)

@@ -12,6 +12,7 @@ mod entries;
 mod fault;
 mod interface;
 mod kinds;
+pub mod laws;
 mod named;
 mod names;
 mod rings;

@@ -1,0 +1,21 @@
+//! What holds of interface files: each function does nothing, and its contract is the law.
+
+ghost use Rattle.std.specs.Prelude.{◌≡◌, List, ℕ, Err, IfOk};
+ghost use Rattle.cd_grammar.specs.File.{File};
+ghost use Rattle.cd_grammar.specs.Grammar.{IsFile};
+ghost use Rattle.cd_did.specs.declared.fault.DidFault.TheVariants.{NotInterface, NoMemory};
+ghost use Rattle.cd_did.specs.Answers.{Answers};
+ghost use Rattle.cd_did.specs.Interfaces.{IsWithin};
+ghost use Rattle.cd_did.specs.InterfaceOf.{interface_in};
+
+/// What a text says, by the grammar of interface files.
+pub fn texts_say()
+    // A text that is a file says the first fault of the file, or else an interface that stands for it;
+    ensures file { (file : File) (text : List ℕ) → IsFile file text → Answers file (interface_in text) }
+    // another text says that it is none.
+    ensures none { (text : List ℕ) → ((file : File) → IsFile file text → ⊥) → interface_in text ≡ Err NotInterface }
+    // The service of an interface, if there is one, is within its table.
+    ensures within { (text : List ℕ) → IfOk (interface_in text) IsWithin }
+    // That memory ran out is never said.
+    ensures never { (text : List ℕ) → interface_in text ≡ Err NoMemory → ⊥ }
+{}
