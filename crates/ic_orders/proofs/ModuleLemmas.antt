@@ -1,6 +1,6 @@
 -- What decoding tells of the module that bytes are.
 use Rattle.std.proofs.Common.{◌≡◌, refl, ℕ, ◌<◌, ◌≤◌, Bool, true, false, List, [], ◌∷◌, length, Option, Some, None, Result, Ok, Err, sym, ap, ◌∙◌, subst, arith}
-use Rattle.std.specs.Prelude.{nat_lt, ◌==◌, ◌&&◌}
+use Rattle.std.specs.Prelude.{nat_lt, ◌==◌, ◌&&◌, is_some, if◌then◌else◌}
 use Rattle.std.proofs.lemmas.Bool.{eqb-true}
 use Rattle.wm_tree.specs.declared.parts.Module.{Module}
 use Rattle.wm_decode.specs.declared.fault.ModuleFault.{ModuleFault}
@@ -11,7 +11,7 @@ use Rattle.wm_decode.specs.Readers.{module_at}
 use Rattle.wm_decode.proofs.ExactModule.{module_again, module_takes}
 use Rattle.wm_valid.specs.declared.invalid.Invalid.{Invalid}
 use Rattle.wm_valid.specs.Checked.{checked}
-use Rattle.ic_orders.specs.declared.cause.Cause.TheVariants.{Undecoded}
+use Rattle.ic_orders.specs.declared.cause.Cause.TheVariants.{Undecoded, Unchecked}
 use Rattle.ic_orders.specs.declared.denial.Denial.{Denial}
 use Rattle.ic_orders.specs.Modules.{module_of, validated, by_check, or_fault, is_compressed, refused}
 
@@ -87,3 +87,52 @@ installed bytes n is =
     let plain = plain_of bytes n (nat_lt largest (length bytes)) refl (is_compressed bytes) refl is in
     let d = decoded_of bytes n (module_at false bytes) refl (sym (plain_module bytes plain) ∙ is) in
     (plain, d.0, d.1)
+
+-- ---- which fault of the bytes is told
+
+compressed_from : (bytes : List ℕ) → is_compressed bytes ≡ true → IsCompressed bytes
+compressed_from [] e = absurd cc
+compressed_from (a ∷ []) e = absurd cc
+compressed_from (a ∷ b ∷ rest) e = by (a == 0x1F) refl (b == 0x8B) refl e
+  where
+    by : (x : Bool) → (a == 0x1F) ≡ x → (y : Bool) → (b == 0x8B) ≡ y → (x && y) ≡ true → IsCompressed (a ∷ b ∷ rest)
+    by false p y q h = absurd cc
+    by true p false q h = absurd cc
+    by true p true q h = (rest, rw (eqb-true a 0x1F p) (rw (eqb-true b 0x8B q) refl))
+
+pub unspelled : (float : Bool) (bytes : List ℕ) → module_at float bytes ≡ None → HasModule float bytes → ⊥
+unspelled float bytes e (m, spelled) = let k : None ≡ Some m = sym e ∙ module_again float m bytes spelled in cc
+
+pub unread : (float : Bool) (bytes : List ℕ) → (HasModule float bytes → ⊥) → module_at float bytes ≡ None
+unread float bytes none = none_at float bytes none (module_at float bytes) refl
+
+-- the fault comes, and is not that memory ran out
+abbrev pub IsTold : List ℕ → ModuleFault → Type 0
+IsTold bytes fault = Comes bytes fault × (fault ≡ F.NoMemory → ⊥)
+
+same_fault : (a b : ModuleFault) → refused {A = Module} (Undecoded a) ≡ refused (Undecoded b) → a ≡ b
+same_fault a b e = cc
+
+checked_told : (m : Module) (fault : ModuleFault) (found : Option Invalid) → by_check m found ≡ refused (Undecoded fault) → ⊥
+checked_told m fault None e = let k : Ok m ≡ refused _ = e in cc
+checked_told m fault (Some invalid) e = let k : refused {A = Module} (Unchecked invalid) ≡ refused (Undecoded fault) = e in cc
+
+decode_told : (bytes : List ℕ) (fault : ModuleFault) → IsPlain bytes → (found : Option Module) → module_at false bytes ≡ found → or_fault bytes found ≡ refused (Undecoded fault) → IsTold bytes fault
+decode_told bytes fault plain (Some m) e is = absurd (checked_told m fault (checked m) is)
+decode_told bytes fault plain None e is = by (module_at true bytes) refl is
+  where
+    by : (wide : Option Module) → module_at true bytes ≡ wide → refused {A = Module} (Undecoded (if is_some wide then F.Float else F.NotModule)) ≡ refused (Undecoded fault) → IsTold bytes fault
+    by (Some m) f told = subst (IsTold bytes) (same_fault F.Float fault told) ((plain, (m, module_takes true m bytes f), unspelled false bytes e), λ k. let n : F.Float ≡ F.NoMemory = k in cc)
+    by None f told = subst (IsTold bytes) (same_fault F.NotModule fault told) ((plain, unspelled true bytes f, unspelled false bytes e), λ k. let n : F.NotModule ≡ F.NoMemory = k in cc)
+
+told_by : (bytes : List ℕ) (fault : ModuleFault) (large : Bool) → nat_lt largest (length bytes) ≡ large → (gzip : Bool) → is_compressed bytes ≡ gzip → module_of bytes ≡ refused (Undecoded fault) → IsTold bytes fault
+unfolding module_of
+told_by bytes fault true e gzip f is = subst (IsTold bytes) (same_fault F.TooLarge fault (rw e at is)) (grind (arith, e), λ k. let n : F.TooLarge ≡ F.NoMemory = k in cc)
+told_by bytes fault false e true f is =
+    subst (IsTold bytes) (same_fault F.Compressed fault (rw f at (rw e at is))) ((small (length bytes) e, compressed_from bytes f), λ k. let n : F.Compressed ≡ F.NoMemory = k in cc)
+told_by bytes fault false e false f is =
+    let plain : IsPlain bytes = (small (length bytes) e, λ h. let k : true ≡ false = sym (is_compressed-true bytes h) ∙ f in cc) in
+    decode_told bytes fault plain (module_at false bytes) refl (sym (plain_module bytes plain) ∙ is)
+
+pub fault_told : (bytes : List ℕ) (fault : ModuleFault) → module_of bytes ≡ refused (Undecoded fault) → IsTold bytes fault
+fault_told bytes fault is = told_by bytes fault (nat_lt largest (length bytes)) refl (is_compressed bytes) refl is

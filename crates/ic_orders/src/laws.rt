@@ -1,18 +1,23 @@
 //! What holds of calls to the management canister: each function does nothing, and its contract is
 //! the law.
 
-ghost use Rattle.std.specs.Prelude.{◌≡◌, ◌↔◌, ◌<◌, ℕ, false, List, [], Some, None, Ok, codes};
+ghost use Rattle.std.specs.Prelude.{◌≡◌, ◌↔◌, ◌<◌, ℕ, Bool, false, List, [], Some, None, Ok, Err, codes};
 ghost use Rattle.std.specs.List.{AllByRecursion};
 ghost use Rattle.cd_types.specs.FieldId.{field_id_of};
 ghost use Rattle.cd_codec.specs.Content.{Content};
 ghost use Rattle.cd_codec.specs.Message.{message_spelling};
 ghost use Rattle.cd_coerce.specs.Decodes.{Decodes};
 ghost use Rattle.wm_tree.specs.declared.parts.Module.{Module as AModule};
-ghost use Rattle.wm_decode.specs.Answer.{IsPlain};
+ghost use Rattle.wm_decode.specs.declared.fault.ModuleFault.{ModuleFault};
+ghost use Rattle.wm_decode.specs.declared.fault.ModuleFault.TheVariants.{NoMemory};
+ghost use Rattle.wm_decode.specs.Answer.{IsPlain, HasModule, Comes};
 ghost use Rattle.wm_decode.specs.Mod.{Mod};
+ghost use Rattle.wm_decode.specs.Readers.{module_at};
 ghost use Rattle.wm_valid.specs.Checked.{checked};
 ghost use Rattle.ic_behaviour.specs.declared.call.Response.TheVariants.{Reply};
 ghost use Rattle.ic_behaviour.specs.Closing.{empty_reply};
+ghost use Rattle.ic_orders.specs.declared.cause.Cause.TheVariants.{Undecoded};
+ghost use Rattle.ic_orders.specs.declared.denial.Denial.TheVariants.{ModuleRefused};
 ghost use Rattle.ic_orders.specs.declared.ids.TheConstants.{ARG, STATUS, REINSTALL, WASM_MODULE, CONTROLLERS, MEMORY_SIZE, STOPPED, MODE, CANISTER_ID, SKIP_PRE_UPGRADE, UPGRADE, CYCLES, SETTINGS, INSTALL, MODULE_HASH, STOPPING, AMOUNT, RUNNING};
 ghost use Rattle.ic_orders.specs.declared.method.Method.{Method as AMethod};
 ghost use Rattle.ic_orders.specs.declared.demand.Demand.{Demand as ADemand};
@@ -60,6 +65,16 @@ pub fn demands_what_decodes()
 /// too large nor compressed, that passes every check of validation.
 pub fn installs_valid_modules()
     ensures { (bytes : List ℕ) (m : AModule) → (module_of bytes ≡ Ok m) ↔ (IsPlain bytes × Mod false m bytes × (checked m ≡ None)) }
+{}
+
+/// Which fault of bytes that are no module is told, by the binary grammar.
+pub fn tells_each_fault()
+    // Bytes are read as the module that they spell, with float forms or without,
+    ensures read { (float : Bool) (bytes : List ℕ) (m : AModule) → (module_at float bytes ≡ Some m) ↔ Mod float m bytes }
+    // and as none where they spell none.
+    ensures unread { (float : Bool) (bytes : List ℕ) → (module_at float bytes ≡ None) ↔ (HasModule float bytes → ⊥) }
+    // So each fault is told exactly where it comes; that memory ran out is none.
+    ensures fault { (bytes : List ℕ) (fault : ModuleFault) → (module_of bytes ≡ Err (ModuleRefused (Undecoded fault))) ↔ (Comes bytes fault × (fault ≡ NoMemory → ⊥)) }
 {}
 
 /// The reply without values is the message of no values.
