@@ -3,3 +3,4 @@ mod Refused
 mod DecodePrints
 mod Encodings
 mod Verdicts
+mod FilesSay

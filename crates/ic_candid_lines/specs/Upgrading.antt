@@ -1,11 +1,13 @@
 -- What a line that compares two interface files prints.
-use Rattle.std.specs.Prelude.{ℕ, Bool, true, false, ◌++◌, List, codes, if◌then◌else◌, Option, Some, None, Result, Ok, Err}
+use Rattle.std.specs.Prelude.{◌≡◌, IsTrue, ℕ, Bool, true, false, ◌++◌, List, codes, if◌then◌else◌, Option, Some, None, Result, Ok, Err}
 use Rattle.cd_types.specs.declared.entry.TyRef.{TyRef}
 use Rattle.cd_types.specs.declared.entry.Entry.{Entry}
 use Rattle.cd_sub.specs.Below.{below}
 use Rattle.cd_did.specs.declared.fault.DidFault.{DidFault}
 use Rattle.cd_did.specs.declared.fault.DidFault.TheVariants as fault
 use Rattle.cd_did.specs.declared.fault.Interface.{Interface}
+use Rattle.cd_grammar.specs.File.{File}
+use Rattle.cd_did.specs.Answers.{Answers}
 use Rattle.cd_did.specs.Interfaces.{has_service}
 use Rattle.cd_did.specs.InterfaceOf.{interface_in}
 use Rattle.ic_candid_lines.specs.declared.upgrading.Lack.{Lack}
@@ -38,6 +40,22 @@ lack_of fault.NoMemory = NotInterface
 abbrev pub served : Result Interface DidFault → Result Interface Lack
 served (Ok interface) = if has_service interface then Ok interface else Err NoService
 served (Err fault) = Err (lack_of fault)
+
+-- what a file lacks that no upgrade of it is judged: it has this fault and none before it, or it has no fault and no service
+abbrev pub Lacks : File → Lack → Type 0
+Lacks file NotInterface = ⊥
+Lacks file Float = Answers file (Err fault.Float)
+Lacks file Repeated = (place : ℕ) × Answers file (Err (fault.Repeated place))
+Lacks file Unbound = Answers file (Err fault.Unbound)
+Lacks file Vacuous = (place : ℕ) × Answers file (Err (fault.Vacuous place))
+Lacks file Shape = Answers file (Err fault.Shape)
+Lacks file TooMany = Answers file (Err fault.TooMany)
+Lacks file NoService = (interface : Interface) × Answers file (Ok interface) × (file.main ≡ None)
+
+-- what a file says: an interface that stands for it, with a service, or what it lacks
+abbrev pub FileSays : File → Result Interface Lack → Type 0
+FileSays file (Ok interface) = Answers file (Ok interface) × IsTrue (has_service interface)
+FileSays file (Err lack) = Lacks file lack
 
 -- the service of the lower table is a subtype of that of the upper one
 abbrev pub is_below : List Entry → Option TyRef → List Entry → Option TyRef → Bool

@@ -9,15 +9,19 @@ ghost use Rattle.cd_codec.specs.IsHeader.{IsHeader};
 ghost use Rattle.cd_coerce.specs.declared.fault.DidlFault.{DidlFault};
 ghost use Rattle.cd_coerce.specs.Decodes.{Decodes, HasFault};
 ghost use Rattle.cd_text.specs.Whole.{Said};
+ghost use Rattle.cd_grammar.specs.File.{File};
+ghost use Rattle.cd_grammar.specs.Grammar.{IsFile};
 ghost use Rattle.cd_did.specs.declared.fault.Interface.{Interface};
 ghost use Rattle.cd_did.specs.Interfaces.{Upgrades};
 ghost use Rattle.cd_did.specs.InterfaceOf.{interface_in};
 ghost use Rattle.ic_candid_lines.specs.Decoding.{Types, decode_text, show_text, decoded_text, shown_text, refused_text, bad_expected_text};
 ghost use Rattle.ic_candid_lines.specs.Encoding.{encode_text, encoded_text, not_text};
 ghost use Rattle.ic_candid_lines.specs.declared.upgrading.Lack.{Lack as SomeLack};
-ghost use Rattle.ic_candid_lines.specs.Upgrading.{served, verdict_text, bad_text, upgrade_text};
+ghost use Rattle.ic_candid_lines.specs.declared.upgrading.Lack.TheVariants.{NotInterface};
+ghost use Rattle.ic_candid_lines.specs.Upgrading.{served, FileSays, verdict_text, bad_text, upgrade_text};
 
 use cd_coerce::laws::one_answer;
+use cd_did::laws::texts_say;
 use cd_sub::laws::decided;
 
 /// What a `decode` line prints, by the grammar of headers and the rules of decoding.
@@ -63,8 +67,13 @@ pub fn encode_prints()
         → encode_text header text ≡ bad_expected_text }
 {}
 
-/// What an `upgradable` line prints, by the rules of subtyping.
+/// What an `upgradable` line prints, by the grammar of interface files and the rules of subtyping.
 pub fn upgradable_prints()
+    // A text that is a file says an interface with a service, which stands for the file, or what the
+    // file lacks;
+    ensures file { (file : File) (text : List ℕ) → IsFile file text → FileSays file (served (interface_in text)) }
+    // another text says that it is no interface file.
+    ensures no_file { (text : List ℕ) → ((file : File) → IsFile file text → ⊥) → served (interface_in text) ≡ Err NotInterface }
     // Of two interfaces with services, whether the new service is a subtype of the old one.
     ensures yes { (from to : List ℕ) (old new : Interface) → served (interface_in from) ≡ Ok old → served (interface_in to) ≡ Ok new
         → Upgrades old new → upgrade_text from to ≡ verdict_text true }
@@ -76,4 +85,5 @@ pub fn upgradable_prints()
         → upgrade_text from to ≡ bad_text (codes "new") lack }
 {
     decided();
+    texts_say();
 }

@@ -1,9 +1,19 @@
 use Rattle.std.proofs.Common.{◌≡◌, Bool, true, false, refl, ap}
 use Rattle.cd_did.specs.declared.fault.Interface.{Interface}
 use Rattle.cd_did.specs.Interfaces.{Upgrades}
-use Rattle.ic_candid_lines.specs.Upgrading.{upgrades, verdict_text, upgrade_text}
+use Rattle.cd_did.specs.InterfaceOf.{interface_in}
+use Rattle.ic_candid_lines.specs.Upgrading.{served, upgrades, verdict_text, upgrade_text}
+use Rattle.ic_candid_lines.proofs.FilesSay.{file_says}
 use Rattle.ic_candid_lines.proofs.Verdicts.{Decides, upgrades_is}
 use Rattle.ic_candid_lines.proofs.laws.upgradable_prints.Goals as goal
+
+pub returns-clause-file : goal.returns-clause-file
+returns-clause-file c = λ file text is.
+    let says = c.texts_say.ensures in
+    file_says file (interface_in text) (says.file file text is) (says.within text) (says.never text)
+
+pub returns-clause-no_file : goal.returns-clause-no_file
+returns-clause-no_file c = λ text never. ap served (c.texts_say.ensures.none text never)
 
 pub returns-clause-yes : goal.returns-clause-yes
 unfolding upgrade_text
