@@ -92,6 +92,12 @@ method_at tokens = if starts (is_mark 46) tokens then first_at name_of (drop 1 t
 unfoldable pub func_at : Taking (List ℕ × List ℕ)
 func_at = behind_word (codes "func") (λ tokens. principal_text_at tokens >>= λ p. taken (λ m. (p.0, m)) method_at p.1)
 
+-- the types whose values hold bytes of their own
+abbrev pub takes_memory : Primitive → Bool
+takes_memory primitives.Text = true
+takes_memory primitives.Principal = true
+takes_memory _ = false
+
 -- a value of a primitive type
 unfoldable pub primitive_at : Primitive → Taking Plain
 primitive_at primitives.Null = word_at (codes "null") null

@@ -1,11 +1,11 @@
-ghost use Rattle.std.specs.Prelude.{◌≡◌, ◌≤◌, ◌<◌, ◌^◌, IfOk, true, codes, drop};
+ghost use Rattle.std.specs.Prelude.{◌≡◌, ◌≤◌, ◌<◌, ◌^◌, IfSome, true, false, codes, drop, option_map};
 ghost use Rattle.cd_tokens.specs.ReadLabel.{name_of as token_name};
 ghost use Rattle.ic_base.specs.Gives.{Gives};
 ghost use Rattle.cd_codec.specs.Content.{plain, func};
 ghost use Rattle.cd_codec.specs.View.{view};
 ghost use Rattle.cd_tokens.specs.ReadNumeral.{is_between};
 ghost use Rattle.cd_tokens.specs.View.{token_views};
-ghost use Rattle.cd_plain.specs.ReadPlain.{first_at, word_at, principal_said, behind_word, natural_at, integer_at, text_at, principal_text_at, bool_at, func_at, method_at, primitive_at, alone, string_at};
+ghost use Rattle.cd_plain.specs.ReadPlain.{first_at, word_at, principal_said, behind_word, natural_at, integer_at, taken, takes_memory, text_at, principal_text_at, bool_at, func_at, method_at, primitive_at, alone, string_at};
 
 use crate::tokens::{rest_of, starts_mark, starts_word};
 use cd_codec::Value;
@@ -16,19 +16,17 @@ use ic_principal::{Principal, Text};
 use std::alloc::Global;
 
 #[tactic(auto, unfolding(crate::specs::ReadPlain::natural_at))]
-fn any_natural<'t, 'a>(tokens: &'t [Token<'a>]) -> Result<(u128, &'t [Token<'a>]), ReadError>
-    ensures { Gives (λ x. (x.0, token_views x.1.now)) result (natural_at (2 ^ 128) (token_views tokens.now)) }
+fn any_natural<'t, 'a>(tokens: &'t [Token<'a>]) -> Option<(u128, &'t [Token<'a>])>
+    ensures { option_map (λ x. (x.0, token_views x.1.now)) result ≡ natural_at (2 ^ 128) (token_views tokens.now) }
 {
     match tokens {
-        [] => Err(ReadError::Refused),
+        [] => None,
         [first, rest @ ..] => match first {
             Token::Run(run) => match natural_of(run.bytes) {
-                Some(n) => Ok((n, rest)),
-                None => Err(ReadError::Refused),
+                Some(n) => Some((n, rest)),
+                None => None,
             },
-            Token::Quoted(_) => Err(ReadError::Refused),
-            Token::Mark(_) => Err(ReadError::Refused),
-            Token::Arrow => Err(ReadError::Refused),
+            Token::Quoted(_) | Token::Mark(_) | Token::Arrow => None,
         },
     }
 }
@@ -38,42 +36,31 @@ fn any_natural<'t, 'a>(tokens: &'t [Token<'a>]) -> Result<(u128, &'t [Token<'a>]
 pub fn natural_below<'t, 'a>(
     tokens: &'t [Token<'a>],
     limit: u128,
-) -> Result<(u128, &'t [Token<'a>]), ReadError>
-    ensures value { Gives (λ x. (x.0, token_views x.1.now)) result (natural_at limit (token_views tokens.now)) }
-    ensures bound { IfOk result (λ x. x.0 < limit) }
+) -> Option<(u128, &'t [Token<'a>])>
+    ensures value { option_map (λ x. (x.0, token_views x.1.now)) result ≡ natural_at limit (token_views tokens.now) }
+    ensures bound { IfSome result (λ x. x.0 < limit) }
 {
     match any_natural(tokens) {
-        Err(error) => Err(error),
-        Ok((n, rest)) => {
-            if n < limit {
-                Ok((n, rest))
-            } else {
-                Err(ReadError::Refused)
-            }
-        }
+        None => None,
+        Some((n, rest)) => { if n < limit { Some((n, rest)) } else { None } }
     }
 }
 
 /// An integer from -half to half - 1.
 #[tactic(auto, unfolding(crate::specs::ReadPlain::integer_at), using(crate::proofs::Narrow::inside))]
-fn integer_within<'t, 'a>(
-    tokens: &'t [Token<'a>],
-    half: u128,
-) -> Result<(i128, &'t [Token<'a>]), ReadError>
+fn integer_within<'t, 'a>(tokens: &'t [Token<'a>], half: u128) -> Option<(i128, &'t [Token<'a>])>
     requires { half ≤ 2 ^ 127 }
-    ensures value { Gives (λ x. (x.0, token_views x.1.now)) result (integer_at half (token_views tokens.now)) }
-    ensures bound { IfOk result (λ x. is_between half x.0 ≡ true) }
+    ensures value { option_map (λ x. (x.0, token_views x.1.now)) result ≡ integer_at half (token_views tokens.now) }
+    ensures bound { IfSome result (λ x. is_between half x.0 ≡ true) }
 {
     match tokens {
-        [] => Err(ReadError::Refused),
+        [] => None,
         [first, rest @ ..] => match first {
             Token::Run(run) => match integer_of(run.bytes, half) {
-                Some(z) => Ok((z, rest)),
-                None => Err(ReadError::Refused),
+                Some(z) => Some((z, rest)),
+                None => None,
             },
-            Token::Quoted(_) => Err(ReadError::Refused),
-            Token::Mark(_) => Err(ReadError::Refused),
-            Token::Arrow => Err(ReadError::Refused),
+            Token::Quoted(_) | Token::Mark(_) | Token::Arrow => None,
         },
     }
 }
@@ -93,9 +80,7 @@ pub fn string_of<'t, 'a>(
                 let bytes = unescaped_of(alloc, string.bytes)?;
                 Ok((bytes, rest))
             }
-            Token::Run(_) => Err(ReadError::Refused),
-            Token::Mark(_) => Err(ReadError::Refused),
-            Token::Arrow => Err(ReadError::Refused),
+            Token::Run(_) | Token::Mark(_) | Token::Arrow => Err(ReadError::Refused),
         },
     }
 }
@@ -114,9 +99,7 @@ fn text_at<'t, 'a>(
                 let text = text_of(alloc, string.bytes)?;
                 Ok((text, rest))
             }
-            Token::Run(_) => Err(ReadError::Refused),
-            Token::Mark(_) => Err(ReadError::Refused),
-            Token::Arrow => Err(ReadError::Refused),
+            Token::Run(_) | Token::Mark(_) | Token::Arrow => Err(ReadError::Refused),
         },
     }
 }
@@ -140,9 +123,7 @@ fn principal_at(alloc: Global, tokens: &[Token<'_>]) -> Result<Principal, ReadEr
         [] => Err(ReadError::Refused),
         [first, ..] => match first {
             Token::Quoted(string) => principal_of(alloc, string.bytes),
-            Token::Run(_) => Err(ReadError::Refused),
-            Token::Mark(_) => Err(ReadError::Refused),
-            Token::Arrow => Err(ReadError::Refused),
+            Token::Run(_) | Token::Mark(_) | Token::Arrow => Err(ReadError::Refused),
         },
     }
 }
@@ -212,25 +193,87 @@ pub fn func_of<'t, 'a>(
 }
 
 #[tactic(auto, unfolding(crate::specs::ReadPlain::bool_at))]
-fn bool_of<'t, 'a>(tokens: &'t [Token<'a>]) -> Result<(bool, &'t [Token<'a>]), ReadError>
-    ensures { Gives (λ x. (x.0, token_views x.1.now)) result (bool_at (token_views tokens.now)) }
+fn bool_of<'t, 'a>(tokens: &'t [Token<'a>]) -> Option<(bool, &'t [Token<'a>])>
+    ensures { option_map (λ x. (x.0, token_views x.1.now)) result ≡ bool_at (token_views tokens.now) }
 {
     if starts_word(tokens, b"true") {
-        Ok((true, rest_of(tokens)))
+        Some((true, rest_of(tokens)))
     } else if starts_word(tokens, b"false") {
-        Ok((false, rest_of(tokens)))
+        Some((false, rest_of(tokens)))
     } else {
-        Err(ReadError::Refused)
+        None
     }
 }
 
-fn null_of<'t, 'a>(tokens: &'t [Token<'a>]) -> Result<&'t [Token<'a>], ReadError>
-    ensures { Gives (λ rest. (true, token_views rest.now)) result (word_at (codes "null") true (token_views tokens.now)) }
+fn null_of<'t, 'a>(tokens: &'t [Token<'a>]) -> Option<&'t [Token<'a>]>
+    ensures { option_map (λ rest. (true, token_views rest.now)) result ≡ word_at (codes "null") true (token_views tokens.now) }
 {
     if starts_word(tokens, b"null") {
-        Ok(rest_of(tokens))
+        Some(rest_of(tokens))
     } else {
-        Err(ReadError::Refused)
+        None
+    }
+}
+
+// A value that takes no memory; none of a text or a principal.
+#[tactic(auto, using(cd_codec::proofs::Views::layers), unfolding(crate::specs::ReadPlain::primitive_at))]
+fn small_of<'t, 'a>(prim: Prim, tokens: &'t [Token<'a>]) -> Option<(Value, &'t [Token<'a>])>
+    ensures { takes_memory prim ≡ false → option_map (λ x. (view x.0, token_views x.1.now)) result ≡ taken plain (primitive_at prim) (token_views tokens.now) }
+{
+    match prim {
+        Prim::Null => {
+            let rest = null_of(tokens)?;
+            Some((Value::Null, rest))
+        }
+        Prim::Reserved => {
+            let rest = null_of(tokens)?;
+            Some((Value::Reserved, rest))
+        }
+        Prim::Bool => {
+            let (b, rest) = bool_of(tokens)?;
+            Some((Value::Bool(b), rest))
+        }
+        Prim::Nat => {
+            let (n, rest) = any_natural(tokens)?;
+            Some((Value::Nat(n), rest))
+        }
+        Prim::Nat8 => {
+            let (n, rest) = natural_below(tokens, 1 << 8)?;
+            Some((Value::Nat8(n as u8), rest))
+        }
+        Prim::Nat16 => {
+            let (n, rest) = natural_below(tokens, 1 << 16)?;
+            Some((Value::Nat16(n as u16), rest))
+        }
+        Prim::Nat32 => {
+            let (n, rest) = natural_below(tokens, 1 << 32)?;
+            Some((Value::Nat32(n as u32), rest))
+        }
+        Prim::Nat64 => {
+            let (n, rest) = natural_below(tokens, 1 << 64)?;
+            Some((Value::Nat64(n as u64), rest))
+        }
+        Prim::Int => {
+            let (z, rest) = integer_within(tokens, 1 << 127)?;
+            Some((Value::Int(z), rest))
+        }
+        Prim::Int8 => {
+            let (z, rest) = integer_within(tokens, 1 << 7)?;
+            Some((Value::Int8(z as i8), rest))
+        }
+        Prim::Int16 => {
+            let (z, rest) = integer_within(tokens, 1 << 15)?;
+            Some((Value::Int16(z as i16), rest))
+        }
+        Prim::Int32 => {
+            let (z, rest) = integer_within(tokens, 1 << 31)?;
+            Some((Value::Int32(z as i32), rest))
+        }
+        Prim::Int64 => {
+            let (z, rest) = integer_within(tokens, 1 << 63)?;
+            Some((Value::Int64(z as i64), rest))
+        }
+        Prim::Text | Prim::Principal | Prim::Empty => None,
     }
 }
 
@@ -245,58 +288,6 @@ pub fn primitive_of<'t, 'a>(
     ensures { Gives (λ x. (view x.0, x.1, token_views x.2.now)) result (alone plain (primitive_at prim) left (token_views tokens.now)) }
 {
     match prim {
-        Prim::Null => {
-            let rest = null_of(tokens)?;
-            Ok((Value::Null, left, rest))
-        }
-        Prim::Reserved => {
-            let rest = null_of(tokens)?;
-            Ok((Value::Reserved, left, rest))
-        }
-        Prim::Bool => {
-            let (b, rest) = bool_of(tokens)?;
-            Ok((Value::Bool(b), left, rest))
-        }
-        Prim::Nat => {
-            let (n, rest) = any_natural(tokens)?;
-            Ok((Value::Nat(n), left, rest))
-        }
-        Prim::Nat8 => {
-            let (n, rest) = natural_below(tokens, 1 << 8)?;
-            Ok((Value::Nat8(n as u8), left, rest))
-        }
-        Prim::Nat16 => {
-            let (n, rest) = natural_below(tokens, 1 << 16)?;
-            Ok((Value::Nat16(n as u16), left, rest))
-        }
-        Prim::Nat32 => {
-            let (n, rest) = natural_below(tokens, 1 << 32)?;
-            Ok((Value::Nat32(n as u32), left, rest))
-        }
-        Prim::Nat64 => {
-            let (n, rest) = natural_below(tokens, 1 << 64)?;
-            Ok((Value::Nat64(n as u64), left, rest))
-        }
-        Prim::Int => {
-            let (z, rest) = integer_within(tokens, 1 << 127)?;
-            Ok((Value::Int(z), left, rest))
-        }
-        Prim::Int8 => {
-            let (z, rest) = integer_within(tokens, 1 << 7)?;
-            Ok((Value::Int8(z as i8), left, rest))
-        }
-        Prim::Int16 => {
-            let (z, rest) = integer_within(tokens, 1 << 15)?;
-            Ok((Value::Int16(z as i16), left, rest))
-        }
-        Prim::Int32 => {
-            let (z, rest) = integer_within(tokens, 1 << 31)?;
-            Ok((Value::Int32(z as i32), left, rest))
-        }
-        Prim::Int64 => {
-            let (z, rest) = integer_within(tokens, 1 << 63)?;
-            Ok((Value::Int64(z as i64), left, rest))
-        }
         Prim::Text => {
             let (text, rest) = text_at(alloc, tokens)?;
             Ok((Value::Text(text), left, rest))
@@ -308,6 +299,9 @@ pub fn primitive_of<'t, 'a>(
             }
             Err(error) => Err(error),
         },
-        Prim::Empty => Err(ReadError::Refused),
+        _ => {
+            let (value, rest) = small_of(prim, tokens).ok_or(ReadError::Refused)?;
+            Ok((value, left, rest))
+        }
     }
 }

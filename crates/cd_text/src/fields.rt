@@ -1,4 +1,4 @@
-ghost use Rattle.std.specs.Prelude.{◌≡◌, ◌<◌, ◌≤◌, ◌^◌, None, Some, true, false, is_some, get_or, set, length, map, IfSome, MatchOption, List, ◌-◌, ◌&&◌, nat_le};
+ghost use Rattle.std.specs.Prelude.{◌≡◌, ◌<◌, ◌≤◌, ◌^◌, None, Some, true, false, is_some, get_or, set, length, map, IfSome, MatchOption, List, ◌-◌, ◌&&◌, nat_le, option_map};
 ghost use Rattle.std.specs.Option.{option_or};
 ghost use Rattle.ic_base.specs.Gives.{Gives};
 ghost use Rattle.cd_types.specs.IsOrdered.{ids_rise_from};
@@ -68,24 +68,16 @@ fn slots_of(
 }
 
 // What is said, or what stands for a field that is left out.
-fn said_or_left_out(
-    table: &TypeTable,
-    depth: u32,
-    ty: TyRef,
-    slot: Option<Value>,
-) -> Result<Value, ReadError>
-    ensures { Gives view result (option_or (slot_view slot) (left_out depth (shape table.now ty))) }
+fn said_or_left_out(table: &TypeTable, depth: u32, ty: TyRef, slot: Option<Value>) -> Option<Value>
+    ensures { option_map view result ≡ option_or (slot_view slot) (left_out depth (shape table.now ty)) }
 {
     match slot {
-        Some(value) => Ok(value),
+        Some(value) => Some(value),
         None => {
             if depth == 0 {
-                return Err(ReadError::Refused);
+                return None;
             }
-            match Value::missing(table, ty) {
-                Some(value) => Ok(value),
-                None => Err(ReadError::Refused),
-            }
+            Value::missing(table, ty)
         }
     }
 }
@@ -105,7 +97,7 @@ fn parts_of(
     let mut parts = Vec::with_capacity(alloc, fields.len())?;
     while let Some(slot) = slots.pop() {
         let (id, ty) = fields[slots.len()];
-        let value = said_or_left_out(table, depth, ty, slot)?;
+        let value = said_or_left_out(table, depth, ty, slot).ok_or(ReadError::Refused)?;
         parts.push((id, value))?;
     }
     parts.reverse();

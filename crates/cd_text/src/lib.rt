@@ -9,5 +9,6 @@ mod reading;
 mod whole;
 
 pub use back::read_back;
+pub use cd_plain::print;
 pub use fault::TextFault;
 pub use whole::read;

@@ -1,4 +1,4 @@
-ghost use Rattle.std.specs.Prelude.{◌≡◌, ◌≤◌, ◌<◌, ◌+◌, ◌^◌, suc, ◌&&◌, ℕ, List, true, codes, map, drop, length};
+ghost use Rattle.std.specs.Prelude.{◌≡◌, ◌≤◌, ◌<◌, ◌+◌, ◌^◌, suc, ◌&&◌, ℕ, List, true, codes, map, drop, length, option_map};
 ghost use Rattle.ic_base.specs.Gives.{Gives};
 ghost use Rattle.cd_types.specs.IsOrdered.{is_ordered, ids_rise_from};
 ghost use Rattle.cd_types.specs.Shape.{shape};
@@ -46,23 +46,20 @@ fn name_of(prim: Prim) -> &'static [u8]
 }
 
 /// The tokens behind the name of the type, where a colon and a name stand.
-pub(crate) fn past_annotation<'t, 'a>(
-    ty: TyRef,
-    tokens: &'t [Token<'a>],
-) -> Result<&'t [Token<'a>], ReadError>
-    ensures { Gives (λ rest. token_views rest.now) result (past_annotation ty (token_views tokens.now)) }
+pub(crate) fn past_annotation<'t, 'a>(ty: TyRef, tokens: &'t [Token<'a>]) -> Option<&'t [Token<'a>]>
+    ensures { option_map (λ rest. token_views rest.now) result ≡ past_annotation ty (token_views tokens.now) }
 {
     if !starts_mark(tokens, b':') {
-        return Ok(tokens);
+        return Some(tokens);
     }
     let name = rest_of(tokens);
     match ty {
-        TyRef::Index(_) => Err(ReadError::Refused),
+        TyRef::Index(_) => None,
         TyRef::Prim(prim) => {
             if starts_word(name, name_of(prim)) {
-                Ok(rest_of(name))
+                Some(rest_of(name))
             } else {
-                Err(ReadError::Refused)
+                None
             }
         }
     }
@@ -76,42 +73,36 @@ fn starts_braces(tokens: &[Token<'_>], word: &[u8]) -> bool
 }
 
 // The tokens behind the end of a variant.
-fn past_variant<'t, 'a>(tokens: &'t [Token<'a>]) -> Result<&'t [Token<'a>], ReadError>
-    ensures { (v : Content) (left : ℕ) → Gives (λ rest. (v, left, token_views rest.now)) result (variant_ended (v, left, token_views tokens.now)) }
+fn past_variant<'t, 'a>(tokens: &'t [Token<'a>]) -> Option<&'t [Token<'a>]>
+    ensures { (v : Content) (left : ℕ) → option_map (λ rest. (v, left, token_views rest.now)) result ≡ variant_ended (v, left, token_views tokens.now) }
 {
     if starts_mark(tokens, b'}') {
-        return Ok(rest_of(tokens));
+        return Some(rest_of(tokens));
     }
     if !starts_mark(tokens, b';') {
-        return Err(ReadError::Refused);
+        return None;
     }
     let rest = rest_of(tokens);
     if starts_mark(rest, b'}') {
-        Ok(rest_of(rest))
+        Some(rest_of(rest))
     } else {
-        Err(ReadError::Refused)
+        None
     }
 }
 
 // What is left of the number of values behind a null that is not written.
 #[tactic(auto, using(crate::proofs::Narrow::no_null))]
-fn without_null(table: &TypeTable, ty: TyRef, depth: u32, left: u32) -> Result<u32, ReadError>
-    ensures { (tokens : List token.Token) → Gives (λ less. (plain null, less, tokens)) result (null_at depth (shape table.now ty) left tokens) }
+fn without_null(table: &TypeTable, ty: TyRef, depth: u32, left: u32) -> Option<u32>
+    ensures { (tokens : List token.Token) → option_map (λ less. (plain null, less, tokens)) result ≡ null_at depth (shape table.now ty) left tokens }
 {
     let _entries = table.len();
     if depth == 0 {
-        return Err(ReadError::Refused);
+        return None;
     }
     match ty {
-        TyRef::Prim(Prim::Null) => {
-            if left == 0 {
-                Err(ReadError::Refused)
-            } else {
-                Ok(left - 1)
-            }
-        }
-        TyRef::Prim(_) => Err(ReadError::Refused),
-        TyRef::Index(_) => Err(ReadError::Refused),
+        TyRef::Prim(Prim::Null) => left.checked_sub(1),
+        TyRef::Prim(_) => None,
+        TyRef::Index(_) => None,
     }
 }
 
@@ -122,21 +113,21 @@ fn byte_of<'t, 'a>(
     depth: u32,
     left: u32,
     tokens: &'t [Token<'a>],
-) -> Result<(u8, u32, &'t [Token<'a>]), ReadError>
-    ensures { Gives (λ x. (x.0, x.1, token_views x.2.now)) result (byte_at item depth left (token_views tokens.now)) }
+) -> Option<(u8, u32, &'t [Token<'a>])>
+    ensures { option_map (λ x. (x.0, x.1, token_views x.2.now)) result ≡ byte_at item depth left (token_views tokens.now) }
 {
     if depth == 0 {
-        return Err(ReadError::Refused);
+        return None;
     }
     if starts_mark(tokens, b'(') {
         let (byte, left, rest) = annotated_byte(item, depth - 1, left, rest_of(tokens))?;
         if !starts_mark(rest, b')') {
-            return Err(ReadError::Refused);
+            return None;
         }
-        return Ok((byte, left, rest_of(rest)));
+        return Some((byte, left, rest_of(rest)));
     }
     let (n, rest) = natural_below(tokens, 1 << 8)?;
-    Ok((n as u8, left, rest))
+    Some((n as u8, left, rest))
 }
 
 #[cycle(bytes)]
@@ -145,12 +136,12 @@ fn annotated_byte<'t, 'a>(
     depth: u32,
     left: u32,
     tokens: &'t [Token<'a>],
-) -> Result<(u8, u32, &'t [Token<'a>]), ReadError>
-    ensures { Gives (λ x. (x.0, x.1, token_views x.2.now)) result (annotated_at item (byte_at item depth) left (token_views tokens.now)) }
+) -> Option<(u8, u32, &'t [Token<'a>])>
+    ensures { option_map (λ x. (x.0, x.1, token_views x.2.now)) result ≡ annotated_at item (byte_at item depth) left (token_views tokens.now) }
 {
     let (byte, left, rest) = byte_of(item, depth, left, tokens)?;
     let rest = past_annotation(item, rest)?;
-    Ok((byte, left, rest))
+    Some((byte, left, rest))
 }
 
 // The numbers of a vec nat8, behind its brace.
@@ -171,7 +162,9 @@ fn bytes_of<'t, 'a>(
         if starts_mark(rest, b'}') {
             return Ok((bytes, unread, rest_of(rest)));
         }
-        let (byte, left, after) = annotated_byte(item, depth, unread, rest)?;
+        let (byte, left, after) = annotated_byte(item, depth, unread, rest).ok_or(
+            ReadError::Refused,
+        )?;
         bytes.push(byte)?;
         if starts_mark(after, b'}') {
             return Ok((bytes, left, rest_of(after)));
@@ -253,7 +246,7 @@ pub(crate) fn annotated_of<'t, 'a>(
     ensures { Gives (λ x. (view x.0, x.1, token_views x.2.now)) result (annotated_at ty (value_at table.now depth ty) left (token_views tokens.now)) }
 {
     let (value, left, rest) = value_of(alloc, table, ty, depth, left, tokens)?;
-    let rest = past_annotation(ty, rest)?;
+    let rest = past_annotation(ty, rest).ok_or(ReadError::Refused)?;
     Ok((value, left, rest))
 }
 
@@ -531,7 +524,7 @@ fn chosen_of<'t, 'a>(
         None => Err(ReadError::Refused),
         Some((place, (_, ty))) => {
             let (part, left, rest) = case_of(alloc, table, ty, depth, left, tokens)?;
-            let rest = past_variant(rest)?;
+            let rest = past_variant(rest).ok_or(ReadError::Refused)?;
             let value = Value::of_case(alloc, place as u32, part)?;
             Ok((value, left, rest))
         }
@@ -553,6 +546,6 @@ fn case_of<'t, 'a>(
     if starts_mark(tokens, b'=') {
         return annotated_of(alloc, table, ty, depth, left, rest_of(tokens));
     }
-    let left = without_null(table, ty, depth, left)?;
+    let left = without_null(table, ty, depth, left).ok_or(ReadError::Refused)?;
     Ok((Value::Null, left, tokens))
 }

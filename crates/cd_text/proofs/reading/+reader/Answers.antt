@@ -8,6 +8,8 @@ use Rattle.cd_codec.proofs.Views.{view-Null}
 use Rattle.cd_plain.specs.ReadPlain.{is_mark, starts}
 use Rattle.cd_text.specs.Said.{type_of, place_of}
 use Rattle.cd_text.proofs.Narrow.{entry_value, not_ended, has_ended}
+use Rattle.cd_tokens.proofs.Streams.{found_is, none_fails}
+use Rattle.cd_codec.specs.Content.{plain, null}
 use Rattle.cd_tokens.specs.View.{token_views}
 use Rattle.cd_text.specs.ReadSaid.{item_at, no_place_of, field_at, after_field, value_at}
 use Rattle.cd_text.proofs.Loops.{at_end, no_part_there, last_part, no_separator, part_read, no_fuel}
@@ -83,13 +85,13 @@ entry_of-variant_of-requires t c = (
 pub case_of-returns : goal.case_of-returns
 case_of-returns t c =
     let s : starts (is_mark 61) (token_views c.args.tokens.now) ≡ false = sym c.starts_mark.ensures ∙ c.if-starts_mark.false in
-    rw (s, c.in_ok-left.ensures (token_views c.args.tokens.now), view-Null) refl
+    rw (s, found_is (λ less. (plain null, less, token_views c.args.tokens.now)) _ _ _ (c.without_null.ensures (token_views c.args.tokens.now)) c.in_ok-left.ensures.ok_part, view-Null) refl
 
 pub chosen_of-returns-in_err-rest-in-Some : goal.chosen_of-returns-in_err-rest-in-Some
 chosen_of-returns-in_err-rest-in-Some t c =
     let p = err_from_is_err_and c.from_residual-in_err-rest-in-Some.result c.from_residual-in_err-rest-in-Some.ensures.1 in
-    rw p.1 (not_ended p.0 (value_at c.args.table.now c.args.depth) c.args.depth c.args.table.now c.args.cases.now c.args.id _ _ c.args.left (token_views c.args.tokens.now) _ _ _ (sym (ap (place_of c.args.cases.now) c.from.ensures) ∙ c.in-Some.ensures.place) (sym (ap (type_of c.args.cases.now) c.from.ensures) ∙ c.in-Some.ensures.field.0) c.in_ok-part-in-Some.ensures (rw p.2 (c.in_err-rest-in-Some.ensures _ _)))
+    rw p.1 (not_ended p.0 (value_at c.args.table.now c.args.depth) c.args.depth c.args.table.now c.args.cases.now c.args.id _ _ c.args.left (token_views c.args.tokens.now) _ _ _ (sym (ap (place_of c.args.cases.now) c.from.ensures) ∙ c.in-Some.ensures.place) (sym (ap (type_of c.args.cases.now) c.from.ensures) ∙ c.in-Some.ensures.field.0) c.in_ok-part-in-Some.ensures (none_fails p.0 (λ rest. (view c.in_ok-part-in-Some.part, c.in_ok-part-in-Some.left, token_views rest.now)) _ _ (c.past_variant.ensures _ _) c.in_err-rest-in-Some.ensures.ok_part))
 
 pub chosen_of-returns-in_ok-value-in-Some : goal.chosen_of-returns-in_ok-value-in-Some
 chosen_of-returns-in_ok-value-in-Some t c =
-    rw c.in_ok-value-in-Some.ensures (has_ended (value_at c.args.table.now c.args.depth) c.args.depth c.args.table.now c.args.cases.now c.args.id _ _ c.args.left (token_views c.args.tokens.now) _ _ _ _ (sym (ap (place_of c.args.cases.now) c.from.ensures) ∙ c.in-Some.ensures.place) (sym (ap (type_of c.args.cases.now) c.from.ensures) ∙ c.in-Some.ensures.field.0) c.in_ok-part-in-Some.ensures (c.in_ok-rest-in-Some.ensures _ _))
+    rw c.in_ok-value-in-Some.ensures (has_ended (value_at c.args.table.now c.args.depth) c.args.depth c.args.table.now c.args.cases.now c.args.id _ _ c.args.left (token_views c.args.tokens.now) _ _ _ _ (sym (ap (place_of c.args.cases.now) c.from.ensures) ∙ c.in-Some.ensures.place) (sym (ap (type_of c.args.cases.now) c.from.ensures) ∙ c.in-Some.ensures.field.0) c.in_ok-part-in-Some.ensures (found_is (λ rest. (view c.in_ok-part-in-Some.part, c.in_ok-part-in-Some.left, token_views rest.now)) _ _ _ (c.past_variant.ensures _ _) c.in_ok-rest-in-Some.ensures.ok_part))
