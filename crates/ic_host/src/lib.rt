@@ -5,11 +5,16 @@
 //! and the script (`out`), whatever pieces its source gives and its sink takes. The lines change a state
 //! as the IC Interface Specification says ("Abstract behavior"), and what happens to it is a run
 //! (`specs/Trace.antt`), of which the contract of `replica` says what holds in all of it
-//! (`specs/Headline.antt`).
+//! (`specs/Headline.antt`). So that they are found here, the calls beside it are handed on: `words_of`, `generate`,
+//! `round` and `state_line`.
 #![tactic(auto)]
 
 mod top;
 
 pub use ic_candid_lines::laws;
+pub use ic_generate::generate;
 pub use ic_lines::Status;
+pub use ic_options::words_of;
+pub use ic_printed::state_line;
+pub use ic_round::round;
 pub use top::replica;

@@ -5,6 +5,7 @@ ghost use Rattle.ic_runs.specs.Runs.{IsRun, EachState, EachDelivery};
 ghost use Rattle.ic_host.specs.Headline.{PlacedOnce, Conserves, DoneWhenDrained, AnsweredOnce, TrapsLeave, RefusalsLeave};
 ghost use Rattle.ic_host.specs.Trace.{rules, trace};
 ghost use Rattle.ic_lines.specs.Acts.{Concludes, usage_output};
+ghost use Rattle.ic_lines.specs.Counts.{source_count_after, sink_count_after};
 ghost use Rattle.ic_lines.specs.Explained.{Explained, GivesOutput, generated_by};
 ghost use Rattle.ic_lines.specs.Out.{out};
 ghost use Rattle.ic_lines.specs.Sending.{sink_at};
@@ -67,6 +68,10 @@ pub fn replica<R: Threads + Sync, S: Source, K: Sink, G: Gate + Sync>(
     ensures later_source { S.faults source.old ≤ S.faults source.new }
     ensures later_sink { K.faults sink.old ≤ K.faults sink.new }
 
+    // The source's count is one more exactly at `ReadFault`, and the sink's exactly at `WriteFault`.
+    ensures counted_source { S.faults source.new ≡ source_count_after (S.faults source.old) result }
+    ensures counted_sink { K.faults sink.new ≡ sink_count_after (K.faults sink.old) result }
+
     // A source that cannot fail does not fail.
     ensures sure { S.cannot_fail source.old
         → S.cannot_fail source.new × (S.faults source.new ≡ S.faults source.old) × (result ≢ Status.ReadFault) }
@@ -100,6 +105,7 @@ fn run<R: Threads + Sync, S: Source, K: Sink, G: Gate + Sync>(
     ensures sure { S.cannot_fail source.old
         → S.cannot_fail source.new × (S.faults source.new ≡ S.faults source.old) × (result ≢ Status.ReadFault) }
     ensures later { S.faults source.old ≤ S.faults source.new }
+    ensures counted { S.faults source.new ≡ source_count_after (S.faults source.old) result }
 {
     match Options::read(alloc, words) {
         Ok(Some(options)) => match options.generate {

@@ -332,11 +332,23 @@ fn is_method(alloc: Global, length: usize) -> bool {
     }
 }
 
+fn is_form(alloc: Global, pieces: &[(&str, usize)]) -> bool {
+    match script_of(alloc, pieces) {
+        Ok(line) => matches!(&parse_line(alloc, &line), Err(LineError::Form)),
+        Err(_) => false,
+    }
+}
+
 // The largest method has 20,000 bytes.
 #[test]
 fn longest_method(rt: HostRuntime) {
     assert!(rt; is_method(rt.alloc(), 20_000));
-    assert!(rt; !is_method(rt.alloc(), 20_001));
+    assert!(rt;
+        is_form(
+            rt.alloc(),
+            &[("call 2vxsx-fae aaaaa-aa ", 1), ("~", 20_001), (" -", 1)],
+        )
+    );
 }
 
 fn is_size(alloc: Global, front: &str, digits: usize) -> bool {
@@ -377,5 +389,5 @@ fn are_read(alloc: Global, more_paths: usize) -> bool {
 #[test]
 fn most_paths(rt: HostRuntime) {
     assert!(rt; are_read(rt.alloc(), 63));
-    assert!(rt; !are_read(rt.alloc(), 64));
+    assert!(rt; is_form(rt.alloc(), &[("witness 61", 1), (",61", 64)]));
 }

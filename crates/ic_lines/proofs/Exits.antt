@@ -20,16 +20,13 @@ use Rattle.ic_lines.specs.Sending.{Taken, Sent, Interrupts}
 use Rattle.ic_behaviour.specs.State.{State}
 use Rattle.ic_lines.specs.Walk.{Bad, Walk, start, behind, walk}
 use Rattle.ic_generate.specs.Script.{script as generated}
+use Rattle.ic_lines.proofs.Counts.{sink_count_after-same, Interrupts-counted}
 use Rattle.ic_lines.proofs.SendLaws.{Interrupts-at_once}
 use Rattle.ic_lines.proofs.WalkLaws.{stopped, walk-line}
 
-fitting-sent : (before after : Taken) (text whole : List ℕ) (status : Status) → Sent before after text → status ≢ WriteFault
-    → IfSome before.fits (λ room. length whole ≤ room → (after.faults ≡ before.faults) × (status ≢ WriteFault))
-fitting-sent before after text whole status sent ne = fits before.fits sent.sure where
-  fits : (o : Option ℕ) → IfSome o (λ room. after.faults ≡ before.faults)
-      → IfSome o (λ room. length whole ≤ room → (after.faults ≡ before.faults) × (status ≢ WriteFault))
-  fits None h = tt
-  fits (Some room) h = λ fit. (h, ne)
+fitting-sent : (fits : Option ℕ) (length : ℕ) (P : Type 0) → P → IfSome fits (λ room. length ≤ room → P)
+fitting-sent None length P p = tt
+fitting-sent (Some room) length P p = λ fit. p
 
 fitting-never : (fits : Option ℕ) (length : ℕ) (P : Type 0) → IfSome fits (λ room. length ≤ room → ⊥) → IfSome fits (λ room. length ≤ room → P)
 fitting-never None length P h = tt
@@ -49,8 +46,8 @@ module _ (words : List (List ℕ)) (left_before left : Option (List ℕ)) (befor
     was_sent = sent.bytes;
     fell = sent.fell;
     explains = explains;
-    later = sent.later;
-    fitting = fitting-sent before after text (out words (read ++ rest_of left)).bytes status sent ne;
+    counted = sent.counted ∙ sym (sink_count_after-same before.faults status ne);
+    fitting = fitting-sent before.fits (length (out words (read ++ rest_of left)).bytes) ((after.faults ≡ before.faults) × (status ≢ WriteFault)) (sent.counted, ne);
   }
 
   -- the answer was interrupted
@@ -65,7 +62,7 @@ module _ (words : List (List ℕ)) (left_before left : Option (List ℕ)) (befor
           was_sent = broke.1.front.appended;
           fell = broke.1.front.fell;
           explains = subst P (sym broke.0) broke.1.front.is_front;
-          later = broke.1.later;
+          counted = (Interrupts-counted before after (out words (read ++ rest_of left)).bytes status interrupted).0;
           fitting = fitting-never before.fits (length (out words (read ++ rest_of left)).bytes) ((after.faults ≡ before.faults) × (status ≢ WriteFault)) broke.1.fitting;
         }
     | inr ran_out ↦

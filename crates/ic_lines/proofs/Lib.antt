@@ -1,4 +1,5 @@
 mod SendLaws
+pub mod Counts
 mod Printed
 mod WalkLaws
 mod BodyLaws

@@ -2,6 +2,7 @@
 use Rattle.std.proofs.Common.{◌≡◌, ℕ, ◌+◌, ◌≤◌, List, [], ◌++◌, length, Option, Some, None, IfSome, refl, sym, ap, subst, ◌∙◌, append_assoc, length-append, arith, inl, inr}
 use Rattle.std.specs.Prelude.{unwrap_or}
 use Rattle.std.specs.Io.KnownBytes.{append_known}
+use Rattle.ic_outside.specs.Faults.{next_count}
 use Rattle.ic_outside.specs.Given.{IsFront}
 use Rattle.ic_outside.specs.Writing.{room_before}
 use Rattle.ic_outside.proofs.KnownLaws.{append_known-append, append_known-nil, room_before-none, room_before-more}
@@ -11,17 +12,12 @@ use Rattle.ic_lines.specs.Out.{Output}
 use Rattle.ic_lines.specs.Sending.{Taken, Sent, Broke, RanOut, Interrupts}
 use Rattle.ic_lines.specs.Acts.{Concludes}
 
-same_count : (fits : Option ℕ) (faults : ℕ) → IfSome fits (λ room. faults ≡ faults)
-same_count None faults = tt
-same_count (Some room) faults = refl
-
 -- nothing is sent by doing nothing
 pub Sent-nil : (at : Taken) → Sent at at []
 Sent-nil at = record {
   bytes = sym (append_known-nil at.bytes);
   fell = room_before-none at.fits;
-  later = omega arith;
-  sure = same_count at.fits at.faults;
+  counted = refl;
 }
 
 -- a room fell by two texts, one after the other
@@ -31,20 +27,12 @@ fell-append fits at after first second one two =
     one ∙ ap (room_before (length first)) two ∙ room_before-more (length first) (length second) after
     ∙ ap (λ n. room_before n after) (sym (length-append first second))
 
--- where a room is told before a text, it is told behind it
-sure-append : (fits at : Option ℕ) (before now then n : ℕ) → fits ≡ room_before n at
-    → IfSome fits (λ room. now ≡ before) → IfSome at (λ room. then ≡ now) → IfSome fits (λ room. then ≡ before)
-sure-append None at before now then n fell one two = tt
-sure-append (Some room) None before now then n fell one two = cc
-sure-append (Some room) (Some left) before now then n fell one two = two ∙ one
-
 -- a text after another
 pub Sent-append : (old at new : Taken) (first second : List ℕ) → Sent old at first → Sent at new second → Sent old new (first ++ second)
 Sent-append old at new first second one two = record {
   bytes = two.bytes ∙ ap (λ known. append_known known second) one.bytes ∙ sym (append_known-append old.bytes first second);
   fell = fell-append old.fits at.fits new.fits first second one.fell two.fell;
-  later = omega (arith, one.later, two.later);
-  sure = sure-append old.fits at.fits old.faults at.faults new.faults (length first) one.fell one.sure two.sure;
+  counted = two.counted ∙ one.counted;
 }
 
 fits-broke : (fits at : Option ℕ) (first second : ℕ) → fits ≡ room_before first at
@@ -68,8 +56,7 @@ Broke-after old at new first second one two =
         appended = two.front.appended ∙ ap (λ known. append_known known two.front.front) one.bytes ∙ sym (append_known-append old.bytes first two.front.front);
         fell = fell-append old.fits at.fits new.fits first two.front.front one.fell two.front.fell;
       };
-      later = omega (arith, one.later, two.later);
-      rose = omega (arith, one.later, two.rose);
+      counted = two.counted ∙ ap next_count one.counted;
       fitting = subst P (sym (length-append first second)) (fits-broke old.fits at.fits (length first) (length second) one.fell two.fitting);
     }
 
@@ -110,8 +97,7 @@ Interrupts-more old new text more status one = record {
           appended = broke.1.front.appended;
           fell = broke.1.front.fell;
         };
-        later = broke.1.later;
-        rose = broke.1.rose;
+        counted = broke.1.counted;
         fitting = fits-longer old.fits (length text) (length (text ++ more)) (omega (arith, length-append text more)) broke.1.fitting;
       },
     )

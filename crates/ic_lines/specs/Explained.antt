@@ -7,6 +7,7 @@ use Rattle.ic_options.specs.declared.Options.{Options}
 use Rattle.ic_lines.specs.declared.status.Status.{Status}
 use Rattle.ic_lines.specs.declared.status.Status.TheVariants.{Done, BadWords, BadLine, ReadFault, WriteFault, NoMemory}
 use Rattle.ic_lines.specs.Body.{body}
+use Rattle.ic_lines.specs.Counts.{sink_count_after}
 use Rattle.ic_options.specs.Options.{options_of}
 use Rattle.ic_lines.specs.Out.{Output, out}
 use Rattle.ic_lines.specs.Script.{script, script_for, walk_of}
@@ -61,8 +62,8 @@ Explains words NoMemory read rest text = IsFront text (out words (read ++ rest))
 abbrev pub rest_of : Option (List ℕ) → List ℕ
 rest_of left = unwrap_or left []
 
--- A call read bytes from the source and sent a text to the sink, as its status says. A room that the
--- sink tells fell by the text's length, and where the whole answer fits in it, the sink did not fail.
+-- A call read bytes from the source and sent a text to the sink, as its status says, and the sink's count of faults is
+-- one more exactly at `WriteFault`. A room that the sink tells fell by the text's length, and where the whole answer fits in it, the sink did not fail.
 pub record Explained (words : List (List ℕ)) (left_before left : Option (List ℕ)) (before after : Taken) (status : Status) : Type 0 where
   pub read : List ℕ
   pub text : List ℕ
@@ -70,7 +71,7 @@ pub record Explained (words : List (List ℕ)) (left_before left : Option (List 
   pub was_sent : after.bytes ≡ append_known before.bytes text
   pub fell : before.fits ≡ room_before (length text) after.fits
   pub explains : Explains words status read (rest_of left) text
-  pub later : before.faults ≤ after.faults
+  pub counted : after.faults ≡ sink_count_after before.faults status
   pub fitting : IfSome before.fits (λ room. length (out words (read ++ rest_of left)).bytes ≤ room
       → (after.faults ≡ before.faults) × (status ≢ WriteFault))
 

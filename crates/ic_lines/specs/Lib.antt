@@ -1,4 +1,5 @@
 pub mod Status
+pub mod Counts
 pub mod Options
 pub mod AfterCommand
 pub mod AfterLine

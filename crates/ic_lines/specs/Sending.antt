@@ -1,7 +1,7 @@
 -- What a call did to a sink.
 use Rattle.std.specs.Prelude.{◌≡◌, ℕ, ◌≤◌, ◌⊎◌, List, ◌++◌, length, Option, Result, Ok, Err, IfSome}
 use Rattle.std.specs.Io.KnownBytes.{append_known}
-use Rattle.ic_outside.specs.Faults.{Rose}
+use Rattle.ic_outside.specs.Faults.{next_count}
 use Rattle.ic_outside.specs.Given.{IsFront, TookFront}
 use Rattle.ic_outside.specs.Writing.{room_before}
 use Rattle.ic_lines.specs.declared.status.Status.{Status}
@@ -17,18 +17,16 @@ pub record Taken : Type 0 where
 abbrev pub sink_at : {K : Type 0} → (K → Option (List ℕ)) → (K → Option ℕ) → (K → ℕ) → K → Taken
 sink_at taken fits faults sink = record { bytes = taken sink; fits = fits sink; faults = faults sink }
 
--- all of the text was sent; a sink that tells its room had room for it, and its count stays
+-- all of the text was sent; a sink that tells its room had room for it, and its count of faults stays
 pub record Sent (old new : Taken) (text : List ℕ) : Type 0 where
   pub bytes : new.bytes ≡ append_known old.bytes text
   pub fell : old.fits ≡ room_before (length text) new.fits
-  pub later : old.faults ≤ new.faults
-  pub sure : IfSome old.fits (λ room. new.faults ≡ old.faults)
+  pub counted : new.faults ≡ old.faults
 
--- the sink failed while the text was sent
+-- the sink failed, once, while the text was sent
 pub record Broke (old new : Taken) (text : List ℕ) : Type 0 where
   pub front : TookFront old.bytes new.bytes old.fits new.fits text
-  pub later : old.faults ≤ new.faults
-  pub rose : Rose old.faults new.faults
+  pub counted : new.faults ≡ next_count old.faults
   pub fitting : IfSome old.fits (λ room. length text ≤ room → ⊥)
 
 -- memory was wanting before all of the text was sent

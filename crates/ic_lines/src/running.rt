@@ -3,6 +3,7 @@ ghost use Rattle.ic_outside.specs.Faults.{Rose};
 ghost use Rattle.ic_options.specs.Options.{HasBounds, options_of};
 ghost use Rattle.ic_lines.specs.Acts.{Concludes, Turns, Stops, bad_output, behind_gathered};
 ghost use Rattle.ic_lines.specs.AfterLine.{after_line};
+ghost use Rattle.ic_lines.specs.Counts.{source_count_after, sink_count_after};
 ghost use Rattle.ic_lines.specs.Explained.{Explained};
 ghost use Rattle.ic_lines.specs.Sending.{sink_at};
 
@@ -41,6 +42,8 @@ pub fn run_script<R: Threads + Sync, S: Source, K: Sink, G: Gate + Sync>(
         (sink_at K.taken K.fits K.faults sink.old) (sink_at K.taken K.fits K.faults sink.new) result }
     ensures read { result ≡ Status.ReadFault → Rose (S.faults source.old) (S.faults source.new) }
     ensures write { result ≡ Status.WriteFault → Rose (K.faults sink.old) (K.faults sink.new) }
+    ensures counted_source { S.faults source.new ≡ source_count_after (S.faults source.old) result }
+    ensures counted_sink { K.faults sink.new ≡ sink_count_after (K.faults sink.old) result }
     ensures accepted { result ≢ Status.BadWords }
     ensures to_the_end { result ≡ Status.Done → IsTrue (S.ended source.new) }
     ensures sure { S.cannot_fail source.old

@@ -1,8 +1,10 @@
 ghost use Rattle.std.specs.Prelude.{◌≡◌};
+ghost use Rattle.std.specs.Process.{exit_status};
 ghost use Rattle.ic_lines.specs.Status.{code_of};
 
 use ic_outside::LineFault;
 use ic_script::LineCause;
+use std::process::ExitCode;
 
 /// How a call of `replica` ended.
 #[derive(Clone, Copy, Debug, PartialEq, Eq)]
@@ -34,6 +36,13 @@ impl Status {
             Status::WriteFault => 5,
             Status::NoMemory => 6,
         }
+    }
+
+    /// The same as `main` answers it.
+    pub fn exit_code(&self) -> ExitCode
+        ensures { exit_status result ≡ code_of self.now }
+    {
+        ExitCode::from(self.code())
     }
 }
 

@@ -3,14 +3,13 @@
 //! empty.
 #![tactic(auto)]
 
-use ic_host::{Status, replica};
+use ic_host::{Status, replica, words_of};
 use ic_outside::{OpenGate, StdSink, StdSource};
-use std::alloc::AllocError;
+use std::env;
 use std::process::ExitCode;
-use std::{env, io};
 
 fn main(rt: HostRuntime) -> ExitCode {
-    let status = match words(&rt) {
+    let status = match words_of(rt.alloc(), env::args(&rt)) {
         Ok(words) => {
             let mut source = StdSource::new(rt.stdin());
             let mut sink = StdSink::new(rt.stdout());
@@ -18,24 +17,5 @@ fn main(rt: HostRuntime) -> ExitCode {
         }
         Err(_) => Status::NoMemory,
     };
-    ExitCode::from(status.code())
-}
-
-// The words of the command line, of which the first is the program's name. Words of which one is no
-// text are a faulty command line, as two words are that no command line accepts.
-fn words(rt: &HostRuntime) -> Result<Vec<String>, AllocError> {
-    let mut words = Vec::new(rt.alloc());
-    match env::args(rt) {
-        Ok(args) => {
-            for word in args {
-                words.push(word)?;
-            }
-        }
-        Err(error) if error.kind() == io::ErrorKind::OutOfMemory => return Err(AllocError),
-        Err(_) => {
-            words.push(String::from_str(rt.alloc(), "replica")?)?;
-            words.push(String::from_str(rt.alloc(), "no text")?)?;
-        }
-    }
-    Ok(words)
+    status.exit_code()
 }

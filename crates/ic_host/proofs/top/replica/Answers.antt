@@ -1,7 +1,8 @@
-use Rattle.std.proofs.Common.{map, string_bytes}
+use Rattle.std.proofs.Common.{map, string_bytes, arith}
 use Rattle.ic_lines.specs.Options.{default_options}
 use Rattle.ic_options.specs.Options.{options_of}
 use Rattle.std.specs.Prelude.{unwrap_or}
+use Rattle.ic_lines.proofs.Counts.{sink_count_after-later}
 use Rattle.ic_lines.proofs.Keeps.{rules_keep}
 use Rattle.ic_host.proofs.Traces.{trace_is_run}
 use Rattle.ic_host.proofs.Promises.{each_trap, each_refusal, each_placed_once, each_answered, each_done, each_conserves}
@@ -27,3 +28,11 @@ returns-clause-answered_once g c = λ script. each_answered _ (rules_keep (unwra
 
 pub returns-clause-drained : goal.returns-clause-drained
 returns-clause-drained g c = λ script. each_done _ (rules_keep (unwrap_or (options_of (map string_bytes c.args.words.now)) default_options)) _ (trace_is_run _ script)
+
+pub returns-clause-later_sink : goal.returns-clause-later_sink
+returns-clause-later_sink g c =
+    let fits = g.met.K.Sink.faults_fit c.args.sink.now in
+    omega (arith, sink_count_after-later _ c.run.result fits, c.run.ensures.explained.counted)
+
+pub returns-clause-counted_sink : goal.returns-clause-counted_sink
+returns-clause-counted_sink g c = c.run.ensures.explained.counted

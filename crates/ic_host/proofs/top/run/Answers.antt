@@ -1,5 +1,6 @@
 use Rattle.std.proofs.Common.{sym}
 use Rattle.ic_lines.specs.Sending.{sink_at}
+use Rattle.ic_lines.proofs.Counts.{short-counted}
 use Rattle.ic_lines.proofs.Exits.{explain-at_once, explain-generated, explain-refused}
 use Rattle.ic_host.proofs.top.run.Goals as goal
 
@@ -15,3 +16,6 @@ returns-in-Ok-None-clause-explained g c =
 
 pub returns-in-Err-clause-explained : goal.returns-in-Err-clause-explained
 returns-in-Err-clause-explained g c = explain-at_once _ _ _
+
+pub returns-in-Some-clause-counted : goal.returns-in-Some-clause-counted
+returns-in-Some-clause-counted g c = sym ((short-counted _ _ _ _ c.run_generated.result c.run_generated.ensures).1 _)
