@@ -1,2 +1,5 @@
 mod Traces
+mod Told
+mod Finals
 mod Promises
+mod Refusals

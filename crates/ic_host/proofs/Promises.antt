@@ -11,14 +11,11 @@ use Rattle.ic_behaviour.specs.declared.call.Answered.{Answered}
 use Rattle.ic_behaviour.specs.State.{at, callee_of, Canister, State}
 use Rattle.ic_behaviour.specs.Counted.{counted, dropped}
 use Rattle.ic_behaviour.specs.Closing.{Handled}
-use Rattle.ic_behaviour.specs.Entry.{enters_by}
-use Rattle.ic_behaviour.specs.Installing.{enters_after}
 use Rattle.ic_behaviour.specs.Deliver.{env_at, handled_by, placed, routed, without}
 use Rattle.ic_behaviour.specs.Submitted.{empty}
 use Rattle.ic_behaviour.specs.Sound.{Sound}
 use Rattle.ic_behaviour.proofs.Ties.{tallied}
 use Rattle.ic_behaviour.proofs.Weights.{laws, at-self}
-use Rattle.ic_api.specs.System.{system_api}
 use Rattle.ic_runs.specs.Steps.{Rules, step, IsEligible}
 use Rattle.ic_runs.specs.Runs.{Act, Delivers, AllStates, EachState, EachDelivery, IsRun, IsAnyRun, HasMessage, after_act}
 use Rattle.ic_runs.proofs.RunLaws.{all_states, all_deliveries, any_run}
@@ -26,13 +23,11 @@ use Rattle.ic_accounting.proofs.Delivers.{deliver_is}
 use Rattle.ic_accounting.proofs.Drains.{drained_done}
 use Rattle.ic_accounting.proofs.Histories.{allowed_parts, run_answered}
 use Rattle.ic_accounting.proofs.Trapped.{trap_keeps}
+use Rattle.ic_accounting.specs.EntryKeeps.{EntriesKeep}
 use Rattle.ic_accounting.specs.RulesKeep.{RulesKeep}
-use Rattle.ic_management.specs.Moves.{message_of}
-use Rattle.ic_management.specs.Manage.{ended, manage}
-use Rattle.ic_options.specs.declared.Options.{Options}
-use Rattle.ic_lines.specs.Options.{rules_of}
-use Rattle.ic_host.specs.Headline.{PlacedOnce, Conserves, DoneWhenDrained, AnsweredOnce, IsAnswer, work_on, TrapLeaves, TrapsLeave, RefusalsLeave}
+use Rattle.ic_host.specs.Headline.{PlacedOnce, Conserves, DoneWhenDrained, AnsweredOnce, IsAnswer, work_on, TrapLeaves, TrapsLeave}
 use Rattle.ic_lines.proofs.Keeps.{act_sound}
+use Rattle.ic_host.proofs.Told.{settles}
 use Rattle.ic_host.proofs.Traces.{empty_sound}
 
 -- ---- each state
@@ -42,7 +37,7 @@ each P Q law rules s [] all = law s all
 each P Q law rules s (act ∷ acts) all = (law s all.0, each P Q law rules (after_act rules s act) acts all.1)
 
 module _ (rules : Rules) (keep : RulesKeep rules) (acts : List Act) (run : IsRun rules acts) where
-  each_sound : EachState Sound rules acts
+  pub each_sound : EachState Sound rules acts
   each_sound = all_states Sound IsEligible rules (act_sound rules keep) empty acts empty_sound run
 
   pub each_placed_once : EachState PlacedOnce rules acts
@@ -77,8 +72,8 @@ routed_answers key (a ∷ answers) = answers-append (routed key a) _ (one a.orig
   one (origin.Ingress k) = tt
   one (origin.Canister caller n context callback) = (tt, tt)
 
-traps_leave : (rules : Rules) (s : State) (place : ℕ) → TrapsLeave rules s place
-traps_leave rules s place m c is_m there trapped =
+traps_leave : (rules : Rules) → EntriesKeep rules.enters → (s : State) (place : ℕ) → TrapsLeave rules s place
+traps_leave rules lawful s place m c is_m there trapped =
     let key = callee_of m in
     let h : Handled = work_on rules s m c in
     let keeps = trap_keeps rules.enters (env_at s.time rules.limit rules.price) (counted s key c) m trapped in
@@ -88,30 +83,19 @@ traps_leave rules s place m c is_m there trapped =
     let leaves : TrapLeaves rules s (placed (without s place) key h) place m c h = record {
       keeps = keeps;
       canister = at_set key key s.canisters c (dropped h.canister) there ∙ cond-true (at key key) _ _ (at-self key);
+      phase = (settles rules.enters lawful (env_at s.time rules.limit rules.price) (counted s key c) m).phase trapped;
       others = λ other apart. at_set key other s.canisters c (dropped h.canister) there ∙ cond-false (at key other) _ _ apart;
       messages = (
         flat_map (routed key) h.answers,
         ap (λ l. l ++ flat_map (routed key) h.answers) (ap (λ l. remove s.messages place ++ l) keeps.calls ∙ append-nil (remove s.messages place)),
         routed_answers key h.answers,
       );
+      requests = refl;
       burned = refl;
       rest = (refl, refl, refl);
     } in
     let P = λ (t : State). TrapLeaves rules s t place m c h in
     subst P (sym done) leaves
 
-pub each_trap : (rules : Rules) (acts : List Act) → EachDelivery (TrapsLeave rules) rules acts
-each_trap rules acts = all_deliveries (TrapsLeave rules) rules (traps_leave rules) empty acts
-
--- ---- refused calls to the management canister
-
-refusals_leave : (options : Options) (s : State) (place : ℕ) → RefusalsLeave (rules_of options) s place
-unfolding manage
-refusals_leave options s place call denial is_m none refused =
-    let outside = manage (enters_after system_api) in
-    deliver_is (enters_by system_api) outside options.limit options.price s place (message_of call []) is_m
-    ∙ ap (handled_by (enters_by system_api) outside options.limit options.price s (without s place) (message_of call [])) none
-    ∙ ap (ended (without s place) call) refused
-
-pub each_refusal : (options : Options) (acts : List Act) → EachDelivery (RefusalsLeave (rules_of options)) (rules_of options) acts
-each_refusal options acts = all_deliveries (RefusalsLeave (rules_of options)) (rules_of options) (refusals_leave options) empty acts
+pub each_trap : (rules : Rules) → RulesKeep rules → (acts : List Act) → EachDelivery (TrapsLeave rules) rules acts
+each_trap rules keep acts = all_deliveries (TrapsLeave rules) rules (traps_leave rules keep.entries) empty acts

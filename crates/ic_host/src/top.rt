@@ -2,7 +2,7 @@ ghost use Rattle.std.specs.Prelude.{◌≡◌, ◌≢◌, ◌≤◌, ℕ, List, 
 ghost use Rattle.ic_outside.specs.Faults.{Rose};
 ghost use Rattle.ic_options.specs.Options.{options_of};
 ghost use Rattle.ic_runs.specs.Runs.{IsRun, EachState, EachDelivery};
-ghost use Rattle.ic_host.specs.Headline.{PlacedOnce, Conserves, DoneWhenDrained, AnsweredOnce, TrapsLeave, RefusalsLeave};
+ghost use Rattle.ic_host.specs.Headline.{PlacedOnce, Conserves, DoneWhenDrained, AnsweredOnce, AnswersAreFinal, TrapsLeave, RefusalsLeave, TurnedAwayLeaves};
 ghost use Rattle.ic_host.specs.Trace.{rules, trace};
 ghost use Rattle.ic_lines.specs.Acts.{Concludes, usage_output};
 ghost use Rattle.ic_lines.specs.Counts.{source_count_after, sink_count_after};
@@ -44,9 +44,17 @@ pub fn replica<R: Threads + Sync, S: Source, K: Sink, G: Gate + Sync>(
     ensures refused { (script : List ℕ)
         → EachDelivery (RefusalsLeave (rules (map string_bytes words.now))) (rules (map string_bytes words.now)) (trace (map string_bytes words.now) script) }
 
+    // A call that is turned away changes nothing, but that it is answered: its callee does not admit it, has too few
+    // cycles, or is not there.
+    ensures turned_away { (script : List ℕ)
+        → EachDelivery (TurnedAwayLeaves (rules (map string_bytes words.now))) (rules (map string_bytes words.now)) (trace (map string_bytes words.now) script) }
+
     // No call is answered twice: it never has two places, and none once its answer was delivered.
     ensures placed_once { (script : List ℕ) → EachState PlacedOnce (rules (map string_bytes words.now)) (trace (map string_bytes words.now) script) }
     ensures answered_once { (script : List ℕ) → AnsweredOnce (rules (map string_bytes words.now)) (trace (map string_bytes words.now) script) }
+
+    // An answer to a user is final.
+    ensures final_answers { (script : List ℕ) → AnswersAreFinal (rules (map string_bytes words.now)) (trace (map string_bytes words.now) script) }
 
     // Where nothing is left to be done, every request is answered.
     ensures drained { (script : List ℕ) → EachState DoneWhenDrained (rules (map string_bytes words.now)) (trace (map string_bytes words.now) script) }

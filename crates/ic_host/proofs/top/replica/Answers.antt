@@ -5,14 +5,19 @@ use Rattle.std.specs.Prelude.{unwrap_or}
 use Rattle.ic_lines.proofs.Counts.{sink_count_after-later}
 use Rattle.ic_lines.proofs.Keeps.{rules_keep}
 use Rattle.ic_host.proofs.Traces.{trace_is_run}
-use Rattle.ic_host.proofs.Promises.{each_trap, each_refusal, each_placed_once, each_answered, each_done, each_conserves}
+use Rattle.ic_host.proofs.Finals.{each_final}
+use Rattle.ic_host.proofs.Promises.{each_trap, each_placed_once, each_answered, each_done, each_conserves}
+use Rattle.ic_host.proofs.Refusals.{each_turned_away, each_refusal}
 use Rattle.ic_host.proofs.top.replica.Goals as goal
 
 pub returns-clause-run : goal.returns-clause-run
 returns-clause-run g c = λ script. trace_is_run _ script
 
 pub returns-clause-trapped : goal.returns-clause-trapped
-returns-clause-trapped g c = λ script. each_trap _ _
+returns-clause-trapped g c = λ script. each_trap _ (rules_keep (unwrap_or (options_of (map string_bytes c.args.words.now)) default_options)) _
+
+pub returns-clause-turned_away : goal.returns-clause-turned_away
+returns-clause-turned_away g c = λ script. each_turned_away _ _
 
 pub returns-clause-placed_once : goal.returns-clause-placed_once
 returns-clause-placed_once g c = λ script. each_placed_once _ (rules_keep (unwrap_or (options_of (map string_bytes c.args.words.now)) default_options)) _ (trace_is_run _ script)
@@ -21,7 +26,10 @@ pub returns-clause-cycles : goal.returns-clause-cycles
 returns-clause-cycles g c = λ script. each_conserves _ (rules_keep (unwrap_or (options_of (map string_bytes c.args.words.now)) default_options)) _ (trace_is_run _ script)
 
 pub returns-clause-refused : goal.returns-clause-refused
-returns-clause-refused g c = λ script. each_refusal (unwrap_or (options_of (map string_bytes c.args.words.now)) default_options) _
+returns-clause-refused g c = λ script. each_refusal (unwrap_or (options_of (map string_bytes c.args.words.now)) default_options) _ (trace_is_run _ script)
+
+pub returns-clause-final_answers : goal.returns-clause-final_answers
+returns-clause-final_answers g c = λ script. each_final (unwrap_or (options_of (map string_bytes c.args.words.now)) default_options) _ (trace_is_run _ script)
 
 pub returns-clause-answered_once : goal.returns-clause-answered_once
 returns-clause-answered_once g c = λ script. each_answered _ (rules_keep (unwrap_or (options_of (map string_bytes c.args.words.now)) default_options)) _ (trace_is_run _ script)
