@@ -1,3 +1,5 @@
+mod Cuts
+mod Workers
 mod Traces
 mod Told
 mod Finals

@@ -4,7 +4,6 @@ use Rattle.std.specs.Prelude.{nat_lt, unwrap_or}
 use Rattle.std.proofs.lemmas.Bool.{cases_Bool, ltb-true, ltb-false}
 use Rattle.ic_outside.specs.Limits.{Limits, Excess, LongLine, LongScript, script_limits, excess_of}
 use Rattle.ic_outside.specs.Pieces.{pieces, line_of}
-use Rattle.ic_script.specs.Line.{command_of}
 use Rattle.ic_script.specs.declared.Command.{Command}
 use Rattle.ic_script.specs.declared.Command.TheVariants.{Nothing, Call, Query, Run, Drain, Time, Decode, Show, Encode, Upgradable, Witness, Pick}
 use Rattle.ic_script.specs.declared.Command.TheVariants as kind
@@ -24,12 +23,13 @@ use Rattle.ic_schedule.proofs.Eligibles.{is-eligible}
 use Rattle.ic_options.specs.declared.Options.{Options}
 use Rattle.ic_lines.specs.Options.{rules_of, default_options}
 use Rattle.ic_options.specs.Options.{options_of}
-use Rattle.ic_lines.specs.AfterCommand.{accepts_now, acts_of, acts_of_rounds, text_of, fault_of, unless, after_command}
-use Rattle.ic_lines.specs.AfterLine.{after_line, after_spelled}
+use Rattle.ic_lines.specs.AfterCommand.{accepts_now, acts_of, acts_of_rounds, fault_of}
+use Rattle.ic_lines.specs.AfterLine.{after_line}
 use Rattle.ic_lines.specs.Script.{script_for}
 use Rattle.ic_lines.specs.Walk.{Place, start, behind_line, judge, judge_line}
 use Rattle.ic_host.specs.Trace.{acts_of_spelled, acts_of_line, acting, acts_from, trace_of, trace, rules}
 use Rattle.ic_lines.proofs.Keeps.{rules_keep, after_sound, rounds_eligible}
+use Rattle.ic_host.proofs.Cuts.{spells}
 
 -- the acts of rounds, where they begin in a sound state
 rounds_allowed : (options : Options) (count : ℕ) (s : State) → Sound s → AreAllowed IsEligible (rules_of options) s (acts_of_rounds options count s)
@@ -82,20 +82,12 @@ command_allowed options s (Time time) sound within now = (
 -- a good line: its acts are allowed, and the state is that after them
 line_good : (options : Options) (s : State) (line : List ℕ) (done : State × List ℕ) → Sound s → after_line options s line ≡ Ok done
     → AreAllowed IsEligible (rules_of options) s (acts_of_line options s line) × (done.0 ≡ after (rules_of options) s (acts_of_line options s line))
-unfolding after_line after_command
-line_good options s line done sound is = spelled (command_of line) refl is where
-  now : (c : Command) (fault : Option LineCause) → fault_of s c ≡ fault → IsTimely c
-      → unless fault (after (rules_of options) s (acts_of options s c), text_of options s c) ≡ Ok done
-      → AreAllowed IsEligible (rules_of options) s (acts_of options s c) × (done.0 ≡ after (rules_of options) s (acts_of options s c))
-  now c None free within is =
-      let same : (after (rules_of options) s (acts_of options s c), text_of options s c) ≡ done = cc in
-      (command_allowed options s c sound within free, ap (λ (d : State × List ℕ). d.0) (sym same))
-  now c (Some cause) free within is = cc
-
-  spelled : (r : Result Command LineCause) → command_of line ≡ r → after_spelled options s r ≡ Ok done
-      → AreAllowed IsEligible (rules_of options) s (acts_of_spelled options s r) × (done.0 ≡ after (rules_of options) s (acts_of_spelled options s r))
-  spelled (Ok c) from is = now c (fault_of s c) refl (λ time e. time_of_line line time (from ∙ ap (λ c. Ok c) e)) is
-  spelled (Err cause) from is = cc
+line_good options s line done sound is =
+    let good = spells options s line done is in
+    let allowed = command_allowed options s good.command sound (λ time e. time_of_line line time (good.is ∙ ap (λ c. Ok c) e)) good.free in (
+      subst (λ r. AreAllowed IsEligible (rules_of options) s (acts_of_spelled options s r)) (sym good.is) allowed,
+      good.state ∙ ap (λ r. after (rules_of options) s (acts_of_spelled options s r)) (sym good.is),
+    )
 
 -- what the pieces make happen is allowed in its turn
 acts_allowed : (limits : Limits) (at : Place) (ps : List (List ℕ)) → Sound at.state

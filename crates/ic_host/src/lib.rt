@@ -4,9 +4,9 @@
 //! `ic_lines`. Unless memory or a stream fails, what it prints and answers is a function of the words
 //! and the script (`out`), whatever pieces its source gives and its sink takes. The lines change a state
 //! as the IC Interface Specification says ("Abstract behavior"), and what happens to it is a run
-//! (`specs/Trace.antt`), of which the contract of `replica` says what holds in all of it
-//! (`specs/Headline.antt`). So that they are found here, the calls beside it are handed on: `words_of`, `generate`,
-//! `round` and `state_line`.
+//! (`specs/Trace.antt`), of which the contract of `replica` says that it is the one of what is printed
+//! (`specs/Printed.antt`), and what holds in all of it (`specs/Headline.antt`). So that they are found
+//! here, the calls beside it are handed on: `words_of`, `generate`, `round` and `state_line`.
 #![tactic(auto)]
 
 mod top;

@@ -1,8 +1,9 @@
-ghost use Rattle.std.specs.Prelude.{◌≡◌, ◌≢◌, ◌≤◌, ℕ, List, Some, None, IsTrue, IfSome, map, length, string_bytes};
+ghost use Rattle.std.specs.Prelude.{◌≡◌, ◌≢◌, ◌≤◌, ℕ, List, [], Some, None, IsTrue, IfSome, map, length, string_bytes};
 ghost use Rattle.ic_outside.specs.Faults.{Rose};
 ghost use Rattle.ic_options.specs.Options.{options_of};
 ghost use Rattle.ic_runs.specs.Runs.{IsRun, EachState, EachDelivery};
 ghost use Rattle.ic_host.specs.Headline.{PlacedOnce, Conserves, DoneWhenDrained, AnsweredOnce, AnswersAreFinal, TrapsLeave, RefusalsLeave, TurnedAwayLeaves};
+ghost use Rattle.ic_host.specs.Printed.{RunIsPrinted, ButForWorkers};
 ghost use Rattle.ic_host.specs.Trace.{rules, trace};
 ghost use Rattle.ic_lines.specs.Acts.{Concludes, usage_output};
 ghost use Rattle.ic_lines.specs.Counts.{source_count_after, sink_count_after};
@@ -35,6 +36,18 @@ pub fn replica<R: Threads + Sync, S: Source, K: Sink, G: Gate + Sync>(
 
     // What happens is a run: each message is delivered after those of its sender to its callee.
     ensures run { (script : List ℕ) → IsRun (rules (map string_bytes words.now)) (trace (map string_bytes words.now) script) }
+
+    // It is the run of what is printed: the same lines make both, one after another, and its last state is shown at the end.
+    ensures printed { (script : List ℕ) → RunIsPrinted (map string_bytes words.now) script }
+
+    // Refused words make nothing happen.
+    ensures idle { (script : List ℕ) → options_of (map string_bytes words.now) ≡ None → trace (map string_bytes words.now) script ≡ [] }
+
+    // How many workers there are changes nothing of it.
+    ensures workers { (other : List (List ℕ)) (script : List ℕ) → ButForWorkers (map string_bytes words.now) other
+        → (out (map string_bytes words.now) script ≡ out other script)
+        × (trace (map string_bytes words.now) script ≡ trace other script)
+        × (rules (map string_bytes words.now) ≡ rules other) }
 
     // A message that traps leaves its canister as it was, but for a cleanup that returned, and makes no call.
     ensures trapped { (script : List ℕ)

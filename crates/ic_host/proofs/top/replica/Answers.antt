@@ -4,6 +4,8 @@ use Rattle.ic_options.specs.Options.{options_of}
 use Rattle.std.specs.Prelude.{unwrap_or}
 use Rattle.ic_lines.proofs.Counts.{sink_count_after-later}
 use Rattle.ic_lines.proofs.Keeps.{rules_keep}
+use Rattle.ic_host.proofs.Cuts.{run_is_printed, nothing_runs}
+use Rattle.ic_host.proofs.Workers.{workers_change_nothing}
 use Rattle.ic_host.proofs.Traces.{trace_is_run}
 use Rattle.ic_host.proofs.Finals.{each_final}
 use Rattle.ic_host.proofs.Promises.{each_trap, each_placed_once, each_answered, each_done, each_conserves}
@@ -12,6 +14,15 @@ use Rattle.ic_host.proofs.top.replica.Goals as goal
 
 pub returns-clause-run : goal.returns-clause-run
 returns-clause-run g c = λ script. trace_is_run _ script
+
+pub returns-clause-printed : goal.returns-clause-printed
+returns-clause-printed g c = λ script. run_is_printed _ script
+
+pub returns-clause-idle : goal.returns-clause-idle
+returns-clause-idle g c = λ script refused. nothing_runs _ script refused
+
+pub returns-clause-workers : goal.returns-clause-workers
+returns-clause-workers g c = λ other script but. workers_change_nothing _ other script but
 
 pub returns-clause-trapped : goal.returns-clause-trapped
 returns-clause-trapped g c = λ script. each_trap _ (rules_keep (unwrap_or (options_of (map string_bytes c.args.words.now)) default_options)) _
