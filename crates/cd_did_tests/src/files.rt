@@ -4,7 +4,7 @@ use std::test::*;
 
 const NOT_INTERFACE: Option<DidFault> = Some(DidFault::NotInterface);
 
-static ROWS: [(&[u8], Option<DidFault>); 65] = [
+static ROWS: [(&[u8], Option<DidFault>); 84] = [
     // Files, and their ends.
     (b"", None),
     (b"type A = nat", None),
@@ -93,6 +93,26 @@ static ROWS: [(&[u8], Option<DidFault>); 65] = [
     (b"type A = record { a : nat; }", None),
     (b"type A = record { a : nat;; }", NOT_INTERFACE),
     (b"type A = vec(nat)", NOT_INTERFACE),
+    (b"service : { f : (nat nat) -> () }", NOT_INTERFACE),
+    (b"service : { f : () -> () g : () -> () }", NOT_INTERFACE),
+    // What is missing, or stands where something else must.
+    (b"type", NOT_INTERFACE),
+    (b"type 1 = nat", NOT_INTERFACE),
+    (b"type \"A\" = nat", NOT_INTERFACE),
+    (b"type A =", NOT_INTERFACE),
+    (b"type A = ->", NOT_INTERFACE),
+    (b"type A = type", NOT_INTERFACE),
+    (b"type A = oneway", NOT_INTERFACE),
+    (b"type A = composite_query", NOT_INTERFACE),
+    (b"type A = record nat", NOT_INTERFACE),
+    (b"type A = record {", NOT_INTERFACE),
+    (b"type A = func nat", NOT_INTERFACE),
+    (b"type A = func () ()", NOT_INTERFACE),
+    (b"type A = service nat", NOT_INTERFACE),
+    (b"service : () {}", NOT_INTERFACE),
+    (b"service : {", NOT_INTERFACE),
+    (b"service : { f }", NOT_INTERFACE),
+    (b"service : { f : (", NOT_INTERFACE),
 ];
 
 fn rows() -> &'static [(&'static [u8], Option<DidFault>)] {

@@ -11,7 +11,7 @@ const NOT_INTERFACE: Option<DidFault> = Some(DidFault::NotInterface);
 
 const TOO_MANY: Option<DidFault> = Some(DidFault::TooMany);
 
-static ROWS: [Row; 15] = [
+static ROWS: [Row; 16] = [
     // Levels: a definition's type is the first.
     (&[(b"type A = ", 1), (b"opt ", 127), (b"nat", 1)], None),
     (
@@ -61,6 +61,14 @@ static ROWS: [Row; 15] = [
             (b"type A = ", 1),
             (b"opt ", 126),
             (b"service { f : (nat) -> () }", 1),
+        ],
+        NOT_INTERFACE,
+    ),
+    (
+        &[
+            (b"type A = ", 1),
+            (b"opt ", 127),
+            (b"service { f : () -> () }", 1),
         ],
         NOT_INTERFACE,
     ),

@@ -17,7 +17,9 @@ const OPT_OPT: &[u8] = b"DIDL\x02\x6e\x01\x6e\x7d\x01\x00";
 
 const BLOB: &[u8] = b"DIDL\x01\x6d\x7b\x01\x00";
 
-static ROWS: [Row; 54] = [
+const NULLS: &[u8] = b"DIDL\x01\x6d\x7f\x01\x00";
+
+static ROWS: [Row; 63] = [
     // A record with a field `id`, whose number is 23515.
     (
         RECORD,
@@ -50,6 +52,9 @@ static ROWS: [Row; 54] = [
     ),
     (RECORD, b"(record { Id = 1 })", None),
     (RECORD, b"(record { id 1 })", None),
+    (RECORD, b"(record { ( = 1 })", None),
+    (RECORD, b"(record {", None),
+    (RECORD, b"(5)", None),
     // A label that is a word of the grammar, and the greatest labels.
     (
         KEYWORD,
@@ -88,6 +93,7 @@ static ROWS: [Row; 54] = [
         Some(b"(record { 0 = 1; 1 = opt 2 })"),
     ),
     (WITH_OPT, b"(record { 1 = opt 2; 1 })", None),
+    (WITH_OPT, b"(record { 0 = 1; 0 = 1 })", None),
     (WITH_OPT, b"(record { 0 = 1, 1 = opt 2 })", None),
     // A variant { 0 : null; 1 : nat }.
     (VARIANT, b"(variant { 0 })", Some(b"(variant { 0 = null })")),
@@ -100,6 +106,8 @@ static ROWS: [Row; 54] = [
     (VARIANT, b"(variant { 2 = 5 })", None),
     (VARIANT, b"(variant { 0; 1 = 5 })", None),
     (VARIANT, b"(variant {})", None),
+    (VARIANT, b"(variant {", None),
+    (VARIANT, b"(5)", None),
     (
         VARIANT,
         b"(variant { 0 = null; })",
@@ -134,6 +142,14 @@ static ROWS: [Row; 54] = [
     (BLOB, b"(vec { 256 })", None),
     (BLOB, b"(vec {})", Some(b"(blob \"\")")),
     (BLOB, b"(vec { 0;; 97 })", None),
+    // A vec of null.
+    (
+        NULLS,
+        b"(vec { null; null })",
+        Some(b"(vec { null; null })"),
+    ),
+    (NULLS, b"(vec { null null })", None),
+    (NULLS, b"(5)", None),
 ];
 
 fn rows() -> &'static [Row] {

@@ -1,6 +1,5 @@
 use cd_codec::{Expected, read_header};
-use cd_plain::print;
-use cd_text::{TextFault, read};
+use cd_text::{TextFault, print, read};
 use ic_principal::Bytes;
 use std::alloc::Global;
 use std::process::Abort;

@@ -7,7 +7,11 @@ const BLOB: &[u8] = b"DIDL\x01\x6d\x7b\x01\x00";
 
 const REFERENCES: &[u8] = b"DIDL\x02\x6a\x00\x00\x00\x69\x00\x03\x68\x01\x00";
 
-static ROWS: [Row; 40] = [
+const PRINCIPAL: &[u8] = b"DIDL\x00\x01\x68";
+
+const FUNC: &[u8] = b"DIDL\x01\x6a\x00\x00\x00\x01\x00";
+
+static ROWS: [Row; 48] = [
     // A text.
     (TEXT, b"(\"hi\")", Some(b"(\"hi\")")),
     (
@@ -25,6 +29,7 @@ static ROWS: [Row; 40] = [
     (TEXT, b"(\"\x7f\")", Some(b"(\"\\7f\")")),
     (TEXT, b"(\"\\\"\\\\\")", Some(b"(\"\\\"\\\\\")")),
     (TEXT, b"(hi)", None),
+    (TEXT, b"(", None),
     // Escapes at their ends, and what is no scalar value.
     (TEXT, b"(\"\\u{0000041}\")", None),
     (TEXT, b"(\"\\u{110000}\")", None),
@@ -55,6 +60,8 @@ static ROWS: [Row; 40] = [
     (TEXT, b"(\"\\c3\")", None),
     (BLOB, b"(blob \"\\c3\")", Some(b"(blob \"\\c3\")")),
     (BLOB, b"(blob \"\xff\")", None),
+    (BLOB, b"(blob 5)", None),
+    (BLOB, b"(blob", None),
     (BLOB, b"(blob \"\\u{d800}\")", None),
     (BLOB, b"(blob \"\\5\")", None),
     (BLOB, b"(blob \"\\00a\")", Some(b"(blob \"\\00\\61\")")),
@@ -96,6 +103,11 @@ static ROWS: [Row; 40] = [
         b"(principal aaaaa-aa, service \"aaaaa-aa\", func \"aaaaa-aa\".m)",
         None,
     ),
+    (PRINCIPAL, b"(5)", None),
+    (PRINCIPAL, b"(principal", None),
+    (FUNC, b"(5)", None),
+    (FUNC, b"(func \"aaaaa-aa\".", None),
+    (FUNC, b"(func \"aaaaa-aa\".()", None),
 ];
 
 fn rows() -> &'static [Row] {

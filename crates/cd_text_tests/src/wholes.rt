@@ -13,7 +13,7 @@ const OPT_NAT: &[u8] = b"DIDL\x01\x6e\x7d\x01\x00";
 
 const BLOB: &[u8] = b"DIDL\x01\x6d\x7b\x01\x00";
 
-static ROWS: [Row; 49] = [
+static ROWS: [Row; 52] = [
     // Parentheses, commas and blanks.
     (NAT, b"( 42 , )", Some(b"(42)")),
     (NAT, b"((42))", Some(b"(42)")),
@@ -21,6 +21,8 @@ static ROWS: [Row; 49] = [
     (NAT, b" (42)", Some(b"(42)")),
     (NAT, b"42", None),
     (NAT, b"(42", None),
+    (NAT, b"((42", None),
+    (NAT, b"(\"a\")", None),
     (NAT, b"()", None),
     (NAT, b"(42))", None),
     (NAT, b"(42, 42)", None),
@@ -35,6 +37,7 @@ static ROWS: [Row; 49] = [
     (NOTHING, b"(,)", None),
     (NOTHING, b"", None),
     (PLAIN, b"(1, true)", None),
+    (PLAIN, b"(1, true, 5)", None),
     // Annotations.
     (NAT_TEXT, b"(42 : nat, \"hi\",)", Some(b"(42, \"hi\")")),
     (NAT_TEXT, b"(42 : nat, \"hi\" : nat)", None),
