@@ -95,11 +95,7 @@ pub fn read_interface(alloc: Global, text: &[u8]) -> Result<Interface, DidFault>
     ensures within { IfOk result IsWithin }
 {
     match file_of(alloc, text) {
-        Ok(file) => {
-            let answer = interface_of(alloc, &file);
-            file.close();
-            answer
-        }
+        Ok(file) => interface_of(alloc, &file),
         Err(ReadError::Refused) => Err(DidFault::NotInterface),
         Err(ReadError::NoMemory) => Err(DidFault::NoMemory),
     }

@@ -119,8 +119,6 @@ pub(crate) fn name_of(alloc: Global, token: &Token<'_>) -> Result<Bytes, ReadErr
                 Err(ReadError::Refused)
             }
         }
-        Token::Quoted(_) => Err(ReadError::Refused),
-        Token::Mark(_) => Err(ReadError::Refused),
-        Token::Arrow => Err(ReadError::Refused),
+        Token::Quoted(_) | Token::Mark(_) | Token::Arrow => Err(ReadError::Refused),
     }
 }

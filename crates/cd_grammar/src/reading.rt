@@ -186,10 +186,9 @@ fn behind_word(reader: &mut Reader<'_, '_>, depth: u32, word: Word) -> Result<Pa
         Word::Var => rows_of(reader, depth, Rows::Cases),
         Word::Func => function_of(reader, depth),
         Word::Service => service_of(reader, depth),
-        Word::Definition => Err(ReadError::Refused),
-        Word::Query => Err(ReadError::Refused),
-        Word::Oneway => Err(ReadError::Refused),
-        Word::CompositeQuery => Err(ReadError::Refused),
+        Word::Definition | Word::Query | Word::Oneway | Word::CompositeQuery => {
+            Err(ReadError::Refused)
+        }
     }
 }
 

@@ -103,8 +103,3 @@ impl Model for File {
 
     ghost view = { λ f. record { types = f.types.items; definitions = f.definitions.items; main = f.main } };
 }
-
-impl File {
-    /// Lets the file go. A crate that reads files then needs no proof of how each of their parts is.
-    pub fn close(self) {}
-}

@@ -7,14 +7,14 @@ use Rattle.cd_did.proofs.Said.{text_is, text_is_none}
 use Rattle.cd_did.proofs.interface.read_interface.Goals as goal
 
 pub returns-in-Ok-clause-answers : goal.returns-in-Ok-clause-answers
-returns-in-Ok-clause-answers c = λ file is. subst (λ (f : File). Answers f c.interface_of-answer.result) (c.in-Ok.ensures.only file is) c.interface_of-answer.ensures.0
+returns-in-Ok-clause-answers c = λ file is. subst (λ (f : File). Answers f c.interface_of.result) (c.in-Ok.ensures.only file is) c.interface_of.ensures.0
 
 pub returns-in-Err-Refused-clause-answers : goal.returns-in-Err-Refused-clause-answers
 returns-in-Err-Refused-clause-answers c = λ file is. subst (λ (e : ReadError). Agrees {A = File} (λ f. f) (Err e) file) c.in-Err-Refused.field-0-is (c.in-Err-Refused.ensures.only file is)
 
 pub returns-in-Ok-clause-said : goal.returns-in-Ok-clause-said
 returns-in-Ok-clause-said c =
-    text_is c.args.text.now c.in-Ok.file c.interface_of-answer.result c.in-Ok.ensures.found c.interface_of-answer.ensures.0 c.interface_of-answer.ensures.1
+    text_is c.args.text.now c.in-Ok.file c.interface_of.result c.in-Ok.ensures.found c.interface_of.ensures.0 c.interface_of.ensures.1
 
 pub returns-in-Err-Refused-clause-said : goal.returns-in-Err-Refused-clause-said
 returns-in-Err-Refused-clause-said c =
