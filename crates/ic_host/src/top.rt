@@ -49,11 +49,13 @@ pub fn replica<R: Threads + Sync, S: Source, K: Sink, G: Gate + Sync>(
         × (trace (map string_bytes words.now) script ≡ trace other script)
         × (rules (map string_bytes words.now) ≡ rules other) }
 
-    // A message that traps leaves its canister as it was, but for a cleanup that returned, and makes no call.
+    // A message that traps makes no call, and leaves its canister as it was but for what a cleanup that returned did, the
+    // refund of an answer, the price, and contexts that close.
     ensures trapped { (script : List ℕ)
         → EachDelivery (TrapsLeave (rules (map string_bytes words.now))) (rules (map string_bytes words.now)) (trace (map string_bytes words.now) script) }
 
-    // So does a call to the management canister that is refused, as an installation that traps is.
+    // A call to the management canister that is refused, as an installation that traps is, changes nothing, but that it
+    // is answered.
     ensures refused { (script : List ℕ)
         → EachDelivery (RefusalsLeave (rules (map string_bytes words.now))) (rules (map string_bytes words.now)) (trace (map string_bytes words.now) script) }
 
