@@ -31,25 +31,32 @@ fn result_of(t: Option<&FuncType>) -> Option<ValType>
     }
 }
 
-/// Validates the body of a function whose type has that index.
+/// A function that a module defines: the index of its type, and its code.
+#[derive(Clone, Copy)]
+struct Definition<'a> {
+    index: u32,
+    code: &'a FuncCode,
+}
+
+/// Validates the body of a function.
 fn validate_function(
     alloc: Global,
     scope: &Scope,
-    index: u32,
-    code: &FuncCode,
+    function: Definition<'_>,
     locals: &Locals,
 ) -> Result<FlatCode, BodyFault>
-    requires flat { IsFlat code.now.body }
-    requires locals { locals.now ≡ specs.locals_of code.now.locals }
-    ensures shallow { IfOk result (λ _. specs.nesting_fits (index, code.now) ≡ true) }
+    requires flat { IsFlat function.code.now.body }
+    requires locals { locals.now ≡ specs.locals_of function.code.now.locals }
+    ensures shallow { IfOk result (λ _. specs.nesting_fits (function.entry.index, function.entry.code.now) ≡ true) }
     ensures typed { IfOk result (λ _.
-        specs.has_typing scope.now.«module».now (index, code.now) ≡ true) }
-    ensures suits { IfOk result (λ flat. Suits scope.now.«module».now (index, code.now) flat) }
+        specs.has_typing scope.now.«module».now (function.entry.index, function.entry.code.now) ≡ true) }
+    ensures suits { IfOk result (λ flat. Suits scope.now.«module».now (function.entry.index, function.entry.code.now) flat) }
     ensures faults { IfErr result (λ e.
-        specs.BodyFails scope.now.«module».now (index, code.now) e) }
+        specs.BodyFails scope.now.«module».now (function.entry.index, function.entry.code.now) e) }
 {
     let module = scope.module;
-    let t = module.types.items.get(index as usize);
+    let code = function.code;
+    let t = module.types.items.get(function.index as usize);
     let context = Context {
         types: &module.types.items,
         functions: scope.functions,
@@ -69,21 +76,21 @@ fn visit(
     alloc: Global,
     scope: &Scope,
     number: u32,
-    index: u32,
-    code: &FuncCode,
+    function: Definition<'_>,
     untyped: Option<u32>,
     codes: &mut Vec<FlatCode>,
 ) -> Result<Option<u32>, Invalid>
-    requires flat { IsFlat code.now.body }
+    requires flat { IsFlat function.code.now.body }
     requires here { slice_get (specs.definitions scope.now.«module».now) number
-        ≡ Some (index, code.now) }
+        ≡ Some (function.index, function.code.now) }
     requires before { Visited scope.now.«module».now number untyped codes.old.items }
     ensures visited { IfOk result (λ untyped.
         Visited scope.now.«module».now (number + 1) untyped codes.new.items) }
     ensures faults { IfErr result (λ e. Fails e (specs.bodies_fault scope.now.«module».now)) }
 {
+    let code = function.code;
     let locals = Locals::of(alloc, &code.locals.items)?;
-    match validate_function(alloc, scope, index, code, &locals) {
+    match validate_function(alloc, scope, function, &locals) {
         Ok(flat) => {
             codes.push(flat)?;
             Ok(untyped)
@@ -109,16 +116,11 @@ pub(crate) fn validate_functions(alloc: Global, scope: &Scope) -> Result<Vec<Fla
     let mut codes = Vec::new(alloc);
     let mut untyped = None;
     for (number, code) in bodies.iter().enumerate() {
-        let index = functions[number];
-        untyped = visit(
-            alloc,
-            scope,
-            number as u32,
-            index,
+        let function = Definition {
+            index: functions[number],
             code,
-            untyped,
-            &mut codes,
-        )?;
+        };
+        untyped = visit(alloc, scope, number as u32, function, untyped, &mut codes)?;
     }
     match untyped {
         None => Ok(codes),
