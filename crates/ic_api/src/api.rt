@@ -5,6 +5,7 @@ ghost use Rattle.ic_api.specs.Running.{starting};
 
 use crate::execution::Execution;
 use crate::memory::refused;
+use crate::run::Asked;
 use ic_base::NoMemory;
 use ic_behaviour::{Effects, EntryKind, OutCalls, View};
 use ic_principal::Bytes;
@@ -116,7 +117,8 @@ impl Host for Api {
             store.holds_bytes();
             return Ok(refused());
         };
-        let answer = self.es.run(self.alloc, kind, call, args, store, meter)?;
+        let asked = Asked { kind, call, args };
+        let answer = self.es.run(self.alloc, asked, store, meter)?;
         store.holds_bytes();
         Ok(answer)
     }

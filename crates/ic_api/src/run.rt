@@ -17,32 +17,38 @@ use wm_semantics::{HostAnswer, Meter, Trap};
 use wm_store::Store;
 use wm_valid::system_api::SystemCall;
 
+/// A call that code makes: from an entry point of that kind, with these arguments.
+#[derive(Clone, Copy)]
+pub(crate) struct Asked<'a> {
+    pub(crate) kind: EntryKind,
+    pub(crate) call: SystemCall,
+    pub(crate) args: &'a [u64],
+}
+
 impl Execution {
     /// Runs the call: the charge, the kind, and then as the table says.
-    pub fn run(
+    pub(crate) fn run(
         &mut self,
         alloc: Global,
-        kind: EntryKind,
-        call: SystemCall,
-        args: &[u64],
+        asked: Asked<'_>,
         store: &mut Store,
         meter: &mut Meter,
     ) -> Result<HostAnswer, NoMemory>
         requires record { IsRecord self.old }
-        requires values { AreValues (row_of call).params args.now }
-        ensures did { Does result (record { es = self.new; lists = store.new.lists }) (api kind call args.now meter.old.limit meter.old.used (record { es = self.old; lists = store.old.lists })).step }
-        ensures used { IfOk result (λ _. meter.new.used ≡ (api kind call args.now meter.old.limit meter.old.used (record { es = self.old; lists = store.old.lists })).used) }
+        requires values { AreValues (row_of asked.call).params asked.args.now }
+        ensures did { Does result (record { es = self.new; lists = store.new.lists }) (api asked.entry.kind asked.entry.call asked.entry.args.now meter.old.limit meter.old.used (record { es = self.old; lists = store.old.lists })).step }
+        ensures used { IfOk result (λ _. meter.new.used ≡ (api asked.entry.kind asked.entry.call asked.entry.args.now meter.old.limit meter.old.used (record { es = self.old; lists = store.old.lists })).used) }
         ensures same { OnErr result (self.new ≡ self.old) }
         ensures begun { store.new.begun ≡ store.old.begun }
         ensures limit { meter.new.limit ≡ meter.old.limit }
         ensures rises { meter.old.used ≤ meter.new.used }
     {
-        if !meter.charge(1 + surcharge(call, args, store)) {
+        if !meter.charge(1 + surcharge(asked.call, asked.args, store)) {
             return Ok(HostAnswer::Trap(Trap::Limit));
         }
-        if !kinds_of(call).has(kind) {
+        if !kinds_of(asked.call).has(asked.kind) {
             return Ok(refused());
         }
-        self.act(alloc, kind, call, args, store)
+        self.act(alloc, asked.kind, asked.call, asked.args, store)
     }
 }
