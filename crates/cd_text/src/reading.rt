@@ -199,23 +199,33 @@ fn blob_of<'t, 'a>(
     Ok((Value::of_bytes(bytes), left, rest))
 }
 
+/// The types of a value and its parts, and within how many levels they are read.
+#[derive(Clone, Copy)]
+pub(crate) struct Level<'l> {
+    pub(crate) table: &'l TypeTable,
+    pub(crate) depth: u32,
+}
+
 #[cycle(reader)]
 #[tactic(auto, unfolding(crate::specs::ReadSaid::value_at))]
 fn value_of<'t, 'a>(
     alloc: Global,
-    table: &TypeTable,
+    level: Level<'_>,
     ty: TyRef,
-    depth: u32,
     left: u32,
     tokens: &'t [Token<'a>],
 ) -> Result<(Value, u32, &'t [Token<'a>]), ReadError>
-    ensures { Gives (λ x. (view x.0, x.1, token_views x.2.now)) result (value_at table.now depth ty left (token_views tokens.now)) }
+    ensures { Gives (λ x. (view x.0, x.1, token_views x.2.now)) result (value_at level.entry.table.now level.entry.depth ty left (token_views tokens.now)) }
 {
-    if depth == 0 {
+    if level.depth == 0 {
         return Err(ReadError::Refused);
     }
+    let below = Level {
+        table: level.table,
+        depth: level.depth - 1,
+    };
     if starts_mark(tokens, b'(') {
-        let (value, left, rest) = annotated_of(alloc, table, ty, depth - 1, left, rest_of(tokens))?;
+        let (value, left, rest) = annotated_of(alloc, below, ty, left, rest_of(tokens))?;
         if !starts_mark(rest, b')') {
             return Err(ReadError::Refused);
         }
@@ -226,9 +236,9 @@ fn value_of<'t, 'a>(
     }
     match ty {
         TyRef::Prim(prim) => primitive_of(alloc, prim, left - 1, tokens),
-        TyRef::Index(index) => match table.entry(index) {
+        TyRef::Index(index) => match level.table.entry(index) {
             None => Err(ReadError::Refused),
-            Some(entry) => entry_of(alloc, table, entry, depth - 1, left - 1, tokens),
+            Some(entry) => entry_of(alloc, below, entry, left - 1, tokens),
         },
     }
 }
@@ -237,15 +247,14 @@ fn value_of<'t, 'a>(
 #[cycle(reader)]
 pub(crate) fn annotated_of<'t, 'a>(
     alloc: Global,
-    table: &TypeTable,
+    level: Level<'_>,
     ty: TyRef,
-    depth: u32,
     left: u32,
     tokens: &'t [Token<'a>],
 ) -> Result<(Value, u32, &'t [Token<'a>]), ReadError>
-    ensures { Gives (λ x. (view x.0, x.1, token_views x.2.now)) result (annotated_at ty (value_at table.now depth ty) left (token_views tokens.now)) }
+    ensures { Gives (λ x. (view x.0, x.1, token_views x.2.now)) result (annotated_at ty (value_at level.entry.table.now level.entry.depth ty) left (token_views tokens.now)) }
 {
-    let (value, left, rest) = value_of(alloc, table, ty, depth, left, tokens)?;
+    let (value, left, rest) = value_of(alloc, level, ty, left, tokens)?;
     let rest = past_annotation(ty, rest).ok_or(ReadError::Refused)?;
     Ok((value, left, rest))
 }
@@ -254,23 +263,28 @@ pub(crate) fn annotated_of<'t, 'a>(
 #[tactic(auto, unfolding(crate::specs::ReadSaid::entry_at))]
 fn entry_of<'t, 'a>(
     alloc: Global,
-    table: &TypeTable,
+    level: Level<'_>,
     entry: &Entry,
-    depth: u32,
     left: u32,
     tokens: &'t [Token<'a>],
 ) -> Result<(Value, u32, &'t [Token<'a>]), ReadError>
-    requires { (is_ordered entry.now ≡ true) × (depth + 1 < 2 ^ 32) }
-    ensures { Gives (λ x. (view x.0, x.1, token_views x.2.now)) result (entry_at depth table.now (value_at table.now depth) entry.now left (token_views tokens.now)) }
+    requires { (is_ordered entry.now ≡ true) × (level.depth + 1 < 2 ^ 32) }
+    ensures { Gives (λ x. (view x.0, x.1, token_views x.2.now)) result (entry_at level.entry.depth level.entry.table.now (value_at level.entry.table.now level.entry.depth) entry.now left (token_views tokens.now)) }
 {
     match entry {
-        Entry::Opt(ty) => opt_of(alloc, table, *ty, depth, left, tokens),
+        Entry::Opt(ty) => opt_of(alloc, level, *ty, left, tokens),
         Entry::Seq(TyRef::Prim(Prim::Nat8)) => {
-            blob_of(alloc, TyRef::Prim(Prim::Nat8), depth + 1, left, tokens)
+            blob_of(
+                alloc,
+                TyRef::Prim(Prim::Nat8),
+                level.depth + 1,
+                left,
+                tokens,
+            )
         }
-        Entry::Seq(ty) => list_of(alloc, table, *ty, depth, left, tokens),
-        Entry::Rec(fields) => record_of(alloc, table, &fields.items, depth, left, tokens),
-        Entry::Var(cases) => variant_of(alloc, table, &cases.items, depth, left, tokens),
+        Entry::Seq(ty) => list_of(alloc, level, *ty, left, tokens),
+        Entry::Rec(fields) => record_of(alloc, level, &fields.items, left, tokens),
+        Entry::Var(cases) => variant_of(alloc, level, &cases.items, left, tokens),
         Entry::Func { .. } => func_of(alloc, left, tokens),
         Entry::Service(_) => service_of(alloc, left, tokens),
     }
@@ -296,13 +310,12 @@ fn service_of<'t, 'a>(
 #[cycle(reader)]
 fn opt_of<'t, 'a>(
     alloc: Global,
-    table: &TypeTable,
+    level: Level<'_>,
     ty: TyRef,
-    depth: u32,
     left: u32,
     tokens: &'t [Token<'a>],
 ) -> Result<(Value, u32, &'t [Token<'a>]), ReadError>
-    ensures { Gives (λ x. (view x.0, x.1, token_views x.2.now)) result (opt_at (value_at table.now depth ty) left (token_views tokens.now)) }
+    ensures { Gives (λ x. (view x.0, x.1, token_views x.2.now)) result (opt_at (value_at level.entry.table.now level.entry.depth ty) left (token_views tokens.now)) }
 {
     if starts_word(tokens, b"null") {
         return Ok((Value::none(), left, rest_of(tokens)));
@@ -310,7 +323,7 @@ fn opt_of<'t, 'a>(
     if !starts_word(tokens, b"opt") {
         return Err(ReadError::Refused);
     }
-    let (part, left, rest) = value_of(alloc, table, ty, depth, left, rest_of(tokens))?;
+    let (part, left, rest) = value_of(alloc, level, ty, left, rest_of(tokens))?;
     let value = Value::some(alloc, part)?;
     Ok((value, left, rest))
 }
@@ -318,33 +331,31 @@ fn opt_of<'t, 'a>(
 #[cycle(reader)]
 fn list_of<'t, 'a>(
     alloc: Global,
-    table: &TypeTable,
+    level: Level<'_>,
     ty: TyRef,
-    depth: u32,
     left: u32,
     tokens: &'t [Token<'a>],
 ) -> Result<(Value, u32, &'t [Token<'a>]), ReadError>
-    ensures { Gives (λ x. (view x.0, x.1, token_views x.2.now)) result (list_at ty (value_at table.now depth ty) left (token_views tokens.now)) }
+    ensures { Gives (λ x. (view x.0, x.1, token_views x.2.now)) result (list_at ty (value_at level.entry.table.now level.entry.depth ty) left (token_views tokens.now)) }
 {
     if !starts_braces(tokens, b"vec") {
         return Err(ReadError::Refused);
     }
     let inner = rest_of(rest_of(tokens));
-    let (items, left, rest) = items_of(alloc, table, ty, depth, left, tokens.len(), inner)?;
+    let (items, left, rest) = items_of(alloc, level, ty, left, tokens.len(), inner)?;
     Ok((Value::of_items(items), left, rest))
 }
 
 #[cycle(reader)]
 fn items_of<'t, 'a>(
     alloc: Global,
-    table: &TypeTable,
+    level: Level<'_>,
     ty: TyRef,
-    depth: u32,
     left: u32,
     most: usize,
     tokens: &'t [Token<'a>],
 ) -> Result<(Vec<Value>, u32, &'t [Token<'a>]), ReadError>
-    ensures { Gives (λ x. (views x.0.items, x.1, token_views x.2.now)) result (braces_at (item_at ty (value_at table.now depth ty)) no_place_of most left (token_views tokens.now)) }
+    ensures { Gives (λ x. (views x.0.items, x.1, token_views x.2.now)) result (braces_at (item_at ty (value_at level.entry.table.now level.entry.depth ty)) no_place_of most left (token_views tokens.now)) }
 {
     let mut items = Vec::new(alloc);
     let mut unread = left;
@@ -353,7 +364,7 @@ fn items_of<'t, 'a>(
         if starts_mark(rest, b'}') {
             return Ok((items, unread, rest_of(rest)));
         }
-        let (value, left, after) = annotated_of(alloc, table, ty, depth, unread, rest)?;
+        let (value, left, after) = annotated_of(alloc, level, ty, unread, rest)?;
         items.push(value)?;
         if starts_mark(after, b'}') {
             return Ok((items, left, rest_of(after)));
@@ -370,36 +381,34 @@ fn items_of<'t, 'a>(
 #[cycle(reader)]
 fn record_of<'t, 'a>(
     alloc: Global,
-    table: &TypeTable,
+    level: Level<'_>,
     fields: &[(u32, TyRef)],
-    depth: u32,
     left: u32,
     tokens: &'t [Token<'a>],
 ) -> Result<(Value, u32, &'t [Token<'a>]), ReadError>
     requires { ids_rise_from 0 (map (λ f. f.0) fields.now) ≡ true }
-    ensures { Gives (λ x. (view x.0, x.1, token_views x.2.now)) result (record_at (value_at table.now depth) depth table.now fields.now left (token_views tokens.now)) }
+    ensures { Gives (λ x. (view x.0, x.1, token_views x.2.now)) result (record_at (value_at level.entry.table.now level.entry.depth) level.entry.depth level.entry.table.now fields.now left (token_views tokens.now)) }
 {
     if !starts_braces(tokens, b"record") {
         return Err(ReadError::Refused);
     }
     let inner = rest_of(rest_of(tokens));
-    let (said, left, rest) = fields_of(alloc, table, fields, depth, left, tokens.len(), inner)?;
-    let (value, left) = record_made(alloc, table, depth, fields, said, left)?;
+    let (said, left, rest) = fields_of(alloc, level, fields, left, tokens.len(), inner)?;
+    let (value, left) = record_made(alloc, level.table, level.depth, fields, said, left)?;
     Ok((value, left, rest))
 }
 
 #[cycle(reader)]
 fn fields_of<'t, 'a>(
     alloc: Global,
-    table: &TypeTable,
+    level: Level<'_>,
     fields: &[(u32, TyRef)],
-    depth: u32,
     left: u32,
     most: usize,
     tokens: &'t [Token<'a>],
 ) -> Result<(Vec<(u32, Value)>, u32, &'t [Token<'a>]), ReadError>
     requires { ids_rise_from 0 (map (λ f. f.0) fields.now) ≡ true }
-    ensures { Gives (λ x. (views_of_fields x.0.items, x.1, token_views x.2.now)) result (braces_at (field_at (value_at table.now depth) fields.now) after_field most left (token_views tokens.now)) }
+    ensures { Gives (λ x. (views_of_fields x.0.items, x.1, token_views x.2.now)) result (braces_at (field_at (value_at level.entry.table.now level.entry.depth) fields.now) after_field most left (token_views tokens.now)) }
 {
     let mut said = Vec::new(alloc);
     let mut next: u64 = 0;
@@ -409,7 +418,7 @@ fn fields_of<'t, 'a>(
         if starts_mark(rest, b'}') {
             return Ok((said, unread, rest_of(rest)));
         }
-        let (field, left, after) = field_of(alloc, table, fields, next, depth, unread, rest)?;
+        let (field, left, after) = field_of(alloc, level, fields, next, unread, rest)?;
         let id = field.0;
         said.push(field)?;
         if starts_mark(after, b'}') {
@@ -429,32 +438,23 @@ fn fields_of<'t, 'a>(
 #[cycle(reader)]
 fn field_of<'t, 'a>(
     alloc: Global,
-    table: &TypeTable,
+    level: Level<'_>,
     fields: &[(u32, TyRef)],
     next: u64,
-    depth: u32,
     left: u32,
     tokens: &'t [Token<'a>],
 ) -> Result<((u32, Value), u32, &'t [Token<'a>]), ReadError>
     requires { ids_rise_from 0 (map (λ f. f.0) fields.now) ≡ true }
-    ensures { Gives (λ x. ((x.0.0, view x.0.1), x.1, token_views x.2.now)) result (field_at (value_at table.now depth) fields.now next left (token_views tokens.now)) }
+    ensures { Gives (λ x. ((x.0.0, view x.0.1), x.1, token_views x.2.now)) result (field_at (value_at level.entry.table.now level.entry.depth) fields.now next left (token_views tokens.now)) }
 {
     match tokens {
         [] => Err(ReadError::Refused),
         [first, rest @ ..] => {
             if starts_mark(rest, b'=') {
                 let id = label_of(alloc, first)?;
-                typed_of(
-                    alloc,
-                    table,
-                    fields,
-                    u64::from(id),
-                    depth,
-                    left,
-                    rest_of(rest),
-                )
+                typed_of(alloc, level, fields, u64::from(id), left, rest_of(rest))
             } else {
-                typed_of(alloc, table, fields, next, depth, left, tokens)
+                typed_of(alloc, level, fields, next, left, tokens)
             }
         }
     }
@@ -463,20 +463,19 @@ fn field_of<'t, 'a>(
 #[cycle(reader)]
 fn typed_of<'t, 'a>(
     alloc: Global,
-    table: &TypeTable,
+    level: Level<'_>,
     fields: &[(u32, TyRef)],
     id: u64,
-    depth: u32,
     left: u32,
     tokens: &'t [Token<'a>],
 ) -> Result<((u32, Value), u32, &'t [Token<'a>]), ReadError>
     requires { ids_rise_from 0 (map (λ f. f.0) fields.now) ≡ true }
-    ensures { Gives (λ x. ((x.0.0, view x.0.1), x.1, token_views x.2.now)) result (typed_at (value_at table.now depth) fields.now id left (token_views tokens.now)) }
+    ensures { Gives (λ x. ((x.0.0, view x.0.1), x.1, token_views x.2.now)) result (typed_at (value_at level.entry.table.now level.entry.depth) fields.now id left (token_views tokens.now)) }
 {
     match find(fields, id) {
         None => Err(ReadError::Refused),
         Some((_, (id, ty))) => {
-            let (value, left, rest) = annotated_of(alloc, table, ty, depth, left, tokens)?;
+            let (value, left, rest) = annotated_of(alloc, level, ty, left, tokens)?;
             Ok(((id, value), left, rest))
         }
     }
@@ -485,14 +484,13 @@ fn typed_of<'t, 'a>(
 #[cycle(reader)]
 fn variant_of<'t, 'a>(
     alloc: Global,
-    table: &TypeTable,
+    level: Level<'_>,
     cases: &[(u32, TyRef)],
-    depth: u32,
     left: u32,
     tokens: &'t [Token<'a>],
 ) -> Result<(Value, u32, &'t [Token<'a>]), ReadError>
     requires { ids_rise_from 0 (map (λ f. f.0) cases.now) ≡ true }
-    ensures { Gives (λ x. (view x.0, x.1, token_views x.2.now)) result (variant_at (value_at table.now depth) depth table.now cases.now left (token_views tokens.now)) }
+    ensures { Gives (λ x. (view x.0, x.1, token_views x.2.now)) result (variant_at (value_at level.entry.table.now level.entry.depth) level.entry.depth level.entry.table.now cases.now left (token_views tokens.now)) }
 {
     if !starts_braces(tokens, b"variant") {
         return Err(ReadError::Refused);
@@ -501,7 +499,7 @@ fn variant_of<'t, 'a>(
         [] => Err(ReadError::Refused),
         [label, rest @ ..] => {
             let id = label_of(alloc, label)?;
-            chosen_of(alloc, table, cases, id, depth, left, rest)
+            chosen_of(alloc, level, cases, id, left, rest)
         }
     }
 }
@@ -510,20 +508,19 @@ fn variant_of<'t, 'a>(
 #[cycle(reader)]
 fn chosen_of<'t, 'a>(
     alloc: Global,
-    table: &TypeTable,
+    level: Level<'_>,
     cases: &[(u32, TyRef)],
     id: u32,
-    depth: u32,
     left: u32,
     tokens: &'t [Token<'a>],
 ) -> Result<(Value, u32, &'t [Token<'a>]), ReadError>
     requires { ids_rise_from 0 (map (λ f. f.0) cases.now) ≡ true }
-    ensures { Gives (λ x. (view x.0, x.1, token_views x.2.now)) result (chosen_at (value_at table.now depth) depth table.now cases.now id left (token_views tokens.now)) }
+    ensures { Gives (λ x. (view x.0, x.1, token_views x.2.now)) result (chosen_at (value_at level.entry.table.now level.entry.depth) level.entry.depth level.entry.table.now cases.now id left (token_views tokens.now)) }
 {
     match find(cases, u64::from(id)) {
         None => Err(ReadError::Refused),
         Some((place, (_, ty))) => {
-            let (part, left, rest) = case_of(alloc, table, ty, depth, left, tokens)?;
+            let (part, left, rest) = case_of(alloc, level, ty, left, tokens)?;
             let rest = past_variant(rest).ok_or(ReadError::Refused)?;
             let value = Value::of_case(alloc, place as u32, part)?;
             Ok((value, left, rest))
@@ -535,17 +532,16 @@ fn chosen_of<'t, 'a>(
 #[cycle(reader)]
 fn case_of<'t, 'a>(
     alloc: Global,
-    table: &TypeTable,
+    level: Level<'_>,
     ty: TyRef,
-    depth: u32,
     left: u32,
     tokens: &'t [Token<'a>],
 ) -> Result<(Value, u32, &'t [Token<'a>]), ReadError>
-    ensures { Gives (λ x. (view x.0, x.1, token_views x.2.now)) result (case_at (value_at table.now depth) depth table.now ty left (token_views tokens.now)) }
+    ensures { Gives (λ x. (view x.0, x.1, token_views x.2.now)) result (case_at (value_at level.entry.table.now level.entry.depth) level.entry.depth level.entry.table.now ty left (token_views tokens.now)) }
 {
     if starts_mark(tokens, b'=') {
-        return annotated_of(alloc, table, ty, depth, left, rest_of(tokens));
+        return annotated_of(alloc, level, ty, left, rest_of(tokens));
     }
-    let left = without_null(table, ty, depth, left).ok_or(ReadError::Refused)?;
+    let left = without_null(level.table, ty, level.depth, left).ok_or(ReadError::Refused)?;
     Ok((Value::Null, left, tokens))
 }

@@ -13,7 +13,7 @@ ghost use Rattle.cd_text.specs.ReadsText.{ReadsText};
 ghost use Rattle.cd_text.specs.Whole.{Said};
 
 use crate::fault::TextFault;
-use crate::reading::annotated_of;
+use crate::reading::{Level, annotated_of};
 use cd_codec::{Expected, Value, Values};
 use cd_plain::{rest_of, starts_mark};
 use cd_tokens::{Token, tokens_of};
@@ -40,7 +40,13 @@ fn argument_of<'t, 'a>(
 {
     match types.get(place) {
         None => Err(ReadError::Refused),
-        Some(ty) => annotated_of(alloc, table, *ty, MAX_NESTING, left, tokens),
+        Some(ty) => {
+            let level = Level {
+                table,
+                depth: MAX_NESTING,
+            };
+            annotated_of(alloc, level, *ty, left, tokens)
+        }
     }
 }
 
