@@ -17,6 +17,7 @@ use Rattle.cd_grammar.specs.declared.written.Written.TheVariants.{Opt, Seq, Rec,
 use Rattle.cd_grammar.specs.declared.written.Main.{Main}
 use Rattle.cd_grammar.specs.File.{File}
 use Rattle.cd_did.specs.declared.fault.DidFault.{DidFault}
+use Rattle.cd_did.specs.declared.fault.DidFault.TheVariants.{NotInterface, Float, Repeated, Unbound, Vacuous, Shape, TooMany, NoMemory}
 use Rattle.cd_did.specs.declared.fault.Interface.{Interface}
 use Rattle.cd_did.specs.Faults.{all_parts, is_no_float, is_bound, is_func, is_service, Is, IsShaped, IsMainShaped, AreShaped}
 use Rattle.cd_grammar.specs.Fits.{parts_of, all_in_main}
@@ -86,7 +87,7 @@ types_fit : (n : ℕ) (types : List Written) → list_all (written_fits n) types
 types_fit n types e = all_wider (written_fits n) (λ w. list_all (part_fits n) (parts_of w)) types (λ w fits. (both_true (list_all (part_fits n) (parts_of w)) (notes_fit w) fits).0) e
 
 -- the parts of the file are fine, those of its service too
-fine : (file : File) → HasTypes file → FitsFile file → Fine file × (all_in_main (is_fine file) file.main ≡ true)
+pub fine : (file : File) → HasTypes file → FitsFile file → Fine file × (all_in_main (is_fine file) file.main ≡ true)
 fine file has fits =
     let bound = parts_of_all (is_bound file.definitions) file has.0.1 in
     let floats = parts_of_all is_no_float file has.0.0.0 in (
@@ -206,19 +207,24 @@ few_made file ends made of e =
     grind (arith, few, size)
 
 pub answered : (file : File) (ends : List ℕ) (made : List Entry) (result : Result Interface DidFault) → HasEnded file ends → FitsFile file → EntriesOf file ends made × AllFormed file ends → is_served file ends file.main ≡ true
-    → IsTabled made (service_at file ends) result → Answers file result × IfOk result IsWithin
+    → IsTabled file ends made result → Answers file result × IfOk result IsWithin
 answered file ends made (Ok interface) has fits of served tabled =
-    let few = few_made file ends made of.0 tabled.2 in
-    let m = made_stands file ends made has fits of.0.0 (all_like file ends made of.0) few in (
-      ((has.0, all_shaped file ends has of.1 served), few, subst (λ (t : List Entry). FileStands file t interface.service) (sym tabled.0) (subst (λ (s : Option TyRef). FileStands file made s) (sym tabled.1) m.0)),
-      subst (λ (t : List Entry). IfSome interface.service (λ r. IsTrue (is_inside (length t) r))) (sym tabled.0) (subst (λ (s : Option TyRef). IfSome s (λ r. IsTrue (is_inside (length made) r))) (sym tabled.1) m.1),
-    )
-answered file ends made (Err fault) has fits of served tabled =
+    let few = few_made file ends made of.0 tabled.1 in
+    let m = made_stands file ends made has fits of.0.0 (all_like file ends made of.0) few in
+    subst (λ (i : Interface). Answers file (Ok i) × IsWithin i) (sym tabled.0) (((has.0, all_shaped file ends has of.1 served), few, m.0), m.1)
+answered file ends made (Err TooMany) has fits of served tabled =
     let many : 10000 < length file.types = elim (true_or_false (nat_lt 10000 (length file.types))) [
       | inl more ↦ grind (arith, more)
       | inr few ↦
           let table : is_table made ≡ true = made_table file ends made (whole file ends made has fits of.0 (grind (arith, few))) in
-          let f : true ≡ false = sym table ∙ tabled.1 in
+          let f : true ≡ false = sym table ∙ tabled in
           absurd cc
     ] in
-    (subst (λ (f : DidFault). Answers file (Err f)) (sym tabled.0) ((has.0, all_shaped file ends has of.1 served), many), tt)
+    (((has.0, all_shaped file ends has of.1 served), many), tt)
+answered file ends made (Err NoMemory) has fits of served tabled = (tt, tt)
+answered file ends made (Err NotInterface) has fits of served tabled = absurd tabled
+answered file ends made (Err Float) has fits of served tabled = absurd tabled
+answered file ends made (Err (Repeated place)) has fits of served tabled = absurd tabled
+answered file ends made (Err Unbound) has fits of served tabled = absurd tabled
+answered file ends made (Err (Vacuous place)) has fits of served tabled = absurd tabled
+answered file ends made (Err Shape) has fits of served tabled = absurd tabled

@@ -14,3 +14,6 @@ pub mod RowOrder
 pub mod Decided
 pub mod Said
 pub mod Told
+pub mod Installed
+pub mod MethodLemmas
+pub mod Rows

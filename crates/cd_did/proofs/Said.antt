@@ -30,12 +30,13 @@ use Rattle.cd_did.specs.declared.fault.DidFault.{DidFault}
 use Rattle.cd_did.specs.declared.fault.DidFault.TheVariants.{NotInterface, Float, Repeated, Unbound, Vacuous, Shape, TooMany, NoMemory}
 use Rattle.cd_did.specs.declared.fault.Interface.{Interface}
 use Rattle.cd_did.specs.Answers.{HasAll, HasTypes, Answers}
+use Rattle.cd_did.specs.Denotes.{tuple_of}
 use Rattle.cd_did.specs.Faults.{Definitions, is_bound, IsVacuous}
 use Rattle.cd_did.specs.Rings.{AreJumps, HasEnds, after_steps, is_named_at, least_from}
 use Rattle.cd_did.specs.Targets.{found_at, ref_of, target}
 use Rattle.cd_did.specs.Sorted.{row}
 use Rattle.cd_did.specs.Entries.{EntryOf, EntriesOf}
-use Rattle.cd_did.specs.Interfaces.{HasEnded, service_at, IsTabled}
+use Rattle.cd_did.specs.Interfaces.{HasEnded, service_at, init_at, IsTabled}
 use Rattle.cd_did.specs.InterfaceOf.{file_in, ends_of, in_order, entry_of, interface_of, are_formed, fault_of, unless, interface_at, interface_in, IsAnswer}
 use Rattle.cd_did.proofs.ApartLemmas.{apart, all_bound}
 use Rattle.cd_did.proofs.Ends.{vacuous_found, none_vacuous}
@@ -147,13 +148,24 @@ service_is file ends (Some main) has bound =
     ap (λ (r : TyRef). Some r) (target_is file ends (ends_of file.definitions) (known file ends has) (known file (ends_of file.definitions) (ended file has.0)) main.service
     (both_true (list_all (is_bound file.definitions) main.tuple) (is_bound file.definitions main.service) bound).1)
 
+init_is : (file : File) (ends : List ℕ) (main : Option Main) → HasEnded file ends → all_in_main (is_bound file.definitions) main ≡ true → map (target file.definitions ends) (tuple_of main) ≡ map (target file.definitions (ends_of file.definitions)) (tuple_of main)
+init_is file ends None has bound = refl
+init_is file ends (Some main) has bound =
+    targets_are file ends (ends_of file.definitions) (known file ends has) (known file (ends_of file.definitions) (ended file has.0)) main.tuple
+    (both_true (list_all (is_bound file.definitions) main.tuple) (is_bound file.definitions main.service) bound).0
+
+abbrev made_of : List Entry → Option TyRef → List TyRef → Interface
+made_of table service init = record { table = table; service = service; init = init }
+
 -- the interface that is made is the file's
-pub interface_is : (file : File) (ends : List ℕ) (made : List Entry) (result : Result Interface DidFault) → HasEnded file ends → EntriesOf file ends made → IsTabled made (service_at file ends) result → IfOk result (λ interface. interface ≡ interface_of file)
+pub interface_is : (file : File) (ends : List ℕ) (made : List Entry) (result : Result Interface DidFault) → HasEnded file ends → EntriesOf file ends made → IsTabled file ends made result → IfOk result (λ interface. interface ≡ interface_of file)
 interface_is file ends made (Ok interface) has of tabled =
-    let table = tabled.0 ∙ table_is file ends made has of in
-    let service = tabled.1 ∙ service_is file ends file.main has (parts_of_all (is_bound file.definitions) file has.0.0.1).2 in
-    ap (λ (t : List Entry). record { table = t; service = interface.service }) table
-    ∙ ap (λ (s : Option TyRef). record { table = map (entry_of file.definitions (ends_of file.definitions)) file.types; service = s }) service
+    let bound = (parts_of_all (is_bound file.definitions) file has.0.0.1).2 in
+    let own = ends_of file.definitions in
+    tabled.0
+    ∙ ap (λ (t : List Entry). made_of t (service_at file ends) (init_at file ends)) (table_is file ends made has of)
+    ∙ ap (λ (s : Option TyRef). made_of (map (entry_of file.definitions own) file.types) s (init_at file ends)) (service_is file ends file.main has bound)
+    ∙ ap (made_of (map (entry_of file.definitions own) file.types) (service_at file own)) (init_is file ends file.main has bound)
 interface_is file ends made (Err fault) has of tabled = tt
 
 -- ---- what is answered of a file is what it says

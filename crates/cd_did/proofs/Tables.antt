@@ -37,7 +37,7 @@ all_there test (x ∷ xs) law = rw (law 0 x refl, all_there test xs (λ i y at. 
 all_moved : {A : Type 0} (test : A → Bool) (xs ys : List A) → IsPermutation xs ys → list_all test xs ≡ true → list_all test ys ≡ true
 all_moved test xs ys moved e = list_all-from_AllPass test ys (All-permutation (λ x. test x ≡ true) xs ys moved (AllPass-from_list_all test xs e))
 
-all_mapped : {A B : Type 0} (test : B → Bool) (f : A → B) (xs : List A) → list_all (λ x. test (f x)) xs ≡ true → list_all test (map f xs) ≡ true
+pub all_mapped : {A B : Type 0} (test : B → Bool) (f : A → B) (xs : List A) → list_all (λ x. test (f x)) xs ≡ true → list_all test (map f xs) ≡ true
 all_mapped test f [] e = refl
 all_mapped test f (x ∷ xs) e = let h = both_true (test (f x)) (list_all (λ y. test (f y)) xs) e in rw (h.0, all_mapped test f xs h.1) refl
 

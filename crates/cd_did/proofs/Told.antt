@@ -40,14 +40,14 @@ like file ends (Func args results notes) = refl
 like file ends (Service methods) =
     (in_order (slice_cmp nat_cmp) (map (row file.definitions ends) methods), refl, in_order_moves (slice_cmp nat_cmp) (map (row file.definitions ends) methods))
 
-are_like : (file : File) (ends : List ℕ) → AreLike file ends (map (entry_of file.definitions ends) file.types)
+pub are_like : (file : File) (ends : List ℕ) → AreLike file ends (map (entry_of file.definitions ends) file.types)
 are_like file ends i w at =
     (entry_of file.definitions ends w, slice_get-map (entry_of file.definitions ends) file.types i ∙ ap (option_map (entry_of file.definitions ends)) at, like file ends w)
 
 -- ---- what is said of a file
 
 -- its first fault or an interface that stands for it, and never that memory ran out
-abbrev Told : File → Result Interface DidFault → Type 0
+abbrev pub Told : File → Result Interface DidFault → Type 0
 Told file said = Answers file said × IfOk said IsWithin × (said ≡ Err NoMemory → ⊥)
 
 stood : (file : File) → FitsFile file → HasShapes file → length file.types ≤ 10000 → Told file (Ok (interface_of file))
@@ -85,7 +85,7 @@ by_floats : (file : File) → FitsFile file → (none : Bool) → all_parts is_n
 by_floats file fits true e = by_definitions file fits e (repeated [] 0 file.definitions) refl
 by_floats file fits false e = (e, tt, λ e. absurd cc)
 
-told : (file : File) → FitsFile file → Told file (unless (fault_of file) (interface_of file))
+pub told : (file : File) → FitsFile file → Told file (unless (fault_of file) (interface_of file))
 unfolding fault_of
 told file fits = by_floats file fits (all_parts is_no_float file) refl
 

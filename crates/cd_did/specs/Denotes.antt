@@ -61,6 +61,15 @@ MainStands file table None (Some r) = ⊥
 MainStands file table (Some main) None = ⊥
 MainStands file table (Some main) (Some r) = StandsFor file table main.service r
 
+-- the types that the file's service is installed with, if there is one
+abbrev pub tuple_of : Option Main → List Part
+tuple_of None = []
+tuple_of (Some main) = main.tuple
+
+-- these types stand for the references
+abbrev pub InitStands : File → List Entry → List TyRef → Type 0
+InitStands file table init = PartsStand (StandsFor file table) (tuple_of file.main) init
+
 -- the table and the service stand for the file's
 pub record FileStands (file : File) (table : List Entry) (service : Option TyRef) : Type 0 where
   pub types : (place : ℕ) → place < length file.types → StandsFor file table (Place place) (Index place)

@@ -23,7 +23,7 @@ use Rattle.cd_did.specs.Targets.{target}
 use Rattle.cd_did.specs.Sorted.{row, fits}
 use Rattle.cd_did.specs.Entries.{is_method}
 use Rattle.cd_did.specs.Formed.{is_served}
-use Rattle.cd_did.specs.Interfaces.{service_at}
+use Rattle.cd_did.specs.Interfaces.{service_at, init_at}
 
 -- the file that a text is
 unfoldable pub file_in : List ℕ → Option File
@@ -54,11 +54,12 @@ entry_of definitions ends (Var cases) = entries.Var (in_order nat_cmp (map (row 
 entry_of definitions ends (Func args results notes) = entries.Func (map (target definitions ends) args) (map (target definitions ends) results) notes
 entry_of definitions ends (Service methods) = entries.Service (in_order (slice_cmp nat_cmp) (map (row definitions ends) methods))
 
--- an entry for each type that is written, and the service
+-- an entry for each type that is written, the service, and the types that it is installed with
 abbrev pub interface_of : File → Interface
 interface_of file = record {
   table = map (entry_of file.definitions (ends_of file.definitions)) file.types;
   service = service_at file (ends_of file.definitions);
+  init = init_at file (ends_of file.definitions);
 }
 
 -- ---- the fault of a file

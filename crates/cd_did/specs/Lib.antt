@@ -10,6 +10,7 @@ pub mod Sorted
 pub mod Entries
 pub mod Formed
 pub mod Interfaces
+pub mod Methods
 pub mod InterfaceOf
 pub mod Judges
 pub mod Kinds

@@ -1,4 +1,4 @@
-use cd_types::{TyRef, TypeTable};
+use cd_types::{TyRef, TyRefs, TypeTable};
 
 /// Why a text stands for no interface. Of several reasons the first in this order is answered;
 /// `definition` is a place among the definitions of the file, counted from 0.
@@ -22,9 +22,11 @@ pub enum DidFault {
     NoMemory,
 }
 
-/// What an interface file says: its types, each where it is written, and its service, if it has one.
+/// What an interface file says: its types, each where it is written; its service, if it has one; and
+/// the types that the service is installed with, those before its `->`.
 #[derive(Drop)]
 pub struct Interface {
     pub table: TypeTable,
     pub service: Option<TyRef>,
+    pub init: TyRefs,
 }

@@ -2,8 +2,9 @@ ghost use Rattle.std.specs.Prelude.{◌≡◌, ◌<◌, ◌^◌, length, IfOk};
 ghost use Rattle.cd_grammar.specs.File as files;
 ghost use Rattle.cd_grammar.specs.Grammar.{IsFile};
 ghost use Rattle.cd_did.specs.Answers.{Answers, TellsOfAFile};
+ghost use Rattle.cd_did.specs.Denotes.{InitStands};
 ghost use Rattle.cd_grammar.specs.Fits.{FitsFile};
-ghost use Rattle.cd_did.specs.Interfaces.{HasEnded, service_at, IsTabled, IsWithin};
+ghost use Rattle.cd_did.specs.Interfaces.{HasEnded, service_at, init_at, IsTabled, IsWithin, IsInitWithin};
 ghost use Rattle.cd_did.specs.InterfaceOf.{interface_in, IsAnswer};
 ghost use Rattle.cd_did.specs.Judges.{Judges};
 
@@ -12,10 +13,10 @@ use crate::fault::{DidFault, Interface};
 use crate::kinds::is_served;
 use crate::names::Names;
 use crate::settled::settled;
-use crate::targets::{Ended, target_of};
+use crate::targets::{Ended, target_of, targets_of};
 use cd_grammar::{File, file_of};
-use cd_types::{Entry, TyRef, TypeTable};
-use ic_base::ReadError;
+use cd_types::{Entry, TyRef, TyRefs, TypeTable};
+use ic_base::{NoMemory, ReadError};
 use std::alloc::Global;
 
 // The reference to the service, if there is one.
@@ -28,13 +29,30 @@ fn service_of(ended: &Ended<'_, '_>) -> Option<TyRef>
     }
 }
 
-// The interface of these entries. A table has at most 10,000.
-fn tabled(entries: Vec<Entry>, service: Option<TyRef>) -> Result<Interface, DidFault>
-    ensures { IsTabled entries.items service result }
+// The types that the service is installed with.
+fn init_of(ended: &Ended<'_, '_>) -> Result<TyRefs, NoMemory>
+    ensures { IfOk result (λ init. init ≡ init_at ended.now.names.now ended.now.ends.now) }
 {
-    match TypeTable::new(entries) {
-        Ok(table) => Ok(Interface { table, service }),
-        Err(_) => Err(DidFault::TooMany),
+    match &ended.names.file().main {
+        None => targets_of(ended, &[]),
+        Some(main) => targets_of(ended, &main.tuple.items),
+    }
+}
+
+// The interface of these entries. A table has at most 10,000.
+fn tabled(ended: &Ended<'_, '_>, entries: Vec<Entry>) -> Result<Interface, DidFault>
+    ensures { IsTabled ended.now.names.now ended.now.ends.now entries.items result }
+{
+    match init_of(ended) {
+        Ok(init) => match TypeTable::new(entries) {
+            Ok(table) => Ok(Interface {
+                table,
+                service: service_of(ended),
+                init,
+            }),
+            Err(_) => Err(DidFault::TooMany),
+        },
+        Err(_) => Err(DidFault::NoMemory),
     }
 }
 
@@ -48,7 +66,7 @@ fn interface_with(ended: &Ended<'_, '_>) -> Result<Interface, DidFault>
         return Err(DidFault::Shape);
     }
     match entries_of(ended) {
-        Ok(entries) => tabled(entries, service_of(ended)),
+        Ok(entries) => tabled(ended, entries),
         Err(ReadError::Refused) => Err(DidFault::Shape),
         Err(ReadError::NoMemory) => Err(DidFault::NoMemory),
     }
@@ -93,6 +111,9 @@ pub fn read_interface(alloc: Global, text: &[u8]) -> Result<Interface, DidFault>
     ensures file { TellsOfAFile result ((file : files.File) × IsFile file text.now) }
     ensures said { IsAnswer result (interface_in text.now) }
     ensures within { IfOk result IsWithin }
+    // The types before `->` stand for the file's, and are within the table.
+    ensures installed { (file : files.File) → IsFile file text.now → IfOk result (λ interface. InitStands file interface.table interface.init) }
+    ensures inside { IfOk result IsInitWithin }
 {
     match file_of(alloc, text) {
         Ok(file) => interface_of(alloc, &file),

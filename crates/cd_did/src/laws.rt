@@ -5,7 +5,8 @@ ghost use Rattle.cd_grammar.specs.File.{File};
 ghost use Rattle.cd_grammar.specs.Grammar.{IsFile};
 ghost use Rattle.cd_did.specs.declared.fault.DidFault.TheVariants.{NotInterface, NoMemory};
 ghost use Rattle.cd_did.specs.Answers.{Answers};
-ghost use Rattle.cd_did.specs.Interfaces.{IsWithin};
+ghost use Rattle.cd_did.specs.Denotes.{InitStands};
+ghost use Rattle.cd_did.specs.Interfaces.{IsWithin, IsInitWithin};
 ghost use Rattle.cd_did.specs.InterfaceOf.{interface_in};
 
 /// What a text says, by the grammar of interface files.
@@ -16,6 +17,9 @@ pub fn texts_say()
     ensures none { (text : List ℕ) → ((file : File) → IsFile file text → ⊥) → interface_in text ≡ Err NotInterface }
     // The service of an interface, if there is one, is within its table.
     ensures within { (text : List ℕ) → IfOk (interface_in text) IsWithin }
+    // The types before its `->` stand for the file's, and are within the table.
+    ensures installed { (file : File) (text : List ℕ) → IsFile file text → IfOk (interface_in text) (λ interface. InitStands file interface.table interface.init) }
+    ensures inside { (text : List ℕ) → IfOk (interface_in text) IsInitWithin }
     // That memory ran out is never said.
     ensures never { (text : List ℕ) → interface_in text ≡ Err NoMemory → ⊥ }
 {}

@@ -13,6 +13,7 @@ mod fault;
 mod interface;
 mod kinds;
 pub mod laws;
+mod methods;
 mod named;
 mod names;
 mod rings;
@@ -21,6 +22,8 @@ mod sorted;
 mod targets;
 mod upgrade;
 
+pub use cd_names::{FieldNames, names_of};
 pub use fault::{DidFault, Interface};
 pub use interface::read_interface;
+pub use methods::Method;
 pub use upgrade::upgradable;

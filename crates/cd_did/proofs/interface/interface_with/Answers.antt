@@ -1,9 +1,7 @@
-use Rattle.std.proofs.Common.{◌≡◌, Option, true, false, sym, subst, ◌∙◌}
-use Rattle.cd_types.specs.declared.entry.TyRef.{TyRef}
+use Rattle.std.proofs.Common.{◌≡◌, true, false, sym, subst, ◌∙◌}
 use Rattle.ic_base.specs.declared.read_error.ReadError.{ReadError}
 use Rattle.cd_did.specs.Formed.{AllFormed}
 use Rattle.cd_did.specs.Sorted.{Refuses}
-use Rattle.cd_did.specs.Interfaces.{IsTabled}
 use Rattle.cd_did.proofs.Interfaces.{all_formed, all_served, answered}
 use Rattle.cd_did.proofs.Said.{interface_is}
 use Rattle.cd_did.proofs.interface.interface_with.Goals as goal
@@ -22,9 +20,8 @@ returns-then-not-is_served c = (
 
 pub returns-in-Ok : goal.returns-in-Ok
 returns-in-Ok c =
-    let tabled = subst (λ (s : Option TyRef). IsTabled c.in-Ok.entries.items s c.tabled.result) c.service_of.ensures c.tabled.ensures in
-    let own = answered c.args.ended.now.names.now c.args.ended.now.ends.now c.in-Ok.entries.items c.tabled.result c.requires.ended c.requires.fits c.in-Ok.ensures.ok (sym c.is_served.ensures ∙ c.if-not-is_served.false) tabled in
-    (own.0, interface_is c.args.ended.now.names.now c.args.ended.now.ends.now c.in-Ok.entries.items c.tabled.result c.requires.ended c.in-Ok.ensures.ok.0 tabled, own.1)
+    let own = answered c.args.ended.now.names.now c.args.ended.now.ends.now c.in-Ok.entries.items c.tabled.result c.requires.ended c.requires.fits c.in-Ok.ensures.ok (sym c.is_served.ensures ∙ c.if-not-is_served.false) c.tabled.ensures in
+    (own.0, interface_is c.args.ended.now.names.now c.args.ended.now.ends.now c.in-Ok.entries.items c.tabled.result c.requires.ended c.in-Ok.ensures.ok.0 c.tabled.ensures, own.1)
 
 pub returns-in-Err-Refused : goal.returns-in-Err-Refused
 returns-in-Err-Refused c =

@@ -1,4 +1,5 @@
 use Rattle.cd_did.proofs.Said.{text_is_none}
+use Rattle.cd_did.proofs.Installed.{text_installed, text_init_within}
 use Rattle.cd_did.proofs.Told.{text_told, some_told}
 use Rattle.cd_did.proofs.laws.texts_say.Goals as goal
 
@@ -13,3 +14,9 @@ returns-clause-within c = λ text. (some_told text).0
 
 pub returns-clause-never : goal.returns-clause-never
 returns-clause-never c = λ text. (some_told text).1
+
+pub returns-clause-installed : goal.returns-clause-installed
+returns-clause-installed c = text_installed
+
+pub returns-clause-inside : goal.returns-clause-inside
+returns-clause-inside c = text_init_within
