@@ -8,4 +8,8 @@ mod files;
 #[cfg(test)]
 mod limits;
 #[cfg(test)]
+mod methods;
+#[cfg(test)]
+mod names;
+#[cfg(test)]
 mod upgrades;
