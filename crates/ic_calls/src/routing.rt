@@ -1,4 +1,4 @@
-ghost use Rattle.std.specs.Prelude.{◌≡◌, ◌++◌, Some, IfOk, OnOk};
+ghost use Rattle.std.specs.Prelude.{◌≡◌, Some, IfOk, OnOk};
 ghost use Rattle.std.specs.List.{fold};
 ghost use Rattle.ic_behaviour.specs.Deliver.{fill};
 ghost use Rattle.ic_calls.specs.Sent.{answered_in, sent_from};
@@ -32,13 +32,14 @@ pub fn answer(parts: Parts, sender: &Principal, given: Answered) -> Result<Parts
     ensures { IfOk result (λ p. p ≡ answered_in sender.now given parts) }
 {
     let mut parts = parts;
-    give(&mut parts, sender, given)?;
+    respond(&mut parts, sender, given)?;
     Ok(parts)
 }
 
-// Gives an answer, as `answer`.
-fn give(parts: &mut Parts, sender: &Principal, given: Answered) -> Result<(), NoMemory>
-    ensures { OnOk result (parts.new ≡ answered_in sender.now given parts.old) }
+/// Gives an answer, as `answer`, in fields that are lent.
+pub fn respond(parts: &mut Parts, sender: &Principal, given: Answered) -> Result<(), NoMemory>
+    ensures answered { OnOk result (parts.new ≡ answered_in sender.now given parts.old) }
+    ensures rest { parts.new ≡ record parts.old { messages = parts.new.messages; requests = parts.new.requests } }
 {
     let Answered {
         origin,
@@ -57,20 +58,13 @@ fn give(parts: &mut Parts, sender: &Principal, given: Answered) -> Result<(), No
     Ok(())
 }
 
-fn append(messages: &mut Messages, more: Messages) -> Result<(), NoMemory>
-    ensures { OnOk result (messages.new ≡ messages.old ++ more) }
-{
-    let Messages { items: mut more } = more;
-    messages.items.append(&mut more)?;
-    Ok(())
-}
-
 // Gives answers, in their order.
 fn give_all(parts: &mut Parts, sender: &Principal, answers: AnsweredList) -> Result<(), NoMemory>
-    ensures { OnOk result (parts.new ≡ fold (λ q given. answered_in sender.now given q) parts.old answers) }
+    ensures given { OnOk result (parts.new ≡ fold (λ q given. answered_in sender.now given q) parts.old answers) }
+    ensures rest { parts.new ≡ record parts.old { messages = parts.new.messages; requests = parts.new.requests } }
 {
     for given in answers.items {
-        give(parts, sender, given)?;
+        respond(parts, sender, given)?;
     }
     Ok(())
 }
@@ -90,15 +84,17 @@ pub fn route(
     Ok(parts)
 }
 
-/// Sends what the canister `sender` sent, as `route`, in fields that are lent.
+/// Sends what the canister `sender` sent, as `route`, in fields that are lent. After `NoMemory` some of it may be
+/// sent.
 pub fn send(
     parts: &mut Parts,
     sender: &Principal,
     calls: Messages,
     answers: AnsweredList,
 ) -> Result<(), NoMemory>
-    ensures { OnOk result (parts.new ≡ sent_from sender.now calls answers parts.old) }
+    ensures sent { OnOk result (parts.new ≡ sent_from sender.now calls answers parts.old) }
+    ensures rest { parts.new ≡ record parts.old { messages = parts.new.messages; requests = parts.new.requests } }
 {
-    append(&mut parts.messages, calls)?;
+    parts.messages.append(calls)?;
     give_all(parts, sender, answers)
 }

@@ -1,5 +1,7 @@
 ghost use Rattle.std.specs.Prelude.{◌≡◌, []};
 ghost use Rattle.ic_behaviour.specs.State.{caller_of, callee_of};
+ghost use Rattle.ic_behaviour.specs.Deliver.{is_management};
+ghost use Rattle.ic_runs.specs.Steps.{sender_of, same_way};
 
 use ic_principal::Principal;
 use ic_state::{Message, Origin};
@@ -31,4 +33,28 @@ pub fn callee(message: &Message) -> Principal
         Message::Call { callee, .. } => *callee,
         Message::Answer { origin, .. } => caller(origin),
     }
+}
+
+/// Who sent a message.
+pub fn sender(message: &Message) -> Principal
+    ensures { result ≡ sender_of message.now }
+{
+    match message {
+        Message::Call { sender, .. } => *sender,
+        Message::Answer { sender, .. } => *sender,
+    }
+}
+
+/// Whether two messages have one sender and one callee.
+pub fn same_way(message: &Message, other: &Message) -> bool
+    ensures { result ≡ same_way message.now other.now }
+{
+    sender(message).cmp(&sender(other)).is_eq() && callee(message).cmp(&callee(other)).is_eq()
+}
+
+/// Whether a principal is the management canister, which has no bytes.
+pub fn is_management(callee: &Principal) -> bool
+    ensures { result ≡ is_management callee.now }
+{
+    callee.bytes().is_empty()
 }

@@ -38,6 +38,12 @@ Steps (Ok done) now step = step ≡ Goes now
 Steps (Err (stop.Refused cause)) now step = step ≡ Refused cause now.used
 Steps (Err stop.NoMemory) now step = Unit {0}
 
+-- code that ran answers so, where it leaves this store and use of the meter
+abbrev pub Leaves : Result (List ℕ) Stop → Lists → (used : ℕ) → Staged → Type 0
+Leaves (Ok certified) store used step = step ≡ Goes (stage_of store certified used)
+Leaves (Err (stop.Refused cause)) store used step = step ≡ Refused cause used
+Leaves (Err stop.NoMemory) store used step = Unit {0}
+
 -- steps answer so, that make a store and certified data
 abbrev pub Drafts : Result Draft Stop → (used : ℕ) → Staged → Type 0
 Drafts (Ok draft) used steps = steps ≡ Goes (stage_of draft.store.lists draft.certified used)

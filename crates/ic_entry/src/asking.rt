@@ -1,4 +1,4 @@
-ghost use Rattle.std.specs.Prelude.{◌≡◌, ℕ, Some, None, option_map, IfOk, IfSome, IsSome};
+ghost use Rattle.std.specs.Prelude.{◌≡◌, ◌+◌, ◌<◌, ◌≤◌, ◌^◌, ℕ, Some, None, option_map, IfOk, IfSome, IsSome};
 ghost use Rattle.std.specs.Bool.{OnTrue, OnFalse};
 ghost use Rattle.ic_behaviour.specs.State.{Code as SomeCode};
 ghost use Rattle.ic_behaviour.specs.Outcomes.{Outcome};
@@ -12,8 +12,8 @@ ghost use Rattle.ic_behaviour.specs.Views.{user_view};
 ghost use Rattle.ic_entry.specs.Query.{query_of, function_in, query_response, response_to};
 ghost use Rattle.ic_entry.specs.Inspection.{inspection_of, is_accepted};
 
-use crate::entering::{Entered, attempt};
-use crate::views::{copies_of, view_for, with_call};
+use crate::entering::{Entered, Entry, attempt};
+use crate::views::{ForCall, copies_of, view_for, with_call};
 use ic_base::NoMemory;
 use ic_calls::{no_response, refused, trapped_by};
 use ic_principal::{Bytes, Principal, Text};
@@ -37,7 +37,12 @@ pub fn user_view(
         items: String::from_str(alloc, method)?,
     };
     let copies = copies_of(alloc, canister)?;
-    let view = view_for(alloc, env, canister, copies, sender, 0, false);
+    let call = ForCall {
+        caller: sender,
+        available: 0,
+        responded: false,
+    };
+    let view = view_for(alloc, env, canister, copies, call);
     Ok(with_call(view, method, arg))
 }
 
@@ -75,36 +80,38 @@ fn query_of(canister: &Canister, method: &str) -> Result<u32, Refusal>
     }
 }
 
-// Enters the function as what a user asks without a call. Nothing is kept.
+// Enters the function as what a user asks without a call, who sees this. Nothing is kept.
 fn ask(
     alloc: Global,
     canister: &mut Canister,
     function: u32,
     kind: EntryKind,
-    sender: Principal,
-    method: &str,
-    arg: Bytes,
-    env: Env,
+    view: View,
+    limit: u64,
 ) -> Result<Entered, NoMemory>
     requires keeps { IsCanister canister.old }
     requires entry { CanEnter canister.old.code (Admitted.Query function) }
+    requires cycles { view.balance + view.available < 2 ^ 127 }
+    requires outstanding { view.outstanding ≤ 500 }
     ensures entered { IfOk result (λ entered. (code : SomeCode) → (seen canister.old).code ≡ Some code
-        → entered ≡ told (enters_by system_api code canister.old.store.lists (Target.Function function) kind (user_view env (seen canister.old) sender method.now arg) env.limit)) }
+        → entered ≡ told (enters_by system_api code canister.old.store.lists (Target.Function function) kind view limit)) }
     // Without memory too.
     ensures same { canister.new ≡ canister.old }
 {
-    let view = user_view(alloc, env, canister, sender, method, arg)?;
     let Some(code) = &canister.code else {
         unreachable!();
+    };
+    let entry = Entry {
+        target: Target::Function(function),
+        kind,
+        view,
     };
     attempt(
         alloc,
         code.get(),
         canister.store.get_mut(),
-        Target::Function(function),
-        kind,
-        view,
-        env.limit,
+        entry,
+        limit,
         false,
     )
 }
@@ -126,16 +133,8 @@ pub fn query(
     match query_of(canister, method) {
         Err(refusal) => refused(alloc, refusal),
         Ok(function) => {
-            let entered = ask(
-                alloc,
-                canister,
-                function,
-                EntryKind::Query,
-                sender,
-                method,
-                arg,
-                env,
-            )?;
+            let view = user_view(alloc, env, canister, sender, method, arg)?;
+            let entered = ask(alloc, canister, function, EntryKind::Query, view, env.limit)?;
             response_to(alloc, entered)
         }
     }
@@ -182,15 +181,14 @@ pub fn inspect(
     let Some(function) = inspection_of(canister) else {
         return Ok(true);
     };
+    let view = user_view(alloc, env, canister, sender, method, arg)?;
     let entered = ask(
         alloc,
         canister,
         function,
         EntryKind::Inspect,
-        sender,
-        method,
-        arg,
-        env,
+        view,
+        env.limit,
     )?;
     let Entered { ended, .. } = entered;
     match ended {

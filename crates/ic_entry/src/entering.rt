@@ -16,6 +16,14 @@ use wm_run::invoke;
 use wm_semantics::{Ended, Meter, Target, Trap};
 use wm_store::Store;
 
+/// Code is entered there, as that, and sees this.
+#[derive(Drop)]
+pub struct Entry {
+    pub target: Target,
+    pub kind: EntryKind,
+    pub view: View,
+}
+
 /// How code ended that was entered: what it did beside the store, or why it trapped.
 #[derive(Drop)]
 pub struct Entered {
@@ -29,22 +37,21 @@ pub fn enter_after(
     alloc: Global,
     code: &Code,
     store: &mut Store,
-    target: Target,
-    kind: EntryKind,
-    view: View,
+    entry: Entry,
     meter: &mut Meter,
 ) -> Result<Result<Effects, Trap>, NoMemory>
     requires fits { Fits code.now.valid.«module» store.old.lists }
-    requires target { IsTarget code.now.valid.«module» target }
-    requires cycles { view.balance + view.available < 2 ^ 127 }
-    requires outstanding { view.outstanding ≤ 500 }
+    requires target { IsTarget code.now.valid.«module» entry.target }
+    requires cycles { entry.view.balance + entry.view.available < 2 ^ 127 }
+    requires outstanding { entry.view.outstanding ≤ 500 }
     ensures outcome { IfOk result (λ ended. outcome_by store.new.lists meter.new.used ended
-        ≡ enters_after system_api (code_of code.now) store.old.lists target kind view meter.old.limit meter.old.used) }
+        ≡ enters_after system_api (code_of code.now) store.old.lists entry.target entry.kind entry.view meter.old.limit meter.old.used) }
     ensures fits { IfOk result (λ _. Fits code.now.valid.«module» store.new.lists) }
     ensures begun { store.new.begun ≡ store.old.begun }
     ensures limit { meter.new.limit ≡ meter.old.limit }
 {
     host_is_function();
+    let Entry { target, kind, view } = entry;
     let mut api = Api::new(alloc, kind, view);
     let ended = invoke(alloc, &code.valid, store, target, &mut api, meter)?;
     match ended {
@@ -58,22 +65,20 @@ fn enter(
     alloc: Global,
     code: &Code,
     store: &mut Store,
-    target: Target,
-    kind: EntryKind,
-    view: View,
+    entry: Entry,
     limit: u64,
 ) -> Result<Entered, NoMemory>
     requires fits { Fits code.now.valid.«module» store.old.lists }
-    requires target { IsTarget code.now.valid.«module» target }
-    requires cycles { view.balance + view.available < 2 ^ 127 }
-    requires outstanding { view.outstanding ≤ 500 }
-    ensures outcome { IfOk result (λ e. outcome_in store.new.lists e ≡ enters_by system_api (code_of code.now) store.old.lists target kind view limit) }
+    requires target { IsTarget code.now.valid.«module» entry.target }
+    requires cycles { entry.view.balance + entry.view.available < 2 ^ 127 }
+    requires outstanding { entry.view.outstanding ≤ 500 }
+    ensures outcome { IfOk result (λ e. outcome_in store.new.lists e ≡ enters_by system_api (code_of code.now) store.old.lists entry.target entry.kind entry.view limit) }
     ensures fits { IfOk result (λ _. Fits code.now.valid.«module» store.new.lists) }
     ensures begun { store.new.begun ≡ store.old.begun }
     ensures used { IfOk result (λ e. e.used ≤ limit) }
 {
     let mut meter = Meter::new(limit);
-    let ended = enter_after(alloc, code, store, target, kind, view, &mut meter)?;
+    let ended = enter_after(alloc, code, store, entry, &mut meter)?;
     Ok(Entered {
         ended,
         used: meter.used(),
@@ -86,29 +91,27 @@ pub fn attempt(
     alloc: Global,
     code: &Code,
     store: &mut Store,
-    target: Target,
-    kind: EntryKind,
-    view: View,
+    entry: Entry,
     limit: u64,
     keeps: bool,
 ) -> Result<Entered, NoMemory>
     requires idle { store.old.begun ≡ None }
     requires fits { Fits code.now.valid.«module» store.old.lists }
-    requires target { IsTarget code.now.valid.«module» target }
-    requires cycles { view.balance + view.available < 2 ^ 127 }
-    requires outstanding { view.outstanding ≤ 500 }
-    ensures entered { IfOk result (λ e. e ≡ told (enters_by system_api (code_of code.now) store.old.lists target kind view limit)) }
-    ensures store { IfOk result (λ _. store.new.lists ≡ store_after keeps store.old.lists (enters_by system_api (code_of code.now) store.old.lists target kind view limit)) }
+    requires target { IsTarget code.now.valid.«module» entry.target }
+    requires cycles { entry.view.balance + entry.view.available < 2 ^ 127 }
+    requires outstanding { entry.view.outstanding ≤ 500 }
+    ensures entered { IfOk result (λ e. e ≡ told (enters_by system_api (code_of code.now) store.old.lists entry.target entry.kind entry.view limit)) }
+    ensures store { IfOk result (λ _. store.new.lists ≡ store_after keeps store.old.lists (enters_by system_api (code_of code.now) store.old.lists entry.target entry.kind entry.view limit)) }
     ensures same { OnErr result (store.new ≡ store.old) }
     ensures undone { keeps ≡ false → store.new ≡ store.old }
     ensures idle { store.new.begun ≡ None }
     ensures fits { Fits code.now.valid.«module» store.new.lists }
     ensures used { IfOk result (λ e. e.used ≤ limit) }
-    ensures lawful { IfOk result (λ e. IfOk e.ended (KeepsRules kind view)) }
+    ensures lawful { IfOk result (λ e. IfOk e.ended (KeepsRules entry.kind entry.view)) }
 {
     entries_are_lawful();
     store.begin();
-    match enter(alloc, code, store, target, kind, view, limit) {
+    match enter(alloc, code, store, entry, limit) {
         Ok(entered) => {
             if keeps && entered.ended.is_ok() {
                 store.keep();

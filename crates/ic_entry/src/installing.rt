@@ -7,7 +7,7 @@ ghost use Rattle.ic_state.specs.IsCanister.{IsCanister};
 ghost use Rattle.ic_api.specs.System.{system_api};
 ghost use Rattle.ic_entry.specs.Installed.{installation_of, asked_of, is_upgrade, with_draft, refusal_of, Drafts};
 
-use crate::staging::{Draft, Stop, install_steps};
+use crate::staging::{Asked, Draft, Stop, install_steps};
 use crate::upgrading::upgrade;
 use ic_base::NoMemory;
 use ic_behaviour::{InstallFault, Mode};
@@ -43,17 +43,15 @@ fn steps(
     canister: &mut Canister,
     mode: Mode,
     code: &Code,
-    arg: Bytes,
-    sender: Principal,
-    env: Env,
+    asked: Asked,
     meter: &mut Meter,
 ) -> Result<Draft, Stop>
     requires keeps { IsCanister canister.old }
     requires upgraded { is_upgrade mode ≡ true → IsSome canister.old.code }
-    requires limit { meter.old.limit ≡ env.limit }
+    requires limit { meter.old.limit ≡ asked.env.limit }
     requires fresh { meter.old.used ≡ 0 }
     ensures steps { Drafts result meter.new.used
-        (steps (asked_of env canister.old sender) mode (seen canister.old).code (code_of code.now) arg (first_stage (seen canister.old))) }
+        (steps (asked_of asked.env canister.old asked.sender) mode (seen canister.old).code (code_of code.now) asked.arg (first_stage (seen canister.old))) }
     ensures fits { IfOk result (λ d. Fits code.now.valid.«module» d.store.lists) }
     ensures idle { IfOk result (λ d. d.store.begun ≡ None) }
     ensures rest { canister.new ≡ record canister.old { store = canister.new.store } }
@@ -61,19 +59,10 @@ fn steps(
     ensures limit { meter.new.limit ≡ meter.old.limit }
 {
     match mode {
-        Mode::Install | Mode::Reinstall => {
-            install_steps(alloc, canister, code, arg, sender, env, meter)
+        Mode::Install | Mode::Reinstall => install_steps(alloc, canister, code, asked, meter),
+        Mode::Upgrade { skip_pre_upgrade } => {
+            upgrade(alloc, canister, code, skip_pre_upgrade, asked, meter)
         }
-        Mode::Upgrade { skip_pre_upgrade } => upgrade(
-            alloc,
-            canister,
-            code,
-            skip_pre_upgrade,
-            arg,
-            sender,
-            env,
-            meter,
-        ),
     }
 }
 
@@ -99,6 +88,41 @@ fn settle(
     }
 }
 
+/// Installs code on a canister that is lent, as `install`. Gives why the code is not installed, if it is
+/// not, and how many instructions all entry points used together. After `NoMemory` the canister is as
+/// before.
+pub fn install_in(
+    alloc: Global,
+    canister: &mut Canister,
+    order: Order,
+    env: Env,
+) -> Result<(Option<InstallFault>, u64), NoMemory>
+    requires keeps { IsCanister canister.old }
+    // What is upgraded has code.
+    requires upgraded { is_upgrade order.mode ≡ true → IsSome canister.old.code }
+    ensures installed { IfOk result (λ i. installation_of (record { canister = canister.new; refusal = i.0; used = i.1 })
+        ≡ installed (enters_after system_api) env (seen canister.old) order.mode (code_of order.code) order.arg order.sender) }
+    // Store, certified data and code too.
+    ensures refused { IfOk result (λ i. IsSome i.0 → canister.new ≡ canister.old) }
+    ensures same { OnErr result (canister.new ≡ canister.old) }
+    ensures rest { canister.new ≡ record canister.old { code = canister.new.code; store = canister.new.store; certified = canister.new.certified } }
+    ensures keeps { IsCanister canister.new }
+    ensures used { IfOk result (λ i. i.1 ≤ env.limit) }
+{
+    let mut meter = Meter::new(env.limit);
+    let Order {
+        mode,
+        code,
+        arg,
+        sender,
+    } = order;
+    let code = CodePlace::new(alloc, code)?;
+    let asked = Asked { arg, sender, env };
+    let ended = steps(alloc, canister, mode, code.get(), asked, &mut meter);
+    let refusal = settle(canister, code, ended)?;
+    Ok((refusal, meter.used()))
+}
+
 /// Installs code on a canister (IC Interface Specification, "IC method `install_code`"). One meter
 /// with the limit serves all entry points, and nothing is paid for. An upgrade copies the stable
 /// memory as the old code left it, so two of them are held at most. After `NoMemory` the canister is
@@ -120,28 +144,10 @@ pub fn install(
     ensures used { IfOk result (λ i. i.used ≤ env.limit) }
 {
     let mut canister = canister;
-    let mut meter = Meter::new(env.limit);
-    let Order {
-        mode,
-        code,
-        arg,
-        sender,
-    } = order;
-    let code = CodePlace::new(alloc, code)?;
-    let ended = steps(
-        alloc,
-        &mut canister,
-        mode,
-        code.get(),
-        arg,
-        sender,
-        env,
-        &mut meter,
-    );
-    let refusal = settle(&mut canister, code, ended)?;
+    let (refusal, used) = install_in(alloc, &mut canister, order, env)?;
     Ok(Installed {
         canister,
         refusal,
-        used: meter.used(),
+        used,
     })
 }

@@ -16,8 +16,8 @@ mod views;
 
 pub use asking::{inspect, inspects, query};
 pub use discarding::discard;
-pub use entering::{Entered, attempt};
+pub use entering::{Entered, Entry, attempt};
 pub use ic_behaviour::{InstallFault, Mode};
-pub use installing::{Installed, Order, install};
+pub use installing::{Installed, Order, install, install_in};
 pub use placing::place_code;
 pub use views::{Copies, copies_of, view_in, with_answer, with_call};

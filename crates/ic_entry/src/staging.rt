@@ -5,10 +5,10 @@ ghost use Rattle.wm_semantics.specs.Begin.{IsTarget};
 ghost use Rattle.ic_behaviour.specs.Installing.{enters_after, entered, made, with_stable, install_view, started, install_steps, upgrade_steps};
 ghost use Rattle.ic_state.specs.Seen.{seen, code_of};
 ghost use Rattle.ic_api.specs.System.{system_api};
-ghost use Rattle.ic_entry.specs.Installed.{asked_of, stage_of, Steps, Drafts, Makes};
+ghost use Rattle.ic_entry.specs.Installed.{asked_of, stage_of, Steps, Drafts, Leaves, Makes};
 
 use crate::asking::user_view;
-use crate::entering::enter_after;
+use crate::entering::{Entry, enter_after};
 use crate::views::no_bytes;
 use ic_base::NoMemory;
 use ic_behaviour::InstallFault;
@@ -95,37 +95,60 @@ pub fn install_view(
     Ok(view)
 }
 
-// Enters the function, if there is one, on the store and the certified data.
+/// An entry point or the start function, where code has it.
+#[derive(Clone, Copy)]
+pub struct Point {
+    pub target: Option<Target>,
+    pub kind: EntryKind,
+}
+
+// Runs that, if the code has it, and gives the certified data that are left.
 pub fn run(
     alloc: Global,
     code: &Code,
-    target: Option<Target>,
-    kind: EntryKind,
+    point: Point,
     view: View,
     store: &mut Store,
-    certified: &mut Bytes,
     meter: &mut Meter,
-) -> Result<(), Stop>
+) -> Result<Bytes, Stop>
     requires fits { Fits code.now.valid.«module» store.old.lists }
-    requires target { IfSome target (IsTarget code.now.valid.«module») }
+    requires target { IfSome point.target (IsTarget code.now.valid.«module») }
     requires cycles { view.balance + view.available < 2 ^ 127 }
     requires outstanding { view.outstanding ≤ 500 }
-    ensures steps { Steps result (stage_of store.new.lists certified.new meter.new.used)
-        (entered (enters_after system_api) (code_of code.now) target kind view meter.old.limit (stage_of store.old.lists certified.old meter.old.used)) }
+    ensures leaves { Leaves result store.new.lists meter.new.used
+        (entered (enters_after system_api) (code_of code.now) point.target point.kind view meter.old.limit (stage_of store.old.lists view.certified meter.old.used)) }
     ensures fits { IfOk result (λ _. Fits code.now.valid.«module» store.new.lists) }
     ensures begun { store.new.begun ≡ store.old.begun }
     ensures limit { meter.new.limit ≡ meter.old.limit }
 {
-    let Some(target) = target else {
-        return Ok(());
+    let Some(target) = point.target else {
+        return Ok(view.certified);
     };
-    match enter_after(alloc, code, store, target, kind, view, meter)? {
-        Ok(effects) => {
-            *certified = effects.certified;
-            Ok(())
-        }
+    let entry = Entry {
+        target,
+        kind: point.kind,
+        view,
+    };
+    match enter_after(alloc, code, store, entry, meter)? {
+        Ok(effects) => Ok(effects.certified),
         Err(cause) => Err(Stop::Refused(InstallFault::Trapped(cause))),
     }
+}
+
+/// What goes with an installation on its way: who asks for it, the caller of each entry point, and what new code
+/// is told.
+#[derive(Drop)]
+pub struct Asked {
+    pub arg: Bytes,
+    pub sender: Principal,
+    pub env: Env,
+}
+
+/// The entry point that new code is told by, and what it is told.
+#[derive(Drop)]
+pub struct Told {
+    pub name: EntryName,
+    pub asked: Asked,
 }
 
 // New code starts: its start function, and then the entry point with the argument.
@@ -133,23 +156,26 @@ pub fn start(
     alloc: Global,
     canister: &Canister,
     code: &Code,
-    name: EntryName,
-    arg: Bytes,
-    sender: Principal,
-    env: Env,
+    told: Told,
     draft: &mut Draft,
     meter: &mut Meter,
 ) -> Result<(), Stop>
     requires fits { Fits code.now.valid.«module» draft.old.store.lists }
     requires cycles { canister.now.balance < 2 ^ 127 }
     requires outstanding { canister.now.outstanding ≤ 500 }
-    requires limit { meter.old.limit ≡ env.limit }
+    requires limit { meter.old.limit ≡ told.asked.env.limit }
     ensures steps { Steps result (stage_of draft.new.store.lists draft.new.certified meter.new.used)
-        (started (asked_of env canister.now sender) (code_of code.now) name arg (stage_of draft.old.store.lists draft.old.certified meter.old.used)) }
+        (started (asked_of told.asked.env canister.now told.asked.sender) (code_of code.now) told.name told.asked.arg (stage_of draft.old.store.lists draft.old.certified meter.old.used)) }
     ensures fits { IfOk result (λ _. Fits code.now.valid.«module» draft.new.store.lists) }
     ensures begun { draft.new.store.begun ≡ draft.old.store.begun }
     ensures limit { meter.new.limit ≡ meter.old.limit }
 {
+    let Told { name, asked } = told;
+    let Asked { arg, sender, env } = asked;
+    let point = Point {
+        target: start_target(&code.valid),
+        kind: EntryKind::Start,
+    };
     let view = install_view(
         alloc,
         env,
@@ -158,27 +184,14 @@ pub fn start(
         no_bytes(alloc),
         &draft.certified,
     )?;
-    run(
-        alloc,
-        code,
-        start_target(&code.valid),
-        EntryKind::Start,
-        view,
-        &mut draft.store,
-        &mut draft.certified,
-        meter,
-    )?;
+    draft.certified = run(alloc, code, point, view, &mut draft.store, meter)?;
+    let point = Point {
+        target: entry_target(&code.valid, name, ""),
+        kind: EntryKind::Init,
+    };
     let view = install_view(alloc, env, canister, sender, arg, &draft.certified)?;
-    run(
-        alloc,
-        code,
-        entry_target(&code.valid, name, ""),
-        EntryKind::Init,
-        view,
-        &mut draft.store,
-        &mut draft.certified,
-        meter,
-    )
+    draft.certified = run(alloc, code, point, view, &mut draft.store, meter)?;
+    Ok(())
 }
 
 /// The steps of an installation on a canister whose store and certified data go, up to the last one.
@@ -186,16 +199,14 @@ pub fn install_steps(
     alloc: Global,
     canister: &Canister,
     code: &Code,
-    arg: Bytes,
-    sender: Principal,
-    env: Env,
+    asked: Asked,
     meter: &mut Meter,
 ) -> Result<Draft, Stop>
     requires cycles { canister.now.balance < 2 ^ 127 }
     requires outstanding { canister.now.outstanding ≤ 500 }
-    requires limit { meter.old.limit ≡ env.limit }
+    requires limit { meter.old.limit ≡ asked.env.limit }
     ensures steps { Drafts result meter.new.used
-        (install_steps (asked_of env canister.now sender) (code_of code.now) arg (stage_of canister.now.store.lists canister.now.certified meter.old.used)) }
+        (install_steps (asked_of asked.env canister.now asked.sender) (code_of code.now) asked.arg (stage_of canister.now.store.lists canister.now.certified meter.old.used)) }
     ensures fits { IfOk result (λ d. Fits code.now.valid.«module» d.store.lists) }
     ensures begun { IfOk result (λ d. d.store.begun ≡ None) }
     ensures limit { meter.new.limit ≡ meter.old.limit }
@@ -205,16 +216,10 @@ pub fn install_steps(
         store,
         certified: no_bytes(alloc),
     };
-    start(
-        alloc,
-        canister,
-        code,
-        EntryName::Init,
-        arg,
-        sender,
-        env,
-        &mut draft,
-        meter,
-    )?;
+    let told = Told {
+        name: EntryName::Init,
+        asked,
+    };
+    start(alloc, canister, code, told, &mut draft, meter)?;
     Ok(draft)
 }

@@ -7,10 +7,10 @@ ghost use Rattle.ic_state.specs.Seen.{seen, code_of};
 ghost use Rattle.ic_state.specs.IsCanister.{FitsCode, IsCanister};
 ghost use Rattle.ic_entry.specs.Installed.{asked_of, stage_of, Steps, Drafts};
 
-use crate::staging::{Draft, Stop, install_view, new_store, run, start};
+use crate::staging::{Asked, Draft, Point, Stop, Told, install_view, new_store, run, start};
 use crate::views::no_bytes;
-use ic_principal::{Bytes, Principal};
-use ic_state::{Canister, Code, EntryKind, Env};
+use ic_principal::Bytes;
+use ic_state::{Canister, Code, EntryKind};
 use std::alloc::Global;
 use wm_run::entry_target;
 use wm_semantics::Meter;
@@ -22,18 +22,17 @@ fn leave(
     canister: &mut Canister,
     skips: bool,
     certified: &mut Bytes,
-    sender: Principal,
-    env: Env,
+    asked: &Asked,
     meter: &mut Meter,
 ) -> Result<(), Stop>
     requires code { IsSome canister.old.code }
     requires fits { FitsCode canister.old.code canister.old.store.lists }
     requires cycles { canister.old.balance < 2 ^ 127 }
     requires outstanding { canister.old.outstanding ≤ 500 }
-    requires limit { meter.old.limit ≡ env.limit }
+    requires limit { meter.old.limit ≡ asked.now.env.limit }
     ensures steps { (code : SomeCode) → (seen canister.old).code ≡ Some code
         → Steps result (stage_of canister.new.store.lists certified.new meter.new.used)
-        (left (asked_of env canister.old sender) code skips (stage_of canister.old.store.lists certified.old meter.old.used)) }
+        (left (asked_of asked.now.env canister.old asked.now.sender) code skips (stage_of canister.old.store.lists certified.old meter.old.used)) }
     ensures rest { canister.new ≡ record canister.old { store = canister.new.store } }
     ensures begun { canister.new.store.begun ≡ canister.old.store.begun }
     ensures limit { meter.new.limit ≡ meter.old.limit }
@@ -41,21 +40,24 @@ fn leave(
     if skips {
         return Ok(());
     }
-    let view = install_view(alloc, env, canister, sender, no_bytes(alloc), certified)?;
+    let view = install_view(
+        alloc,
+        asked.env,
+        canister,
+        asked.sender,
+        no_bytes(alloc),
+        certified,
+    )?;
     let Some(code) = &canister.code else {
         unreachable!();
     };
     let code = code.get();
-    run(
-        alloc,
-        code,
-        entry_target(&code.valid, EntryName::PreUpgrade, ""),
-        EntryKind::PreUpgrade,
-        view,
-        canister.store.get_mut(),
-        certified,
-        meter,
-    )
+    let point = Point {
+        target: entry_target(&code.valid, EntryName::PreUpgrade, ""),
+        kind: EntryKind::PreUpgrade,
+    };
+    *certified = run(alloc, code, point, view, canister.store.get_mut(), meter)?;
+    Ok(())
 }
 
 // The steps of an upgrade. Only the store of the canister changes, on which the old code is told.
@@ -64,19 +66,17 @@ fn upgrade_steps(
     canister: &mut Canister,
     code: &Code,
     skips: bool,
-    arg: Bytes,
-    sender: Principal,
-    env: Env,
+    asked: Asked,
     meter: &mut Meter,
 ) -> Result<Draft, Stop>
     requires code { IsSome canister.old.code }
     requires fits { FitsCode canister.old.code canister.old.store.lists }
     requires cycles { canister.old.balance < 2 ^ 127 }
     requires outstanding { canister.old.outstanding ≤ 500 }
-    requires limit { meter.old.limit ≡ env.limit }
+    requires limit { meter.old.limit ≡ asked.env.limit }
     ensures steps { (old : SomeCode) → (seen canister.old).code ≡ Some old
         → Drafts result meter.new.used
-        (upgrade_steps (asked_of env canister.old sender) old (code_of code.now) skips arg (stage_of canister.old.store.lists canister.old.certified meter.old.used)) }
+        (upgrade_steps (asked_of asked.env canister.old asked.sender) old (code_of code.now) skips asked.arg (stage_of canister.old.store.lists canister.old.certified meter.old.used)) }
     ensures fits { IfOk result (λ d. Fits code.now.valid.«module» d.store.lists) }
     ensures idle { IfOk result (λ d. d.store.begun ≡ None) }
     ensures rest { canister.new ≡ record canister.old { store = canister.new.store } }
@@ -84,7 +84,7 @@ fn upgrade_steps(
     ensures limit { meter.new.limit ≡ meter.old.limit }
 {
     let mut certified = canister.certified.copy()?;
-    leave(alloc, canister, skips, &mut certified, sender, env, meter)?;
+    leave(alloc, canister, skips, &mut certified, &asked, meter)?;
     let store = new_store(
         alloc,
         &code.valid,
@@ -92,17 +92,11 @@ fn upgrade_steps(
         canister.store.get().stable(),
     )?;
     let mut draft = Draft { store, certified };
-    start(
-        alloc,
-        canister,
-        code,
-        EntryName::PostUpgrade,
-        arg,
-        sender,
-        env,
-        &mut draft,
-        meter,
-    )?;
+    let told = Told {
+        name: EntryName::PostUpgrade,
+        asked,
+    };
+    start(alloc, canister, code, told, &mut draft, meter)?;
     Ok(draft)
 }
 
@@ -113,17 +107,15 @@ pub fn upgrade(
     canister: &mut Canister,
     code: &Code,
     skips: bool,
-    arg: Bytes,
-    sender: Principal,
-    env: Env,
+    asked: Asked,
     meter: &mut Meter,
 ) -> Result<Draft, Stop>
     requires keeps { IsCanister canister.old }
     requires code { IsSome canister.old.code }
-    requires limit { meter.old.limit ≡ env.limit }
+    requires limit { meter.old.limit ≡ asked.env.limit }
     ensures steps { (old : SomeCode) → (seen canister.old).code ≡ Some old
         → Drafts result meter.new.used
-        (upgrade_steps (asked_of env canister.old sender) old (code_of code.now) skips arg (stage_of canister.old.store.lists canister.old.certified meter.old.used)) }
+        (upgrade_steps (asked_of asked.env canister.old asked.sender) old (code_of code.now) skips asked.arg (stage_of canister.old.store.lists canister.old.certified meter.old.used)) }
     ensures fits { IfOk result (λ d. Fits code.now.valid.«module» d.store.lists) }
     ensures idle { IfOk result (λ d. d.store.begun ≡ None) }
     ensures rest { canister.new ≡ record canister.old { store = canister.new.store } }
@@ -131,7 +123,7 @@ pub fn upgrade(
     ensures limit { meter.new.limit ≡ meter.old.limit }
 {
     canister.store.get_mut().begin();
-    match upgrade_steps(alloc, canister, code, skips, arg, sender, env, meter) {
+    match upgrade_steps(alloc, canister, code, skips, asked, meter) {
         Ok(draft) => Ok(draft),
         Err(stop) => {
             canister.store.get_mut().undo();

@@ -60,25 +60,31 @@ pub fn copies_of(alloc: Global, canister: &Canister) -> Result<Copies, NoMemory>
     })
 }
 
-/// What code sees of the canister: for this caller, with the cycles that may be accepted, and
-/// whether the caller was answered.
-pub fn view_for(
-    alloc: Global,
-    env: Env,
-    canister: &Canister,
-    copies: Copies,
-    caller: Principal,
-    available: u128,
-    responded: bool,
-) -> View
+/// What code sees of the call that it runs for.
+#[derive(Clone, Copy)]
+pub struct ForCall {
+    pub caller: Principal,
+    /// The cycles that may still be accepted.
+    pub available: u128,
+    /// Whether the caller was answered.
+    pub responded: bool,
+}
+
+/// What code sees of the canister, for this call.
+pub fn view_for(alloc: Global, env: Env, canister: &Canister, copies: Copies, call: ForCall) -> View
     requires controllers { copies.controllers ≡ canister.now.controllers }
     requires certified { copies.certified ≡ canister.now.certified }
-    ensures { result ≡ view_for env (seen canister.now) caller available responded }
+    ensures { result ≡ view_for env (seen canister.now) call.caller call.available call.responded }
 {
     let Copies {
         controllers,
         certified,
     } = copies;
+    let ForCall {
+        caller,
+        available,
+        responded,
+    } = call;
     View {
         time: env.time,
         id: canister.id,
@@ -111,15 +117,12 @@ pub fn view_in(
     requires certified { copies.certified ≡ canister.now.certified }
     ensures { result ≡ view env (seen canister.now) context.now }
 {
-    view_for(
-        alloc,
-        env,
-        canister,
-        copies,
-        context.caller,
-        context.available,
-        !context.must_respond,
-    )
+    let call = ForCall {
+        caller: context.caller,
+        available: context.available,
+        responded: !context.must_respond,
+    };
+    view_for(alloc, env, canister, copies, call)
 }
 
 /// The same, with a call.

@@ -13,10 +13,18 @@ ghost use Rattle.ic_exec.specs.Cleanups.{after_cleanup};
 use crate::effects::returned;
 use crate::work::{Work, silent};
 use ic_base::NoMemory;
-use ic_entry::{Entered, attempt, copies_of, view_in, with_answer};
-use ic_state::{Callback, Canister, Context, EntryKind, Env, Response};
+use ic_entry::{Entered, Entry, attempt, copies_of, view_in, with_answer};
+use ic_state::{BoundedEnv, Callback, Canister, Context, EntryKind, Env, Response};
 use std::alloc::Global;
 use wm_semantics::Target;
+
+/// An answer that a context awaits: the callback of its call, the response, and the cycles that come back.
+#[derive(Drop)]
+pub struct AwaitedAnswer {
+    pub callback: Callback,
+    pub response: Response,
+    pub refund: u128,
+}
 
 fn target_of(callback: &Callback, response: &Response) -> Target
     ensures { result ≡ target_of callback.now response.now }
@@ -56,7 +64,7 @@ fn clean_up(
     ensures store { IfOk result (λ used. (code : SomeCode) → (seen canister.old).code ≡ Some code
         → (canister.new.store.lists, used) ≡ after_cleanup (enters_by system_api) env (seen canister.old) context.now code cleanup) }
     ensures rest { IfOk result (λ _. canister.new ≡ record canister.old { store = canister.new.store }) }
-    ensures keeps { IfOk result (λ _. IsCanister canister.new) }
+    ensures keeps { IsCanister canister.new }
     ensures used { IfOk result (λ used. used ≤ env.limit) }
 {
     let Some((index, argument)) = cleanup else {
@@ -71,12 +79,14 @@ fn clean_up(
         alloc,
         code.get(),
         canister.store.get_mut(),
-        Target::Element {
-            index,
-            env: argument,
+        Entry {
+            target: Target::Element {
+                index,
+                env: argument,
+            },
+            kind: EntryKind::Cleanup,
+            view,
         },
-        EntryKind::Cleanup,
-        view,
         env.limit,
         true,
     )?;
@@ -89,23 +99,26 @@ pub fn run_callback(
     canister: &mut Canister,
     place: usize,
     context: &Context,
-    callback: Callback,
-    response: Response,
-    refund: u128,
-    env: Env,
+    answer: AwaitedAnswer,
+    env: BoundedEnv,
 ) -> Result<Work, NoMemory>
     requires keeps { IsCanister canister.old }
     requires place { position (is_own context.now.id) canister.old.contexts ≡ Some place }
     requires there { slice_get canister.old.contexts place ≡ Some context.now }
     requires code { IsSome canister.old.code }
-    requires limit { env.limit ≤ 1000000000000 }
     ensures work { IfOk result (λ w. (code : SomeCode) → (seen canister.old).code ≡ Some code
-        → work_of canister.new w ≡ answered_with (enters_by system_api) env (seen canister.old) context.now.id callback response context.now
-        (answer_view (view env (seen canister.old) context.now) response refund) code) }
-    ensures keeps { IfOk result (λ _. IsCanister canister.new) }
+        → work_of canister.new w ≡ answered_with (enters_by system_api) env (seen canister.old) context.now.id answer.callback answer.response context.now
+        (answer_view (view env (seen canister.old) context.now) answer.response answer.refund) code) }
+    ensures keeps { IsCanister canister.new }
     ensures used { IfOk result (λ w. w.used ≤ 2 * env.limit) }
 {
     let _next_call = canister.next_call;
+    let env = env.env();
+    let AwaitedAnswer {
+        callback,
+        response,
+        refund,
+    } = answer;
     let target = target_of(&callback, &response);
     let kind = kind_of(&response);
     let copies = copies_of(alloc, canister)?;
@@ -121,9 +134,7 @@ pub fn run_callback(
         alloc,
         code.get(),
         canister.store.get_mut(),
-        target,
-        kind,
-        view,
+        Entry { target, kind, view },
         env.limit,
         true,
     )?;

@@ -12,7 +12,7 @@ ghost use Rattle.ic_exec.specs.Executed.{parts_of, work_of};
 use crate::effects::{answer_alone, returned};
 use crate::work::{Work, silent};
 use ic_base::NoMemory;
-use ic_entry::{Entered, attempt, copies_of, view_in, with_call};
+use ic_entry::{Entered, Entry, attempt, copies_of, view_in, with_call};
 use ic_principal::{Bytes, Principal, Text};
 use ic_state::{Admitted, Canister, Context, EntryKind, Env, Origin};
 use std::alloc::Global;
@@ -26,6 +26,14 @@ pub struct TakenCall {
     pub method: Text,
     pub arg: Bytes,
     pub cycles: u128,
+}
+
+/// The method that a call reaches, and what it is told.
+#[derive(Drop)]
+pub struct PublicMethod {
+    pub name: Text,
+    pub entry: Admitted,
+    pub arg: Bytes,
 }
 
 // The function, what kind of entry it is, and whether what it does to the store is kept.
@@ -44,23 +52,22 @@ pub fn run_call(
     canister: &mut Canister,
     place: usize,
     context: &Context,
-    method: Text,
-    arg: Bytes,
-    entry: Admitted,
+    method: PublicMethod,
     env: Env,
 ) -> Result<Work, NoMemory>
     requires keeps { IsCanister canister.old }
     requires place { position (is_own context.now.id) canister.old.contexts ≡ Some place }
     requires there { slice_get canister.old.contexts place ≡ Some context.now }
-    requires entry { CanEnter canister.old.code entry }
+    requires entry { CanEnter canister.old.code method.entry }
     ensures work { IfOk result (λ w. (code : SomeCode) → (seen canister.old).code ≡ Some code
-        → work_of canister.new w ≡ called (enters_by system_api) env (seen canister.old) context.now.id context.now method arg code entry) }
-    ensures keeps { IfOk result (λ _. IsCanister canister.new) }
+        → work_of canister.new w ≡ called (enters_by system_api) env (seen canister.old) context.now.id context.now method.name method.arg code method.entry) }
+    ensures keeps { IsCanister canister.new }
     ensures used { IfOk result (λ w. w.used ≤ env.limit) }
 {
     let _next_call = canister.next_call;
+    let PublicMethod { name, entry, arg } = method;
     let copies = copies_of(alloc, canister)?;
-    let view = with_call(view_in(alloc, env, canister, copies, context), method, arg);
+    let view = with_call(view_in(alloc, env, canister, copies, context), name, arg);
     let (function, kind, keeps) = parts_of(entry);
     let Some(code) = &canister.code else {
         unreachable!();
@@ -69,9 +76,11 @@ pub fn run_call(
         alloc,
         code.get(),
         canister.store.get_mut(),
-        Target::Function(function),
-        kind,
-        view,
+        Entry {
+            target: Target::Function(function),
+            kind,
+            view,
+        },
         env.limit,
         keeps,
     )?;

@@ -1,4 +1,4 @@
-ghost use Rattle.std.specs.Prelude.{◌≡◌, ◌+◌, ◌-◌, ◌*◌, ◌<◌, ◌≤◌, ◌^◌, ◌++◌, not, ◌&&◌, true, is_some, min, find, Some, None, IfOk};
+ghost use Rattle.std.specs.Prelude.{◌≡◌, ◌+◌, ◌-◌, ◌*◌, ◌<◌, ◌≤◌, ◌^◌, not, ◌&&◌, true, is_some, min, find, Some, None, IfOk};
 ghost use Rattle.std.specs.Option.{IsSomeAnd};
 ghost use Rattle.ic_behaviour.specs.State.{Code as SomeCode, id_of};
 ghost use Rattle.ic_behaviour.specs.Entry.{enters_by};
@@ -13,8 +13,8 @@ ghost use Rattle.ic_accounting.specs.TrapKeeps.{TrapKeeps};
 ghost use Rattle.ic_api.specs.System.{system_api};
 ghost use Rattle.ic_exec.specs.Executed.{handled_of, done_of, work_of, message_cycles, executed_cycles};
 
-use crate::answers::run_callback;
-use crate::calls::{TakenCall, run_call};
+use crate::answers::{AwaitedAnswer, run_callback};
+use crate::calls::{PublicMethod, TakenCall, run_call};
 use crate::executed::Executed;
 use crate::work::{Done, Work, silent};
 use ic_api::entries_are_lawful;
@@ -26,8 +26,8 @@ use ic_calls::{
 use ic_entry::discard;
 use ic_principal::Principal;
 use ic_state::{
-    Admitted, Answered, AnsweredList, CallId, Callback, Canister, Context, Env, Message, Messages,
-    Origin, Response,
+    Admitted, Answered, AnsweredList, BoundedEnv, CallId, Canister, Context, Env,
+    MOST_INSTRUCTIONS, Message, Messages, Origin, Response,
 };
 use std::alloc::Global;
 use wm_semantics::Trap;
@@ -53,21 +53,6 @@ fn refuse(alloc: Global, origin: Origin, cycles: u128, response: Response) -> Re
     })
 }
 
-// Both lists, one behind the other.
-#[inline(always)]
-fn joined(front: AnsweredList, back: AnsweredList) -> Result<AnsweredList, NoMemory>
-    ensures { IfOk result (λ l. l ≡ front ++ back) }
-{
-    if front.items.is_empty() {
-        front.items.destroy_empty();
-        return Ok(back);
-    }
-    let mut items = front.items;
-    let mut more = back.items;
-    items.append(&mut more)?;
-    Ok(AnsweredList { items })
-}
-
 // Contexts without calls close; the message's own context is told its trap.
 fn close_after(
     alloc: Global,
@@ -77,7 +62,7 @@ fn close_after(
     requires keeps { IsCanister canister.old }
     ensures answers { IfOk result (λ answers. answers ≡ closing trapped.now (seen canister.old)) }
     ensures closed { IfOk result (λ _. seen canister.new ≡ closed (seen canister.old)) }
-    ensures keeps { IfOk result (λ _. IsCanister canister.new) }
+    ensures keeps { IsCanister canister.new }
 {
     match trapped {
         Some((own, cause)) => close(alloc, canister, Some(own), Some(cause)),
@@ -90,20 +75,21 @@ fn close_after(
 fn finish(alloc: Global, canister: &mut Canister, work: Work, price: u64) -> Result<Done, NoMemory>
     requires keeps { IsCanister canister.old }
     ensures done { IfOk result (λ d. done_of canister.new d ≡ finished price (work_of canister.old work)) }
-    ensures keeps { IfOk result (λ _. IsCanister canister.new) }
+    ensures keeps { IsCanister canister.new }
 {
     let Work {
         calls,
-        answers,
+        mut answers,
         used,
         trapped,
     } = work;
     let burned = canister.balance.min(price as u128 * used as u128);
     canister.balance -= burned;
     let closing = close_after(alloc, canister, &trapped)?;
+    answers.append(closing)?;
     Ok(Done {
         calls,
-        answers: joined(answers, closing)?,
+        answers,
         used,
         burned,
         trapped: trapped.map(|own| own.1),
@@ -140,7 +126,7 @@ fn begin_call(
     requires room { cycles_of canister.old + call.cycles ≤ 2 ^ 127 - 1 }
     ensures done { IfOk result (λ d. (code : SomeCode) → (seen canister.old).code ≡ Some code
         → done_of canister.new d ≡ begin_call (enters_by system_api) env (seen canister.old) (context_of call.origin call.sender call.cycles) call.method call.arg (code, entry)) }
-    ensures keeps { IfOk result (λ _. IsCanister canister.new) }
+    ensures keeps { IsCanister canister.new }
 {
     let TakenCall {
         origin,
@@ -151,7 +137,12 @@ fn begin_call(
     } = call;
     let place = add_context(canister, &origin, &sender, cycles)?;
     let context = context_of(&origin, &sender, cycles);
-    let work = run_call(alloc, canister, place, &context, method, arg, entry, env)?;
+    let method = PublicMethod {
+        name: method,
+        entry,
+        arg,
+    };
+    let work = run_call(alloc, canister, place, &context, method, env)?;
     finish(alloc, canister, work, env.price)
 }
 
@@ -167,7 +158,7 @@ fn handle_call(
     requires room { cycles_of canister.old + call.cycles ≤ 2 ^ 127 - 1 }
     ensures done { IfOk result (λ d. done_of canister.new d
         ≡ local_call (enters_by system_api) env (seen canister.old) call.origin call.sender call.method call.arg call.cycles (admitted (seen canister.old) call.method)) }
-    ensures keeps { IfOk result (λ _. IsCanister canister.new) }
+    ensures keeps { IsCanister canister.new }
 {
     match admit(canister, call.method.items.as_str()) {
         Err(refusal) => {
@@ -197,46 +188,41 @@ fn handle_answer(
     alloc: Global,
     canister: &mut Canister,
     own: CallId,
-    callback: Callback,
-    response: Response,
-    refund: u128,
-    env: Env,
+    answer: AwaitedAnswer,
+    env: BoundedEnv,
 ) -> Result<Done, NoMemory>
     requires keeps { IsCanister canister.old }
     requires expected { IsSomeAnd (find (is_own own) canister.old.contexts) (λ x. 0 < x.outstanding) }
-    requires room { cycles_of canister.old + refund ≤ 2 ^ 127 - 1 }
-    requires limit { env.limit ≤ 1000000000000 }
+    requires room { cycles_of canister.old + answer.refund ≤ 2 ^ 127 - 1 }
     ensures done { IfOk result (λ d. done_of canister.new d
-        ≡ begin_answer (enters_by system_api) env (with_answer own refund (seen canister.old)) own callback response refund) }
-    ensures keeps { IfOk result (λ _. IsCanister canister.new) }
+        ≡ begin_answer (enters_by system_api) env (with_answer own answer.refund (seen canister.old)) own answer.callback answer.response answer.refund) }
+    ensures keeps { IsCanister canister.new }
 {
-    let place = take_refund(canister, &own, refund);
+    let price = env.env().price;
+    let place = take_refund(canister, &own, answer.refund);
     let context = context_at(&canister.contexts, place);
     if runs_callback(canister, &context) {
-        let work = run_callback(
-            alloc, canister, place, &context, callback, response, refund, env,
-        )?;
-        finish(alloc, canister, work, env.price)
+        let work = run_callback(alloc, canister, place, &context, answer, env)?;
+        finish(alloc, canister, work, price)
     } else {
         let work = silent(alloc, 0, None);
-        finish(alloc, canister, work, env.price)
+        finish(alloc, canister, work, price)
     }
 }
 
-/// Executes a message on a canister that is lent, as `execute`. After `NoMemory` nothing is said of
-/// the canister.
+/// Executes a message on a canister that is lent, as `execute`. After `NoMemory` a part of the message may be
+/// done.
 pub fn handle(
     alloc: Global,
     canister: &mut Canister,
     message: Message,
-    env: Env,
+    env: BoundedEnv,
 ) -> Result<Done, NoMemory>
     requires keeps { IsCanister canister.old }
     requires expected { IsExpected (seen canister.old) message }
     requires room { cycles_of canister.old + message_cycles message ≤ 2 ^ 127 - 1 }
-    requires limit { env.limit ≤ 1000000000000 }
     ensures done { IfOk result (λ d. done_of canister.new d ≡ local (enters_by system_api) env (seen canister.old) message) }
-    ensures keeps { IfOk result (λ _. IsCanister canister.new) }
+    ensures keeps { IsCanister canister.new }
 {
     match message {
         Message::Call {
@@ -256,7 +242,7 @@ pub fn handle(
                 arg,
                 cycles,
             },
-            env,
+            env.env(),
         ),
         Message::Answer {
             origin,
@@ -268,7 +254,14 @@ pub fn handle(
                 context,
                 callback,
                 ..
-            } => handle_answer(alloc, canister, context, callback, response, refund, env),
+            } => {
+                let answer = AwaitedAnswer {
+                    callback,
+                    response,
+                    refund,
+                };
+                handle_answer(alloc, canister, context, answer, env)
+            }
             Origin::Ingress(_) => unreachable!(),
         },
     }
@@ -287,7 +280,7 @@ pub fn execute(
     // The context of a call is not there yet; that of an answer is, and awaits one.
     requires expected { IsExpected (seen canister) message }
     requires room { cycles_of canister + message_cycles message ≤ 2 ^ 127 - 1 }
-    requires limit { env.limit ≤ 1000000000000 }
+    requires limit { env.limit ≤ MOST_INSTRUCTIONS }
     ensures handled { IfOk result (λ e. handled_of e ≡ local (enters_by system_api) env (seen canister) message) }
     ensures keeps { IfOk result (λ e. IsCanister e.canister) }
     // Cycles are neither made nor lost.
@@ -298,7 +291,7 @@ pub fn execute(
 {
     entries_are_lawful();
     let mut canister = canister;
-    match handle(alloc, &mut canister, message, env) {
+    match handle(alloc, &mut canister, message, BoundedEnv::of(env)) {
         Ok(done) => {
             let Done {
                 calls,

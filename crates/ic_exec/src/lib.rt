@@ -14,7 +14,7 @@ mod work;
 pub use executed::Executed;
 pub use handling::{execute, handle};
 pub use ic_entry::{
-    InstallFault, Installed, Mode, Order, inspect, inspects, install, place_code, query,
+    InstallFault, Installed, Mode, Order, inspect, inspects, install, install_in, place_code, query,
 };
 pub use ic_state::Env;
 pub use work::Done;

@@ -9,6 +9,7 @@ ghost use Rattle.ic_options.specs.Options.{HasBounds};
 use crate::doing::run_rounds_by;
 use crate::gathered::Gathered;
 use crate::printing::print_last;
+use crate::setting::Setting;
 use crate::status::Status;
 use ic_base::NoMemory;
 use ic_options::Options;
@@ -21,18 +22,16 @@ use std::thread::Threads;
 /// Makes the rounds at the end of the script, and prints the answer to each call and the state.
 pub fn finish<R: Threads + Sync, K: Sink, G: Gate + Sync>(
     alloc: Global,
-    rt: &R,
-    options: &Options,
+    setting: &Setting<'_, R, G>,
     world: World,
     gathered: &mut Gathered,
     sink: &mut K,
-    gate: &G,
 ) -> Status
-    requires { HasBounds options.now }
+    requires { HasBounds setting.now.options.now }
     ensures finished { Concludes (sink_at K.taken K.fits K.faults sink.old) (sink_at K.taken K.fits K.faults sink.new)
-        (behind_gathered gathered.old (end_output options.now world)) result }
+        (behind_gathered gathered.old (end_output setting.now.options.now world)) result }
 {
-    match end_world(alloc, rt, options, world, gate) {
+    match end_world(alloc, setting.rt, setting.options, world, setting.gate) {
         Ok(world) => print_end(alloc, &world, gathered, sink),
         Err(_) => gathered.give_up(sink),
     }

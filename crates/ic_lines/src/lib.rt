@@ -14,6 +14,7 @@ mod managing;
 mod picking;
 mod printing;
 mod running;
+mod setting;
 mod status;
 
 pub use generated::run_generated;

@@ -10,6 +10,7 @@ ghost use Rattle.ic_lines.specs.Sending.{sink_at};
 use crate::doing::{NotDone, do_line};
 use crate::ending::finish;
 use crate::gathered::Gathered;
+use crate::setting::Setting;
 use crate::status::Status;
 use ic_options::Options;
 use ic_outside::{Gate, Line, LineFault, Lines, Sink, Source};
@@ -55,18 +56,19 @@ pub fn run_script<R: Threads + Sync, S: Source, K: Sink, G: Gate + Sync>(
     };
     let mut lines = Lines::new(alloc, LARGEST_LINE, LARGEST_SCRIPT);
     let mut world = World::new(alloc);
+    let setting = Setting { rt, options, gate };
     loop {
         if let Err(status) = gathered.before_reading(&lines, sink) {
             return status;
         }
         match lines.next(source) {
             Ok(Some(line)) => {
-                match turn(alloc, rt, options, world, &line, &mut gathered, sink, gate) {
+                match turn(alloc, &setting, world, &line, &mut gathered, sink) {
                     Ok(next) => world = next,
                     Err(status) => return status,
                 }
             }
-            Ok(None) => return finish(alloc, rt, options, world, &mut gathered, sink, gate),
+            Ok(None) => return finish(alloc, &setting, world, &mut gathered, sink),
             Err(fault) => return stop(alloc, fault, &mut gathered, sink),
         }
     }
@@ -75,19 +77,24 @@ pub fn run_script<R: Threads + Sync, S: Source, K: Sink, G: Gate + Sync>(
 // Does a line and gathers what it prints, or reports that it is bad.
 fn turn<R: Threads + Sync, K: Sink, G: Gate + Sync>(
     alloc: Global,
-    rt: &R,
-    options: &Options,
+    setting: &Setting<'_, R, G>,
     world: World,
     line: &Line,
     gathered: &mut Gathered,
     sink: &mut K,
-    gate: &G,
 ) -> Result<World, Status>
-    requires { HasBounds options.now }
+    requires { HasBounds setting.now.options.now }
     ensures turns { Turns (sink_at K.taken K.fits K.faults sink.old) (sink_at K.taken K.fits K.faults sink.new)
-        gathered.old gathered.new line.now.number (after_line options.now world line.now.bytes) result }
+        gathered.old gathered.new line.now.number (after_line setting.now.options.now world line.now.bytes) result }
 {
-    match do_line(alloc, rt, options, world, &line.bytes.items, gate) {
+    match do_line(
+        alloc,
+        setting.rt,
+        setting.options,
+        world,
+        &line.bytes.items,
+        setting.gate,
+    ) {
         Ok((next, text)) => match gathered.put(sink, &text.items) {
             Ok(()) => Ok(next),
             Err(status) => Err(status),

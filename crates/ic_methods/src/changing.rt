@@ -29,7 +29,6 @@ fn change(
 ) -> Result<Ending, Unmet>
     requires keeps { IsCanister canister.old }
     requires room { cycles_of canister.old + call.now.cycles ≤ 2 ^ 127 - 1 }
-    requires limit { env.limit ≤ 1000000000000 }
     ensures does { DoesAt result (incoming_of call.now) id canister.old canister.new
         (λ now s. changes (enters_after system_api) env.limit (record now { time = env.time }) s (incoming_of call.now) id change) }
     ensures counts { IfMemory result (KeepsCounts id canister.old canister.new) }
@@ -59,7 +58,6 @@ pub fn change_placed(
 ) -> Result<Ending, Unmet>
     requires keeps { IsCanister place.old }
     requires room { cycles_of place.old + call.now.cycles ≤ 2 ^ 127 - 1 }
-    requires limit { env.limit ≤ 1000000000000 }
     ensures does { DoesAt result (incoming_of call.now) id place.old place.new
         (λ now s. changes (enters_after system_api) env.limit (record now { time = env.time }) s (incoming_of call.now) id what) }
     ensures counts { IfMemory result (KeepsCounts id place.old place.new) }

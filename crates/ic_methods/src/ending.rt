@@ -6,8 +6,8 @@ ghost use Rattle.ic_methods.specs.Ending.{reply_by, ended_by};
 
 use crate::incoming::Incoming;
 use ic_base::NoMemory;
-use ic_calls::{answer, route};
-use ic_principal::{Bytes, Principal};
+use ic_calls::{answer, empty_reply, route};
+use ic_principal::Principal;
 use ic_state::{Answered, AnsweredList, Messages, Parts, Response};
 use std::alloc::Global;
 
@@ -30,16 +30,6 @@ fn management() -> Principal
         unreachable!();
     };
     management
-}
-
-/// No values, in Candid.
-#[tactic(auto, unfolding(ic_behaviour::specs::Closing::empty_reply))]
-pub fn empty_reply(alloc: Global) -> Result<Response, NoMemory>
-    ensures { IfOk result (λ r. r ≡ empty_reply) }
-{
-    Ok(Response::Reply(Bytes {
-        items: Vec::from_slice(alloc, b"DIDL\x00\x00")?,
-    }))
 }
 
 /// The call is answered, and no other.

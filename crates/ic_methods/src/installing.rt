@@ -1,4 +1,4 @@
-ghost use Rattle.std.specs.Prelude.{◌≡◌, ◌≤◌, true, option_map, IfOk, OnOk};
+ghost use Rattle.std.specs.Prelude.{◌≡◌, true, option_map, OnOk};
 ghost use Rattle.std.specs.Option.{IsSome};
 ghost use Rattle.ic_behaviour.specs.State.{Code as SomeCode};
 ghost use Rattle.ic_behaviour.specs.Deliver.{env_at};
@@ -17,14 +17,12 @@ ghost use Rattle.ic_methods.specs.Changes.{asked_of, DoesAt, KeepsCounts, IsInst
 use crate::change::NewCode;
 use crate::ending::{Ending, done};
 use crate::incoming::Incoming;
-use ic_base::NoMemory;
 use ic_behaviour::Mode;
-use ic_exec::{Installed, Order, install};
+use ic_exec::{Order, install_in};
 use ic_orders::{Denial, Unmet, hash_of, module_of};
 use ic_principal::{Bytes, Principal};
-use ic_state::{Canister, Code, CodePlace, Controllers, Env};
+use ic_state::{Canister, Code, CodePlace, Env};
 use std::alloc::Global;
-use std::mem::replace;
 
 fn code_of(alloc: Global, bytes: &Bytes) -> Result<Code, Unmet>
     ensures { MeetsBy seen_code result (code_of bytes.now) }
@@ -46,22 +44,10 @@ fn unless_unsuited(mode: Mode, code: &Option<CodePlace>) -> Result<(), Denial>
     }
 }
 
-// Takes the canister out of its place, where one without code stays.
-fn take(alloc: Global, canister: &mut Canister) -> Result<Canister, NoMemory>
-    ensures { IfOk result (λ taken. taken ≡ canister.old) }
-{
-    let nobody = Controllers {
-        items: Vec::new(alloc),
-    };
-    let empty = Canister::new(alloc, canister.id, nobody, 0)?;
-    Ok(replace(canister, empty))
-}
-
 // Installs the code, which is not paid for.
 fn put(alloc: Global, canister: &mut Canister, order: Order, env: Env) -> Result<(), Unmet>
     requires keeps { IsCanister canister.old }
     requires upgraded { is_upgrade order.mode ≡ true → IsSome canister.old.code }
-    requires limit { env.limit ≤ 1000000000000 }
     ensures installed { IsInstalled result canister.old canister.new
         (installed (enters_after system_api) (env_at env.time env.limit 0) (seen canister.old) order.mode (seen_code order.code) order.arg order.sender) }
     ensures keeps { IfMemory result (IsCanister canister.new) }
@@ -71,13 +57,7 @@ fn put(alloc: Global, canister: &mut Canister, order: Order, env: Env) -> Result
         limit: env.limit,
         price: 0,
     };
-    let held = take(alloc, canister)?;
-    let Installed {
-        canister: after,
-        refusal,
-        ..
-    } = install(alloc, held, order, env)?;
-    *canister = after;
+    let (refusal, _) = install_in(alloc, canister, order, env)?;
     match refusal {
         Some(fault) => Err(Unmet::Denied(Denial::NotInstalled(fault))),
         None => Ok(()),
@@ -94,7 +74,6 @@ pub fn install_code(
     env: Env,
 ) -> Result<Ending, Unmet>
     requires keeps { IsCanister canister.old }
-    requires limit { env.limit ≤ 1000000000000 }
     ensures does { DoesAt result (incoming_of call.now) id canister.old canister.new
         (λ now s. installs (enters_after system_api) env.limit (record now { time = env.time }) s (incoming_of call.now) (asked_of id new)) }
     ensures counts { IfMemory result (KeepsCounts id canister.old canister.new) }

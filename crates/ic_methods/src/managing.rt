@@ -1,4 +1,4 @@
-ghost use Rattle.std.specs.Prelude.{◌≡◌, ◌≤◌, Err, IfOk};
+ghost use Rattle.std.specs.Prelude.{◌≡◌, Err, IfOk};
 ghost use Rattle.ic_behaviour.specs.State.{State};
 ghost use Rattle.ic_orders.specs.declared.demand.Demand.TheVariants.{InstallCode as InstallsCode};
 ghost use Rattle.ic_behaviour.specs.Installing.{enters_after};
@@ -49,7 +49,6 @@ fn at_canister(
     limit: u64,
 ) -> Result<Ending, Unmet>
     requires holds { HoldsCycles parts.old call.now.cycles }
-    requires limit { limit ≤ 1000000000000 }
     ensures does { DoesRow result (incoming_of call.now) parts.old parts.new
         (λ now. at_canister (state_of parts.old) id (changes (enters_after system_api) limit now (state_of parts.old) (incoming_of call.now) id what)) }
     ensures keeps { IfMemory result (Keeps parts.old parts.new) }
@@ -74,7 +73,6 @@ fn install_at(
     limit: u64,
 ) -> Result<Ending, Unmet>
     requires holds { HoldsCycles parts.old call.now.cycles }
-    requires limit { limit ≤ 1000000000000 }
     ensures does { DoesRow result (incoming_of call.now) parts.old parts.new
         (λ now. row (enters_after system_api) limit now (state_of parts.old) (incoming_of call.now) (InstallsCode install)) }
     ensures keeps { IfMemory result (Keeps parts.old parts.new) }
@@ -109,7 +107,6 @@ fn perform(
     limit: u64,
 ) -> Result<Ending, Unmet>
     requires holds { HoldsCycles parts.old call.now.cycles }
-    requires limit { limit ≤ 1000000000000 }
     ensures does { DoesRow result (incoming_of call.now) parts.old parts.new
         (λ now. row (enters_after system_api) limit now (state_of parts.old) (incoming_of call.now) demand) }
     ensures keeps { IfMemory result (Keeps parts.old parts.new) }
@@ -185,7 +182,6 @@ fn perform(
 // Does what the call demands, unless it is refused.
 fn obey(alloc: Global, parts: &mut Parts, call: &Incoming, limit: u64) -> Result<Ending, Unmet>
     requires holds { HoldsCycles parts.old call.now.cycles }
-    requires limit { limit ≤ 1000000000000 }
     ensures does { DoesRow result (incoming_of call.now) parts.old parts.new
         (λ now. obeyed (enters_after system_api) limit now (state_of parts.old) (incoming_of call.now)) }
     ensures keeps { IfMemory result (Keeps parts.old parts.new) }
@@ -211,7 +207,6 @@ fn ending_of(
     limit: u64,
 ) -> Result<Ending, NoMemory>
     requires holds { HoldsCycles parts.old call.now.cycles }
-    requires limit { limit ≤ 1000000000000 }
     ensures does { IfOk result (λ e. (now : State) → HaveCounts now parts.old → now.time ≡ parts.old.time
         → ended_by (incoming_of call.now) e (state_of parts.new)
         ≡ handled (enters_after system_api) limit now (state_of parts.old) (incoming_of call.now)) }
@@ -228,7 +223,6 @@ fn ending_of(
 /// what it sends, is what `ic_management` says. `limit` is the most instructions that an installation
 /// may use.
 pub fn manage(alloc: Global, parts: Parts, call: Incoming, limit: u64) -> Result<Parts, NoMemory>
-    requires limit { limit ≤ 1000000000000 }
     requires taken { Taken parts (incoming_of call) }
     // The numbers that canisters store may be those of any state.
     ensures state { IfOk result (λ p. (now : State) → HaveCounts now parts → now.time ≡ parts.time

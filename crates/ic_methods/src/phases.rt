@@ -5,9 +5,9 @@ ghost use Rattle.ic_methods.specs.Taken.{incoming_of};
 ghost use Rattle.ic_methods.specs.Ending.{IfMemory};
 ghost use Rattle.ic_methods.specs.Changes.{waits, DoesAt, KeepsCounts};
 
-use crate::ending::{Ending, done, empty_reply};
+use crate::ending::{Ending, done};
 use crate::incoming::Incoming;
-use ic_calls::close;
+use ic_calls::{close, empty_reply};
 use ic_lifecycle::{await_stop, restart};
 use ic_orders::Unmet;
 use ic_principal::Principal;

@@ -1,29 +1,18 @@
-ghost use Rattle.std.specs.Prelude.{◌≡◌, ◌++◌, Ok, IfOk};
+ghost use Rattle.std.specs.Prelude.{◌≡◌, Ok};
 ghost use Rattle.ic_state.specs.IsCanister.{IsCanister};
 ghost use Rattle.ic_management.specs.Rows.{uninstalls};
 ghost use Rattle.ic_methods.specs.Taken.{incoming_of};
 ghost use Rattle.ic_methods.specs.Ending.{IfMemory};
 ghost use Rattle.ic_methods.specs.Changes.{DoesAt, KeepsCounts};
 
-use crate::ending::{Ending, empty_reply};
+use crate::ending::Ending;
 use crate::incoming::Incoming;
-use ic_base::NoMemory;
-use ic_calls::close;
+use ic_calls::{close, empty_reply};
 use ic_lifecycle::uninstall;
 use ic_orders::Unmet;
 use ic_principal::Principal;
-use ic_state::{AnsweredList, Canister};
+use ic_state::Canister;
 use std::alloc::Global;
-
-// Both lists, one behind the other.
-fn joined(front: AnsweredList, back: AnsweredList) -> Result<AnsweredList, NoMemory>
-    ensures { IfOk result (λ l. l ≡ front ++ back) }
-{
-    let AnsweredList { mut items } = front;
-    let AnsweredList { items: mut more } = back;
-    items.append(&mut more)?;
-    Ok(AnsweredList { items })
-}
 
 /// The canister loses its code and its memories, and its contexts are deleted (IC Interface
 /// Specification, "IC method uninstall_code"). The contexts that await no call are closed.
@@ -40,9 +29,9 @@ pub fn uninstall_code(
     ensures keeps { IfMemory result (IsCanister canister.new) }
 {
     let response = empty_reply(alloc)?;
-    let rejections = uninstall(alloc, canister)?;
+    let mut answers = uninstall(alloc, canister)?;
     let closing = close(alloc, canister, None, None)?;
-    let answers = joined(rejections, closing)?;
+    answers.append(closing)?;
     Ok(Ending {
         reply: Some((response, call.cycles)),
         sender: id,

@@ -3,14 +3,12 @@ use Rattle.std.proofs.Common.{◌≡◌, ℕ, true, false, cond, List, [], ◌�
 use Rattle.std.specs.Prelude.{is_some, IfOk}
 use Rattle.std.specs.List.{flat_map}
 use Rattle.std.specs.Map.{lookup}
-use Rattle.std.proofs.lemmas.Result.{IfOk-weaker}
 use Rattle.ic_behaviour.specs.declared.call.CallId.{CallId}
 use Rattle.ic_behaviour.specs.declared.call.Origin.{Origin}
 use Rattle.ic_behaviour.specs.declared.call.Origin.TheVariants as origin
 use Rattle.ic_behaviour.specs.declared.call.Response.{Response}
 use Rattle.ic_behaviour.specs.declared.call.Message.{Message}
 use Rattle.ic_behaviour.specs.declared.call.Message.TheVariants.{Call, Answer}
-use Rattle.ic_behaviour.specs.declared.call.Answered.{Answered}
 use Rattle.ic_behaviour.specs.Totals.{total}
 use Rattle.ic_behaviour.specs.State.{at, callee_of, Canister, State}
 use Rattle.ic_behaviour.specs.Items.{awaited, item_of, items_at, outstanding}
@@ -20,7 +18,7 @@ use Rattle.ic_behaviour.specs.Texts.{no_canister}
 use Rattle.ic_behaviour.specs.Tallied.{Tallied}
 use Rattle.ic_behaviour.specs.Entry.{enters_by}
 use Rattle.ic_behaviour.specs.Installing.{enters_after}
-use Rattle.ic_behaviour.specs.Deliver.{Outside, is_management, sent_back, handled_outside, handled_by, routed, routed_by, without}
+use Rattle.ic_behaviour.specs.Deliver.{Outside, is_management, sent_back, handled_outside, handled_by, routed_by, without}
 use Rattle.ic_behaviour.proofs.Counts.{counted_same}
 use Rattle.ic_behaviour.proofs.Ties.{tallied}
 use Rattle.ic_behaviour.proofs.Weights.{each-map}
@@ -28,7 +26,7 @@ use Rattle.ic_state.specs.declared.world.Parts.{Parts}
 use Rattle.ic_state.specs.Seen.{seen, state_of}
 use Rattle.ic_state.specs.IsWorld.{HasCounts, IsWorld}
 use Rattle.ic_api.specs.System.{system_api}
-use Rattle.ic_calls.specs.Sent.{answered_in}
+use Rattle.ic_deliver.specs.Delivered.{sent_back_in}
 use Rattle.ic_accounting.proofs.Delivers.{deliver_is, no_answer, answered_advances}
 use Rattle.ic_runs.specs.Steps.{step}
 use Rattle.ic_runs.proofs.Lists.{remove_at}
@@ -132,9 +130,6 @@ module _ (limit : ℕ) (kept : List Message) (o : Origin) (from callee method ar
         delivers limit kept m todo p is absent q (here ∙ there) (subst Sound (sym here) keeps.sound) (λ key id. ap (λ t. outstanding t key id) here ∙ keeps.counts key id) stored canisters
 
     -- back to the caller
-    abbrev given : Answered
-    given = record { origin = o; response = no_canister callee; refund = n }
-
     same_items : (p : Origin) → map item_of (routed_by callee p (no_canister callee) n) ≡ map item_of (routed_by [] p (no_canister callee) n)
     same_items (origin.Ingress k) = refl
     same_items (origin.Canister caller number context callback) = refl
@@ -146,13 +141,13 @@ module _ (limit : ℕ) (kept : List Message) (o : Origin) (from callee method ar
         ∙ ap (λ l. map item_of away.messages ++ l) (same_items o)
         ∙ sym (map_front away.messages (routed_by [] o (no_canister callee) n)))
 
-    sent_end : sent_back o callee n away ≡ state_of (among kept todo (answered_in callee given p))
+    sent_end : sent_back o callee n away ≡ state_of (among kept todo (sent_back_in callee o n p))
     sent_end =
         ap (sent_back o callee n) (left_is limit kept m todo p is absent)
-        ∙ ap (λ (l : List Message). record (state_of (answered_in callee given p)) { messages = l }) (append_assoc (kept ++ todo) p.messages (routed callee given))
-        ∙ end_is limit kept m todo p is absent (answered_in callee given p)
+        ∙ ap (λ (l : List Message). record (state_of (sent_back_in callee o n p)) { messages = l }) (append_assoc (kept ++ todo) p.messages (routed_by callee o (no_canister callee) n))
+        ∙ end_is limit kept m todo p is absent (sent_back_in callee o n p)
 
-    pub sent_delivers : (q : Parts) → is_management callee ≡ false → q ≡ answered_in callee given p → Delivers limit kept m todo p q
+    pub sent_delivers : (q : Parts) → is_management callee ≡ false → q ≡ sent_back_in callee o n p → Delivers limit kept m todo p q
     sent_delivers q to_none is_q =
         let is_m = is_at_place kept m todo p in
         let sound_now = tallied now is.sound in
@@ -160,7 +155,7 @@ module _ (limit : ℕ) (kept : List Message) (o : Origin) (from callee method ar
         let counts : (key : List ℕ) (id : CallId) → outstanding (sent_back o callee n away) key id ≡ outstanding now key id =
         λ key id. sent_counts key id ∙ (replied_keeps now (length kept) o from callee method arg n is_m sound_now (no_canister callee)).counts key id in
         subst (Delivers limit kept m todo p) (sym is_q)
-        (delivers limit kept m todo p is absent (answered_in callee given p) (here ∙ sent_end)
+        (delivers limit kept m todo p is absent (sent_back_in callee o n p) (here ∙ sent_end)
         (subst Sound (sym here) (answered_advances (no_canister callee) now (length kept) o from callee method arg n sound_now is_m).sound)
         (λ key id. ap (λ t. outstanding t key id) here ∙ counts key id) is.counts is.canisters)
 
@@ -197,7 +192,3 @@ module _ (limit : ℕ) (o : Origin) (from callee method arg : List ℕ) (n : ℕ
       let now = state_of (among kept (Call o from callee method arg n ∷ todo) p) in
       managed_delivers limit kept o from callee method arg n todo p is absent q to_it (state now is.counts refl) (counts now is.counts) canisters
   managed_ok (Err e) to_it state counts canisters = tt
-
-  pub sent_ok : {E : Type 0} (r : Result Parts E) → is_management callee ≡ false
-      → IfOk r (λ q. q ≡ answered_in callee (record { origin = o; response = no_canister callee; refund = n }) p) → IfOk r (Handled limit (Call o from callee method arg n) p)
-  sent_ok r to_none = IfOk-weaker r _ (Handled limit (Call o from callee method arg n) p) (λ q is_q kept todo is. sent_delivers limit kept o from callee method arg n todo p is absent q to_none is_q)

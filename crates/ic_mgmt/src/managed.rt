@@ -7,13 +7,13 @@ ghost use Rattle.ic_mgmt.specs.ToManagement.{IsToManagement};
 use crate::outside::handle;
 use crate::parts::{put_together, taken_apart};
 use ic_base::NoMemory;
-use ic_state::World;
+use ic_state::{MOST_INSTRUCTIONS, World};
 use std::alloc::Global;
 
 /// Carries out the call to the management canister that stands at a place of the list of messages.
 /// `limit` is the most instructions that an installation may use; nothing is charged.
 pub fn manage(alloc: Global, world: World, place: usize, limit: u64) -> Result<World, NoMemory>
-    requires limit { limit ≤ 1000000000000 }
+    requires limit { limit ≤ MOST_INSTRUCTIONS }
     requires call { MatchOption (slice_get world.messages place) ⊥ IsToManagement }
     ensures { IfOk result (λ w. (price : ℕ) → w ≡ step (managed_rules limit price) world place) }
 {

@@ -1,4 +1,4 @@
-ghost use Rattle.std.specs.Prelude.{◌≡◌, ◌++◌, [], IfOk, OnOk};
+ghost use Rattle.std.specs.Prelude.{◌≡◌, [], IfOk};
 ghost use Rattle.ic_mgmt.specs.Sweeping.{among};
 
 use ic_base::NoMemory;
@@ -33,14 +33,6 @@ pub fn taken_apart(alloc: Global, parts: Parts) -> (Parts, Messages)
     (rest, messages)
 }
 
-fn append(messages: &mut Messages, more: Messages) -> Result<(), NoMemory>
-    ensures { OnOk result (messages.new ≡ messages.old ++ more) }
-{
-    let Messages { items: mut more } = more;
-    messages.items.append(&mut more)?;
-    Ok(())
-}
-
 /// The parts with messages before their own.
 pub fn put_together(kept: Messages, rest: Parts) -> Result<Parts, NoMemory>
     ensures { IfOk result (λ p. p ≡ among kept [] rest) }
@@ -55,7 +47,7 @@ pub fn put_together(kept: Messages, rest: Parts) -> Result<Parts, NoMemory>
         burned,
         next_canister,
     } = rest;
-    append(&mut kept, messages)?;
+    kept.append(messages)?;
     Ok(Parts {
         canisters,
         messages: kept,

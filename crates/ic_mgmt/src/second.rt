@@ -11,7 +11,7 @@ use crate::sweep::Sweep;
 use ic_base::NoMemory;
 use ic_calls::callee;
 use ic_principal::Principal;
-use ic_state::{CanisterPlace, Message, Parts, World};
+use ic_state::{CanisterPlace, MOST_INSTRUCTIONS, Message, Parts, World};
 use std::alloc::Global;
 use std::collections::BTreeMap;
 
@@ -38,7 +38,6 @@ fn all_inside(parts: &Parts) -> bool
 
 // Goes past all messages.
 fn all_met(alloc: Global, parts: Parts, limit: u64) -> Result<Sweep, NoMemory>
-    requires limit { limit ≤ 1000000000000 }
     requires keeps { IsWorld parts }
     ensures reaches { IfOk result (λ w. Reaches limit parts w.kept [] w.rest w.handled) }
     ensures few { IfOk result (λ w. w.handled < 2 ^ 63) }
@@ -53,7 +52,6 @@ fn all_met(alloc: Global, parts: Parts, limit: u64) -> Result<Sweep, NoMemory>
 
 // The second phase in one pass, which makes the list anew.
 fn swept(alloc: Global, world: World, limit: u64) -> Result<(World, u64), NoMemory>
-    requires limit { limit ≤ 1000000000000 }
     ensures state { IfOk result (λ r. (price : ℕ)
         → r.0 ≡ along (managed_rules limit price) world (second_phase (managed_rules limit price) world)) }
     ensures handled { IfOk result (λ r. (price : ℕ)
@@ -77,7 +75,7 @@ fn swept(alloc: Global, world: World, limit: u64) -> Result<(World, u64), NoMemo
 /// were handled. Nothing is charged, whatever an instruction costs. `limit` is the most instructions
 /// that one execution, or one installation, may use.
 pub fn outside_turns(alloc: Global, world: World, limit: u64) -> Result<(World, u64), NoMemory>
-    requires limit { limit ≤ 1000000000000 }
+    requires limit { limit ≤ MOST_INSTRUCTIONS }
     ensures state { IfOk result (λ r. (price : ℕ)
         → r.0 ≡ along (managed_rules limit price) world (second_phase (managed_rules limit price) world)) }
     ensures handled { IfOk result (λ r. (price : ℕ)

@@ -1,13 +1,12 @@
 ghost use Rattle.std.specs.Prelude.{◌≡◌, ◌+◌, ◌<◌, ◌≤◌, ◌∷◌, ℕ, List, [], true, false, IfOk};
 ghost use Rattle.ic_behaviour.specs.declared.call.Message.{Message as AMessage};
 ghost use Rattle.ic_state.specs.declared.world.Parts.{Parts as TheParts};
-ghost use Rattle.ic_runs.specs.Steps.{sender_of};
 ghost use Rattle.ic_mgmt.specs.Sweeping.{stays, Meets, Reaches};
 ghost use Rattle.ic_mgmt.specs.Ways.{HasWays};
 
 use crate::outside::handle;
 use ic_base::NoMemory;
-use ic_calls::callee;
+use ic_calls::{callee, sender};
 use ic_principal::Principal;
 use ic_state::{Message, Messages, Parts};
 use std::alloc::Global;
@@ -22,15 +21,6 @@ pub struct Sweep {
     /// All else: its messages are the new ones.
     pub rest: Parts,
     pub handled: u64,
-}
-
-fn sender(message: &Message) -> Principal
-    ensures { result ≡ sender_of message.now }
-{
-    match message {
-        Message::Call { sender, .. } => *sender,
-        Message::Answer { sender, .. } => *sender,
-    }
 }
 
 impl Sweep {
@@ -86,7 +76,6 @@ impl Sweep {
     }
 
     fn handle(self, alloc: Global, message: Message, limit: u64) -> Result<Sweep, NoMemory>
-        requires limit { limit ≤ 1000000000000 }
         requires ways { HasWays self.left self.kept }
         requires few { self.handled < 18446744073709551615 }
         requires next { Meets self.kept message self.rest }
@@ -114,7 +103,6 @@ impl Sweep {
 
     /// Goes past a message.
     pub fn meet(self, alloc: Global, message: Message, limit: u64) -> Result<Sweep, NoMemory>
-        requires limit { limit ≤ 1000000000000 }
         requires ways { HasWays self.left self.kept }
         requires few { self.handled < 18446744073709551615 }
         requires next { Meets self.kept message self.rest }

@@ -15,5 +15,7 @@ mod queued;
 mod rounds;
 mod second;
 
+pub use ic_rounds::Crew;
+pub use ic_state::Charge;
 pub use queued::QueuedWorld;
 pub use rounds::{round, run_rounds};

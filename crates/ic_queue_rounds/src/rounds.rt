@@ -10,7 +10,8 @@ use crate::second::outside_turns;
 use ic_base::NoMemory;
 use ic_outside::Gate;
 use ic_round::{round as round_over_list, run_rounds as rounds_over_list};
-use ic_state::World;
+use ic_rounds::{Crew, MOST_WORKERS};
+use ic_state::{Charge, MOST_INSTRUCTIONS, World};
 use std::alloc::Global;
 use std::thread::Threads;
 
@@ -25,41 +26,31 @@ const SHORT: usize = 64;
 /// A round over queues.
 pub fn round<R: Threads + Sync, G: Gate + Sync>(
     alloc: Global,
-    rt: &R,
     world: QueuedWorld,
-    workers: u32,
-    limit: u64,
-    price: u64,
-    gate: &G,
+    crew: &Crew<'_, R, G>,
+    charge: Charge,
 ) -> Result<QueuedWorld, NoMemory>
-    requires workers { (0 < workers) × (workers ≤ 64) }
-    requires limit { limit ≤ 1000000000000 }
     ensures { IfOk result (λ w. w
-        ≡ along (managed_rules limit price) world
-        (round (managed_rules limit price) world)) }
+        ≡ along (managed_rules charge.limit charge.price) world
+        (round (managed_rules charge.limit charge.price) world)) }
 {
-    let world = canister_turns(alloc, rt, world, workers, limit, price, gate)?;
-    outside_turns(alloc, world, limit)
+    let world = canister_turns(alloc, world, crew, charge)?;
+    outside_turns(alloc, world, charge)
 }
 
 // Up to `count` rounds over queues.
 fn queued_rounds<R: Threads + Sync, G: Gate + Sync>(
     alloc: Global,
-    rt: &R,
     world: QueuedWorld,
     count: u32,
-    workers: u32,
-    limit: u64,
-    price: u64,
-    gate: &G,
+    crew: &Crew<'_, R, G>,
+    charge: Charge,
 ) -> Result<(QueuedWorld, u32), NoMemory>
-    requires workers { (0 < workers) × (workers ≤ 64) }
-    requires limit { limit ≤ 1000000000000 }
     ensures state { IfOk result (λ r. r.0
-        ≡ along (managed_rules limit price) world
-        (concat (rounds (managed_rules limit price) count world))) }
+        ≡ along (managed_rules charge.limit charge.price) world
+        (concat (rounds (managed_rules charge.limit charge.price) count world))) }
     ensures made { IfOk result (λ r. r.1
-        ≡ length (rounds (managed_rules limit price) count world)) }
+        ≡ length (rounds (managed_rules charge.limit charge.price) count world)) }
     ensures few { IfOk result (λ r. r.1 ≤ count) }
 {
     let mut world = world;
@@ -67,7 +58,7 @@ fn queued_rounds<R: Threads + Sync, G: Gate + Sync>(
         if world.is_empty() {
             return Ok((world, made));
         }
-        world = round(alloc, rt, world, workers, limit, price, gate)?;
+        world = round(alloc, world, crew, charge)?;
     }
     Ok((world, count))
 }
@@ -84,22 +75,17 @@ fn has_few_messages(world: &World) -> bool
 // of `count` rounds.
 fn short_rounds<R: Threads + Sync, G: Gate + Sync>(
     alloc: Global,
-    rt: &R,
     world: World,
     count: u32,
-    workers: u32,
-    limit: u64,
-    price: u64,
-    gate: &G,
+    crew: &Crew<'_, R, G>,
+    charge: Charge,
 ) -> Result<(World, u32), NoMemory>
-    requires workers { (0 < workers) × (workers ≤ 64) }
-    requires limit { limit ≤ 1000000000000 }
     ensures state { IfOk result (λ r.
-        along (managed_rules limit price) r.0 (concat (rounds (managed_rules limit price) (count - r.1) r.0))
-        ≡ along (managed_rules limit price) world (concat (rounds (managed_rules limit price) count world))) }
+        along (managed_rules charge.limit charge.price) r.0 (concat (rounds (managed_rules charge.limit charge.price) (count - r.1) r.0))
+        ≡ along (managed_rules charge.limit charge.price) world (concat (rounds (managed_rules charge.limit charge.price) count world))) }
     ensures made { IfOk result (λ r.
-        r.1 + length (rounds (managed_rules limit price) (count - r.1) r.0)
-        ≡ length (rounds (managed_rules limit price) count world)) }
+        r.1 + length (rounds (managed_rules charge.limit charge.price) (count - r.1) r.0)
+        ≡ length (rounds (managed_rules charge.limit charge.price) count world)) }
     ensures few { IfOk result (λ r. r.1 ≤ count) }
 {
     let mut world = world;
@@ -107,7 +93,15 @@ fn short_rounds<R: Threads + Sync, G: Gate + Sync>(
         if !has_few_messages(&world) {
             return Ok((world, made));
         }
-        let (next, _) = round_over_list(alloc, rt, world, workers, limit, price, gate)?;
+        let (next, _) = round_over_list(
+            alloc,
+            crew.rt,
+            world,
+            crew.workers,
+            charge.limit,
+            charge.price,
+            crew.gate,
+        )?;
         world = next;
     }
     Ok((world, count))
@@ -116,28 +110,23 @@ fn short_rounds<R: Threads + Sync, G: Gate + Sync>(
 // Up to `count` rounds over queues, whose messages are put into them first and given back at the end.
 fn long_rounds<R: Threads + Sync, G: Gate + Sync>(
     alloc: Global,
-    rt: &R,
     world: World,
     count: u32,
-    workers: u32,
-    limit: u64,
-    price: u64,
-    gate: &G,
+    crew: &Crew<'_, R, G>,
+    charge: Charge,
 ) -> Result<(World, u32), NoMemory>
-    requires workers { (0 < workers) × (workers ≤ 64) }
-    requires limit { limit ≤ 1000000000000 }
     ensures state { IfOk result (λ r. r.0
-        ≡ along (managed_rules limit price) world
-        (concat (rounds (managed_rules limit price) count world))) }
+        ≡ along (managed_rules charge.limit charge.price) world
+        (concat (rounds (managed_rules charge.limit charge.price) count world))) }
     ensures made { IfOk result (λ r. r.1
-        ≡ length (rounds (managed_rules limit price) count world)) }
+        ≡ length (rounds (managed_rules charge.limit charge.price) count world)) }
     ensures few { IfOk result (λ r. r.1 ≤ count) }
 {
     if world.parts().messages.is_empty() {
         return Ok((world, 0));
     }
     let world = QueuedWorld::new(alloc, world)?;
-    let (world, made) = queued_rounds(alloc, rt, world, count, workers, limit, price, gate)?;
+    let (world, made) = queued_rounds(alloc, world, count, crew, charge)?;
     Ok((world.into_world(alloc)?, made))
 }
 
@@ -152,8 +141,8 @@ pub fn run_rounds<R: Threads + Sync, G: Gate + Sync>(
     price: u64,
     gate: &G,
 ) -> Result<(World, u32), NoMemory>
-    requires workers { (0 < workers) × (workers ≤ 64) }
-    requires limit { limit ≤ 1000000000000 }
+    requires workers { (0 < workers) × (workers ≤ MOST_WORKERS) }
+    requires limit { limit ≤ MOST_INSTRUCTIONS }
     ensures state { IfOk result (λ r. r.0
         ≡ along (managed_rules limit price) world
         (concat (rounds (managed_rules limit price) count world))) }
@@ -163,7 +152,9 @@ pub fn run_rounds<R: Threads + Sync, G: Gate + Sync>(
     if count < FEW {
         return rounds_over_list(alloc, rt, world, count, workers, limit, price, gate);
     }
-    let (world, made) = short_rounds(alloc, rt, world, count, workers, limit, price, gate)?;
-    let (world, more) = long_rounds(alloc, rt, world, count - made, workers, limit, price, gate)?;
+    let crew = Crew { rt, workers, gate };
+    let charge = Charge { limit, price };
+    let (world, made) = short_rounds(alloc, world, count, &crew, charge)?;
+    let (world, more) = long_rounds(alloc, world, count - made, &crew, charge)?;
     Ok((world, made + more))
 }

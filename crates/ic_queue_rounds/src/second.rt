@@ -1,4 +1,4 @@
-ghost use Rattle.std.specs.Prelude.{◌≡◌, ◌≤◌, ℕ, List, [], true, IfOk};
+ghost use Rattle.std.specs.Prelude.{◌≡◌, ℕ, List, [], true, IfOk};
 ghost use Rattle.std.specs.List.{AllByRecursion};
 ghost use Rattle.ic_behaviour.specs.declared.call.Message.{Message as AMessage};
 ghost use Rattle.ic_state.specs.declared.world.Parts.{Parts as TheParts};
@@ -11,7 +11,7 @@ ghost use Rattle.ic_queue_rounds.specs.Passing.{Passing, IsPassing};
 use crate::queued::QueuedWorld;
 use ic_base::NoMemory;
 use ic_mgmt::{handle, outside_turns as turns_over_list, taken_apart};
-use ic_state::{Message, Parts};
+use ic_state::{Charge, Message, Parts};
 use std::alloc::Global;
 
 // Handles messages to no canister, in their order; what they send comes into the list of the parts.
@@ -21,7 +21,6 @@ fn all_handled(
     outs: Vec<Message>,
     limit: u64,
 ) -> Result<Parts, NoMemory>
-    requires limit { limit ≤ 1000000000000 }
     requires passing { IsPassing limit outs.items rest }
     ensures { IfOk result (λ q. (start : TheParts) (inside : List AMessage)
         → Passing limit start inside outs.items rest → Passing limit start inside [] q) }
@@ -35,7 +34,6 @@ fn all_handled(
 
 // The second phase where no canister is made or deleted.
 fn steady_turns(alloc: Global, world: QueuedWorld, limit: u64) -> Result<QueuedWorld, NoMemory>
-    requires limit { limit ≤ 1000000000000 }
     requires steady { AllByRecursion (λ m. is_steady m ≡ true) world.messages }
     ensures { IfOk result (λ w. (price : ℕ)
         → w ≡ along (managed_rules limit price) world (second_phase (managed_rules limit price) world)) }
@@ -49,25 +47,27 @@ fn steady_turns(alloc: Global, world: QueuedWorld, limit: u64) -> Result<QueuedW
 }
 
 // The second phase by the list.
-fn listed_turns(alloc: Global, world: QueuedWorld, limit: u64) -> Result<QueuedWorld, NoMemory>
-    requires limit { limit ≤ 1000000000000 }
+fn listed_turns(alloc: Global, world: QueuedWorld, charge: Charge) -> Result<QueuedWorld, NoMemory>
     ensures { IfOk result (λ w. (price : ℕ)
-        → w ≡ along (managed_rules limit price) world (second_phase (managed_rules limit price) world)) }
+        → w ≡ along (managed_rules charge.limit price) world (second_phase (managed_rules charge.limit price) world)) }
 {
-    let (world, _) = turns_over_list(alloc, world.into_world(alloc)?, limit)?;
+    let (world, _) = turns_over_list(alloc, world.into_world(alloc)?, charge.limit)?;
     QueuedWorld::new(alloc, world)
 }
 
 /// The second phase of a round, as that of `ic_mgmt`: the messages to no canister are taken out of their
 /// queue, unless one of these may make or delete a canister. Then it is a pass over the list.
-pub fn outside_turns(alloc: Global, world: QueuedWorld, limit: u64) -> Result<QueuedWorld, NoMemory>
-    requires limit { limit ≤ 1000000000000 }
+pub fn outside_turns(
+    alloc: Global,
+    world: QueuedWorld,
+    charge: Charge,
+) -> Result<QueuedWorld, NoMemory>
     ensures { IfOk result (λ w. (price : ℕ)
-        → w ≡ along (managed_rules limit price) world (second_phase (managed_rules limit price) world)) }
+        → w ≡ along (managed_rules charge.limit price) world (second_phase (managed_rules charge.limit price) world)) }
 {
     if world.is_steady() {
-        steady_turns(alloc, world, limit)
+        steady_turns(alloc, world, charge.limit)
     } else {
-        listed_turns(alloc, world, limit)
+        listed_turns(alloc, world, charge)
     }
 }

@@ -1,7 +1,7 @@
 use crate::asks::{Ask, creation, installation};
 use ic_outside::OpenGate;
 use ic_principal::Principal;
-use ic_queue_rounds::{QueuedWorld, round, run_rounds};
+use ic_queue_rounds::{Charge, Crew, QueuedWorld, round, run_rounds};
 use ic_round::run_rounds as rounds_over_list;
 use ic_state::World;
 use std::alloc::Global;
@@ -47,8 +47,17 @@ fn over_queues<R: Threads + Sync>(
     count: u32,
 ) -> Option<World> {
     let mut world = QueuedWorld::new(alloc, world).ok()?;
+    let crew = Crew {
+        rt,
+        workers: 2,
+        gate: &OpenGate,
+    };
+    let charge = Charge {
+        limit: LIMIT,
+        price: 1,
+    };
     for _ in 0..count {
-        world = round(alloc, rt, world, 2, LIMIT, 1, &OpenGate).ok()?;
+        world = round(alloc, world, &crew, charge).ok()?;
     }
     world.into_world(alloc).ok()
 }

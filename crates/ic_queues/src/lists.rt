@@ -1,7 +1,6 @@
 ghost use Rattle.std.specs.Prelude.{◌≡◌, ◌&&◌, OnOk};
 ghost use Rattle.std.specs.Map.{lookup};
 ghost use Rattle.ic_behaviour.specs.State.{at};
-ghost use Rattle.ic_behaviour.specs.Deliver.{is_management};
 ghost use Rattle.ic_queues.specs.Queued.{may_change_canisters, is_steady, first_to, without_first_to, push};
 ghost use Rattle.ic_queues.specs.Lines.{remove_number, numbered, waiting_with, outside_with, popped_line, line_at};
 ghost use Rattle.ic_queues.specs.InLists.{queued_of, AreQueued};
@@ -9,7 +8,7 @@ ghost use Rattle.ic_queues.specs.InLists.{queued_of, AreQueued};
 use crate::line::Line;
 use crate::shelf::Shelf;
 use ic_base::NoMemory;
-use ic_calls::callee;
+use ic_calls::{callee, is_management};
 use ic_principal::Principal;
 use ic_state::{Message, MessagePlace};
 use std::alloc::Global;
@@ -38,13 +37,6 @@ fn is_steady(message: &Message) -> bool
         }
         Message::Answer { .. } => true,
     }
-}
-
-// The management canister has no bytes.
-fn is_management(callee: &Principal) -> bool
-    ensures { result ≡ is_management callee.now }
-{
-    callee.bytes().is_empty()
 }
 
 // Whether a method of the management canister makes or deletes canisters.

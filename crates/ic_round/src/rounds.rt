@@ -7,8 +7,8 @@ ghost use Rattle.ic_management.specs.Managed.{managed_rules};
 use ic_base::NoMemory;
 use ic_mgmt::outside_turns;
 use ic_outside::Gate;
-use ic_rounds::canister_turns;
-use ic_state::World;
+use ic_rounds::{MOST_WORKERS, canister_turns};
+use ic_state::{MOST_INSTRUCTIONS, World};
 use std::alloc::Global;
 use std::thread::Threads;
 
@@ -27,8 +27,8 @@ pub fn round<R: Threads + Sync, G: Gate + Sync>(
     price: u64,
     gate: &G,
 ) -> Result<(World, u64), NoMemory>
-    requires workers { (0 < workers) × (workers ≤ 64) }
-    requires limit { limit ≤ 1000000000000 }
+    requires workers { (0 < workers) × (workers ≤ MOST_WORKERS) }
+    requires limit { limit ≤ MOST_INSTRUCTIONS }
     ensures state { IfOk result (λ r. r.0
         ≡ along (managed_rules limit price) world
         (round (managed_rules limit price) world)) }
@@ -51,8 +51,8 @@ pub fn run_rounds<R: Threads + Sync, G: Gate + Sync>(
     price: u64,
     gate: &G,
 ) -> Result<(World, u32), NoMemory>
-    requires workers { (0 < workers) × (workers ≤ 64) }
-    requires limit { limit ≤ 1000000000000 }
+    requires workers { (0 < workers) × (workers ≤ MOST_WORKERS) }
+    requires limit { limit ≤ MOST_INSTRUCTIONS }
     ensures state { IfOk result (λ r. r.0
         ≡ along (managed_rules limit price) world
         (concat (rounds (managed_rules limit price) count world))) }

@@ -8,6 +8,7 @@ use Rattle.ic_rounds.specs.contracts.slot.Slot as slot
 use Rattle.ic_rounds.proofs.slot.Slot.TheSendSync as slot_sends
 use Rattle.ic_rounds.specs.contracts.turn.Turn as turn
 use Rattle.ic_rounds.proofs.turn.Turn.TheSendSync as turn_sends
+use Rattle.ic_rounds.proofs.permit.Permit.TheSendSync as permit_sends
 use Rattle.ic_rounds.specs.contracts.filed.Filed as filed
 use Rattle.ic_rounds.specs.contracts.filed.Filed.TheInside as inside
 use Rattle.ic_rounds.specs.contracts.worker.Worker as worker
@@ -20,7 +21,7 @@ filed_send =
     view_send inside.the_row _ _ _ _
     (recorded_send (inside.the_field).row _ _ (inside.the_type).to_one
     (struct_send (declared.shape inside.the_type) (
-      plain_send _ _ _ _ _,
+      permit_sends.the_field_send,
       (
         search (turn_send, crosses, sendable) depth 60 fits 20000,
         (

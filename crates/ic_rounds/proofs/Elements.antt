@@ -44,11 +44,11 @@ module _ {X : Type 0} where
   zip-halves R xs front back us vs after cut same first second =
       subst (λ l. AllZip R l after) (sym cut) (subst (AllZip R (front ++ back)) (sym same) (zip-append R front back us vs first second))
 
-  pub zip-after : (P : X → Type 0) (xs ys : List X) → AllZip (λ x y. P y) xs ys → AllByRecursion P ys
-  zip-after P [] [] all = tt
-  zip-after P [] (y ∷ ys) all = absurd all
-  zip-after P (x ∷ xs) [] all = absurd all
-  zip-after P (x ∷ xs) (y ∷ ys) all = (all.0, zip-after P xs ys all.1)
+  pub zip-after : (R : X → X → Type 0) (P : X → Type 0) → ((x y : X) → R x y → P y) → (xs ys : List X) → AllZip R xs ys → AllByRecursion P ys
+  zip-after R P weaker [] [] all = tt
+  zip-after R P weaker [] (y ∷ ys) all = absurd all
+  zip-after R P weaker (x ∷ xs) [] all = absurd all
+  zip-after R P weaker (x ∷ xs) (y ∷ ys) all = (weaker x y all.0, zip-after R P weaker xs ys all.1)
 
   pub take-front : (n : ℕ) (xs ys : List X) → n ≡ length xs → take n (xs ++ ys) ≡ xs
   take-front zero [] ys same = refl

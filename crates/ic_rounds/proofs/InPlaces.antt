@@ -1,6 +1,6 @@
 -- First messages that are handled where their canisters stand.
 use Rattle.std.proofs.Common.{◌≡◌, ℕ, ◌+◌, false, List, [], ◌∷◌, ◌++◌, map, Some, refl, sym, ap, ◌∙◌, subst, inl, inr, arith}
-use Rattle.std.specs.List.{AllByRecursion, flat_map, fold}
+use Rattle.std.specs.List.{AllByRecursion, fold}
 use Rattle.std.specs.Map.{lookup, keys_of, set_value}
 use Rattle.std.proofs.lemmas.Bool.{cases_Bool, cond-false}
 use Rattle.std.proofs.lemmas.Map.{lookup-set_value}
@@ -8,19 +8,18 @@ use Rattle.std.proofs.lemmas.Map.Keys.{IsDistinct-tail, IsDistinct-head}
 use Rattle.ic_behaviour.specs.declared.call.Message.{Message}
 use Rattle.ic_behaviour.specs.declared.env.Env.{Env}
 use Rattle.ic_behaviour.specs.State.{at}
-use Rattle.ic_behaviour.specs.Closing.{Handled}
-use Rattle.ic_behaviour.specs.Deliver.{filled, routed}
 use Rattle.ic_behaviour.proofs.Weights.{laws}
 use Rattle.ic_state.specs.declared.canister.Canister.{Canister}
 use Rattle.ic_state.specs.declared.world.Parts.{Parts}
 use Rattle.ic_state.specs.Seen.{seen}
 use Rattle.ic_state.specs.IsCanister.{IsCanister}
-use Rattle.ic_exec.specs.declared.work.Done.{Done}
-use Rattle.ic_calls.specs.Sent.{sent_from}
+use Rattle.ic_exec.specs.Executed.{done_of}
+use Rattle.ic_deliver.specs.Giving.{CanTake}
+use Rattle.ic_deliver.specs.Delivered.{HasHandled}
 use Rattle.ic_rounds.specs.declared.slot.Slot.{Slot}
 use Rattle.ic_rounds.specs.Dealing.{AreFirsts, slots_of, pairs_of, IsTheirs}
 use Rattle.ic_rounds.specs.Settling.{Stored, seen_entry, stored_of, slot_of, ran, settle, put_in, settle_in, AreReady, AreCanisters}
-use Rattle.ic_rounds.specs.InPlace.{slot_at, HasHandled, IsNext, HasGone, AreLeft}
+use Rattle.ic_rounds.specs.InPlace.{slot_at, IsNext, HasGone, AreLeft}
 use Rattle.ic_rounds.proofs.Dealings.{pairs, theirs}
 
 -- ---- the map of canisters
@@ -35,56 +34,31 @@ each-set key (e ∷ es) c keeps all = elim (cases_Bool (at key e.0)) [ inl here 
 
 -- ---- one message
 
--- the parts once its canister has handled it, before what it sends goes on
-pub record IsHandled (before : Parts) (d : Done) (back : Parts) : Type 0 where
-  pub messages : back.messages ≡ before.messages
-  pub requests : back.requests ≡ before.requests
-  pub time : back.time ≡ before.time
-  pub created : back.created ≡ before.created
-  pub burned : back.burned ≡ before.burned + d.burned
-  pub next_canister : back.next_canister ≡ before.next_canister
+module _ (env : Env) (before after : Parts) (key : List ℕ) (m : Message) (next : IsNext env before key m) where
+  pub takes : (c : Canister) → lookup (at key) before.canisters.entries ≡ Some c → CanTake env before.burned c m
+  takes c found =
+      let both : Some next.canister ≡ Some c = sym next.there ∙ found in
+      let same : next.canister ≡ c = cc in
+      subst (λ (x : Canister). CanTake env before.burned x m) same (record { handles = next.ready; room = next.room })
 
-module _ (env : Env) (before back after : Parts) (key : List ℕ) (m : Message) (d : Done)
-    (handled : HasHandled env before.canisters.entries key m d back.canisters.entries) (rest : IsHandled before d back) (sent : after ≡ sent_from key d.calls d.answers back) where
-  abbrev h : Handled
-  h = ran env (slot_of (slot_at key handled.before m))
+  module _ (went : HasHandled env key next.canister m before after) where
+    stored : stored_of after ≡ settle_in env (stored_of before) (slot_of (slot_at key next.canister m))
+    stored =
+        let there : map seen_entry after.canisters.entries ≡ set_value (at key) (map seen_entry before.canisters.entries) (seen went.after) =
+        ap (map seen_entry) went.entries ∙ seen-set key before.canisters.entries went.after in
+        ap stored_of went.sent ∙ (λ i. record (put_in (stored_of before) key (done_of went.after went.done)) { canisters = there i }) ∙ ap (put_in (stored_of before) key) went.handled
 
-  stored : stored_of after ≡ put_in (stored_of before) key h
-  stored =
-      let done = handled.done in
-      let canister : seen handled.after ≡ h.canister = ap (λ (x : Handled). x.canister) done in
-      let calls : d.calls ≡ h.calls = ap (λ (x : Handled). x.calls) done in
-      let answers : d.answers ≡ h.answers = ap (λ (x : Handled). x.answers) done in
-      let burned : back.burned ≡ before.burned + h.burned = rest.burned ∙ ap (λ (x : Handled). before.burned + x.burned) done in
-      let canisters : map seen_entry back.canisters.entries ≡ set_value (at key) (map seen_entry before.canisters.entries) h.canister =
-      ap (map seen_entry) handled.entries ∙ seen-set key before.canisters.entries handled.after ∙ ap (set_value (at key) (map seen_entry before.canisters.entries)) canister in
-      let messages : back.messages ++ d.calls ++ flat_map (routed key) d.answers ≡ before.messages ++ h.calls ++ flat_map (routed key) h.answers =
-      λ i. rest.messages i ++ calls i ++ flat_map (routed key) (answers i) in
-      let requests : fold filled back.requests d.answers ≡ fold filled before.requests h.answers = λ i. fold filled (rest.requests i) (answers i) in
-      let time = rest.time in
-      let created = rest.created in
-      let next = rest.next_canister in
-      ap stored_of sent ∙ (λ i. record {
-        canisters = canisters i;
-        messages = messages i;
-        requests = requests i;
-        time = time i;
-        created = created i;
-        burned = burned i;
-        next_canister = next i;
-      })
+    pub gone : HasGone env before key m after
+    gone = record {
+      canister = next.canister;
+      there = next.there;
+      stored = stored;
+      others = λ k apart. ap (lookup (at k)) went.entries
+          ∙ lookup-set_value laws (at key) (λ x y e. laws.congr key x y e) k went.after before.canisters.entries (rw next.there refl) ∙ cond-false _ _ _ apart;
+    }
 
-  pub gone : HasGone env before key m after
-  gone = record {
-    canister = handled.before;
-    there = handled.there;
-    stored = stored;
-    others = λ k apart. ap (λ (q : Parts). lookup (at k) q.canisters.entries) sent ∙ ap (lookup (at k)) handled.entries
-        ∙ lookup-set_value laws (at key) (λ x y e. laws.congr key x y e) k handled.after before.canisters.entries (rw handled.there refl) ∙ cond-false _ _ _ apart;
-  }
-
-  pub gone_keep : AreCanisters before → AreCanisters after
-  gone_keep keep = subst AreCanisters (sym sent) (subst (AllByRecursion (λ (e : List ℕ × Canister). IsCanister e.1)) (sym handled.entries) (each-set key before.canisters.entries handled.after handled.keeps keep))
+    pub gone_keep : AreCanisters before → AreCanisters after
+    gone_keep keep = subst (AllByRecursion (λ (e : List ℕ × Canister). IsCanister e.1)) (sym went.entries) (each-set key before.canisters.entries went.after went.keeps keep)
 
 -- ---- one after another
 

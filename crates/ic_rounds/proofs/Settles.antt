@@ -1,7 +1,7 @@
 -- Slots that are handled one after another.
 use Rattle.std.proofs.Common.{◌≡◌, ℕ, ◌+◌, ◌-◌, ◌<◌, ◌≤◌, ◌^◌, List, [], ◌∷◌, ◌++◌, map, length, take, refl, sym, ap, ◌∙◌, subst, arith, not-suc-le-zero}
 use Rattle.std.specs.Prelude.{get_or}
-use Rattle.std.specs.List.{fold, flat_map, AllByRecursion, AllZip}
+use Rattle.std.specs.List.{fold, AllByRecursion, AllZip}
 use Rattle.std.specs.BTreeMap.{BTreeMap, insert_entry}
 use Rattle.std.specs.declared.cmp.Ordering.{Ordering}
 use Rattle.std.specs.declared.cmp.Ordering.TheVariants.{Less, Equal, Greater}
@@ -9,16 +9,16 @@ use Rattle.std.specs.Ordering.{nat_cmp, match_ordering}
 use Rattle.std.specs.Cmp.Lexicographic.{slice_cmp}
 use Rattle.std.proofs.lemmas.List.Sums.{fold-append}
 use Rattle.ic_behaviour.specs.declared.env.Env.{Env}
-use Rattle.ic_behaviour.specs.Deliver.{filled, routed}
+use Rattle.ic_behaviour.specs.Closing.{Handled}
 use Rattle.ic_state.specs.declared.canister.Canister.{Canister as StoredCanister}
 use Rattle.ic_state.specs.declared.world.Parts.{Parts}
 use Rattle.ic_state.specs.Seen.{seen}
 use Rattle.ic_state.specs.IsCanister.{IsCanister}
-use Rattle.ic_calls.specs.Sent.{sent_from}
+use Rattle.ic_deliver.specs.Delivered.{with_sent}
 use Rattle.ic_rounds.specs.declared.slot.Slot.{Slot as StoredSlot}
 use Rattle.ic_rounds.specs.declared.turn.Turn.{Turn}
 use Rattle.ic_rounds.specs.Turns.{IsTurn, put_turn, insert_all, AreTurns}
-use Rattle.ic_rounds.specs.Settling.{Stored, seen_entry, stored_of, slot_of, settle, IsReady, AreReady, AreCanisters, IsBack}
+use Rattle.ic_rounds.specs.Settling.{Stored, seen_entry, stored_of, slot_of, put, settle, IsReady, AreReady, AreCanisters}
 
 -- ---- the map of canisters
 
@@ -45,32 +45,18 @@ each-insert P (e ∷ es) k c here all = by (slice_cmp nat_cmp k e.0) (each-inser
 
 -- ---- one slot
 
-pub put-is : (before back after : Parts) (x : Turn) → IsBack before x.key x.canister x.burned back → after ≡ sent_from x.key x.calls x.answers back
-    → stored_of after ≡ put_turn (stored_of before) x
-put-is before back after x back_is after_is =
-    let canisters : map seen_entry back.canisters.entries ≡ insert_entry (slice_cmp nat_cmp) (map seen_entry before.canisters.entries) x.key (seen x.canister) =
-    ap (map seen_entry) back_is.canisters ∙ seen-insert before.canisters.entries x.key x.canister in
-    let messages = back_is.messages in
-    let requests = back_is.requests in
-    let time = back_is.time in
-    let created = back_is.created in
-    let burned = back_is.burned in
-    let next = back_is.next_canister in
-    ap stored_of after_is ∙ (λ i. record {
-      canisters = canisters i;
-      messages = messages i ++ x.calls ++ flat_map (routed x.key) x.answers;
-      requests = fold filled (requests i) x.answers;
-      time = time i;
-      created = created i;
-      burned = burned i;
-      next_canister = next i;
-    })
+module _ (before after : Parts) (x : Turn) (m : BTreeMap (List ℕ) StoredCanister) (back : m.entries ≡ insert_entry (slice_cmp nat_cmp) before.canisters.entries x.key x.canister)
+    (sent : after ≡ with_sent x.key x.done (record before { canisters = m })) where
+  pub put-is : stored_of after ≡ put_turn (stored_of before) x
+  put-is =
+      let canisters : map seen_entry m.entries ≡ insert_entry (slice_cmp nat_cmp) (map seen_entry before.canisters.entries) x.key (seen x.canister) =
+      ap (map seen_entry) back ∙ seen-insert before.canisters.entries x.key x.canister in
+      ap stored_of sent ∙ (λ i. record (put_turn (stored_of before) x) { canisters = canisters i })
 
-pub keep-is : (before back after : Parts) (x : Turn) → IsCanister x.canister → AreCanisters before → IsBack before x.key x.canister x.burned back
-    → after ≡ sent_from x.key x.calls x.answers back → AreCanisters after
-keep-is before back after x keeps all back_is after_is =
-    subst AreCanisters (sym after_is)
-    (subst (AllByRecursion (λ (e : List ℕ × StoredCanister). IsCanister e.1)) (sym back_is.canisters) (each-insert IsCanister before.canisters.entries x.key x.canister keeps all))
+  pub keep-is : IsCanister x.canister → AreCanisters before → AreCanisters after
+  keep-is keeps all =
+      subst AreCanisters (sym sent)
+      (subst (AllByRecursion (λ (e : List ℕ × StoredCanister). IsCanister e.1)) (sym back) (each-insert IsCanister before.canisters.entries x.key x.canister keeps all))
 
 -- ---- the map is made at the end
 
@@ -88,16 +74,12 @@ Aside-none p none = record {
 }
 
 pub Aside-more : (w : Stored) (turns : List Turn) (p after : Parts) (pairs : List (List ℕ × StoredCanister)) (x : Turn) → Aside w turns p pairs → IsCanister x.canister
-    → after ≡ sent_from x.key x.calls x.answers (record p { burned = p.burned + x.burned }) → Aside w (turns ++ x ∷ []) after (pairs ++ (x.key, x.canister) ∷ [])
+    → after ≡ with_sent x.key x.done p → Aside w (turns ++ x ∷ []) after (pairs ++ (x.key, x.canister) ∷ [])
 Aside-more w turns p after pairs x so_far keeps after_is =
     let put_more = sym (fold-append put_turn w turns (x ∷ [])) in
     let insert_more = fold-append (λ (es : List (List ℕ × StoredCanister)) (e : List ℕ × StoredCanister). insert_entry (slice_cmp nat_cmp) es e.0 e.1) [] pairs ((x.key, x.canister) ∷ []) in
     record {
-      others = ap stored_of after_is ∙ ap (λ (v : Stored). record v {
-        messages = v.messages ++ x.calls ++ flat_map (routed x.key) x.answers;
-        requests = fold filled v.requests x.answers;
-        burned = v.burned + x.burned;
-      }) so_far.others ∙ ap (λ (v : Stored). record v { canisters = [] }) put_more;
+      others = ap stored_of after_is ∙ ap (λ (v : Stored). record (put_turn v x) { canisters = v.canisters }) so_far.others ∙ ap (λ (v : Stored). record v { canisters = [] }) put_more;
       canisters = ap (map seen_entry) insert_more ∙ seen-insert (insert_all pairs) x.key x.canister
           ∙ ap (λ l. insert_entry (slice_cmp nat_cmp) l x.key (seen x.canister)) so_far.canisters ∙ ap (λ (v : Stored). v.canisters) put_more;
       keep = subst (AllByRecursion (λ (e : List ℕ × StoredCanister). IsCanister e.1)) (sym insert_more) (each-insert IsCanister (insert_all pairs) x.key x.canister keeps so_far.keep);
@@ -120,33 +102,25 @@ all-ready env w (slot ∷ slots) ready = (ready.0, all-ready env (settle env w (
 put-same : (env : Env) (w : Stored) (slot : StoredSlot) (x : Turn) → IsTurn env slot x → put_turn w x ≡ settle env w (slot_of slot)
 put-same env w slot x is =
     let key = is.key in
-    let canister = is.canister in
-    let calls = is.calls in
-    let answers = is.answers in
-    let burned = is.burned in
-    λ i. record w {
-      canisters = insert_entry (slice_cmp nat_cmp) w.canisters (key i) (canister i);
-      messages = w.messages ++ calls i ++ flat_map (routed (key i)) (answers i);
-      requests = fold filled w.requests (answers i);
-      burned = w.burned + burned i;
-    }
+    let done = is.done in
+    λ i. put w (key i) (done i)
 
 pub are_turns : (env : Env) (w : Stored) (slots : List StoredSlot) (all : List Turn) → AreReady env w slots → AllZip (IsTurn env) slots all → AreTurns w all
 are_turns env w [] [] ready zip = tt
 are_turns env w [] (y ∷ all) ready zip = absurd zip
 are_turns env w (slot ∷ slots) [] ready zip = absurd zip
 are_turns env w (slot ∷ slots) (y ∷ all) ready zip =
-    (zip.0.keeps, omega (arith, ready.1, zip.0.burned), subst (λ (v : Stored). AreTurns v all) (sym (put-same env w slot y zip.0)) (are_turns env (settle env w (slot_of slot)) slots all ready.2 zip.1))
+    (zip.0.keeps, omega (arith, ready.1, ap (λ (h : Handled). h.burned) zip.0.done), subst (λ (v : Stored). AreTurns v all) (sym (put-same env w slot y zip.0)) (are_turns env (settle env w (slot_of slot)) slots all ready.2 zip.1))
 
 pub turn_fits : (w : Stored) (all front : List Turn) (x : Turn) → AreTurns w all → length front < length all → x ≡ get_or all (length front) x → front ≡ take (length front) all
-    → IsCanister x.canister × ((fold put_turn w front).burned + x.burned ≤ 2 ^ 127 - 1)
+    → IsCanister x.canister × ((fold put_turn w front).burned + x.done.burned ≤ 2 ^ 127 - 1)
 turn_fits w [] front x turns inside is so_far = absurd (not-suc-le-zero inside)
-turn_fits w (y ∷ all) [] x turns inside is so_far = subst (λ (z : Turn). IsCanister z.canister × (w.burned + z.burned ≤ 2 ^ 127 - 1)) (sym is) (turns.0, turns.1)
+turn_fits w (y ∷ all) [] x turns inside is so_far = subst (λ (z : Turn). IsCanister z.canister × (w.burned + z.done.burned ≤ 2 ^ 127 - 1)) (sym is) (turns.0, turns.1)
 turn_fits w (y ∷ all) (z ∷ front) x turns inside is so_far =
     let first : z ≡ y = cc in
     let rest : front ≡ take (length front) all = cc in
     let more = turn_fits (put_turn w y) all front x turns.2 (omega (arith, inside)) is rest in
-    subst (λ (v : Turn). IsCanister x.canister × ((fold put_turn (put_turn w v) front).burned + x.burned ≤ 2 ^ 127 - 1)) (sym first) more
+    subst (λ (v : Turn). IsCanister x.canister × ((fold put_turn (put_turn w v) front).burned + x.done.burned ≤ 2 ^ 127 - 1)) (sym first) more
 
 pub turns_all : (env : Env) (w : Stored) (slots : List StoredSlot) (all : List Turn) → AllZip (IsTurn env) slots all → fold put_turn w all ≡ fold (settle env) w (map slot_of slots)
 turns_all env w [] [] zip = refl

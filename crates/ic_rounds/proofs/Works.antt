@@ -11,7 +11,7 @@ use Rattle.ic_rounds.specs.declared.slot.Slot.{Slot}
 use Rattle.ic_rounds.specs.declared.worker.Worker.{Worker}
 use Rattle.ic_rounds.specs.Settling.{IsReady}
 use Rattle.ic_rounds.specs.Turns.{Entry, entry}
-use Rattle.ic_rounds.specs.Workers.{entry_numbers, IsAt, IsIdle, IsDone}
+use Rattle.ic_rounds.specs.Workers.{entry_numbers, IsAt, IsBy, IsIdle, IsDone, AreNumbered}
 use Rattle.ic_rounds.proofs.Elements.{each-at, each-snoc}
 
 -- the number after the last one
@@ -30,27 +30,33 @@ after-below [] k all = omega arith
 after-below (x ∷ []) k all = let first : x < k = all 0 0 (omega arith) in omega (arith, first)
 after-below (x ∷ y ∷ ys) k all = after-below (y ∷ ys) k (λ i d inside. all (suc i) d (omega (arith, inside)))
 
+pub numbered-snoc : (n : ℕ) (ws : List Worker) (w : Worker) → AreNumbered n ws → w.number ≡ n + length ws → AreNumbered n (ws ++ w ∷ [])
+numbered-snoc n [] w all is = (omega (arith, is), tt)
+numbered-snoc n (x ∷ ws) w all is = (all.0, numbered-snoc (n + 1) ws w all.1 (omega (arith, is)))
+
 -- how far a worker is
-pub record Works (t : Tickets Slot) (env : Env) (pass : Pass Slot) (entries : List Entry) : Type 0 where
+pub record Works (t : Tickets Slot) (env : Env) (worker : ℕ) (pass : Pass Slot) (entries : List Entry) : Type 0 where
   pub own : IsOf t pass
   pub is_open : IsOpen pass
   pub numbers : entry_numbers entries ≡ numbers_of pass
   pub entries_are : AllByRecursion (IsAt (items_of t) env) entries
+  pub by : AllByRecursion (IsBy worker) entries
   pub few : length entries ≤ after_last (numbers_of pass)
   pub within : after_last (numbers_of pass) ≤ length (items_of t)
 
 module _ (t : Tickets Slot) (env : Env) where
-  pub Works-first : (w : Worker) → IsIdle t env w → Works t env w.pass w.outbox.items
+  pub Works-first : (w : Worker) → IsIdle t env w → Works t env w.number w.pass w.outbox.items
   Works-first w idle = record {
     own = idle.own;
     is_open = idle.fresh.1;
     numbers = ap entry_numbers idle.outbox ∙ sym idle.fresh.0;
     entries_are = subst (AllByRecursion (IsAt (items_of t) env)) (sym idle.outbox) tt;
+    by = subst (AllByRecursion (IsBy w.number)) (sym idle.outbox) tt;
     few = omega (arith, ap (λ (l : List Entry). length l) idle.outbox);
     within = omega (arith, ap after_last idle.fresh.0);
   }
 
-  module _ (pass new : Pass Slot) (entries : List Entry) (so_far : Works t env pass entries) (k : ℕ) (item : Slot) (draws : Draws (items_of t) pass k item new) where
+  module _ (worker : ℕ) (pass new : Pass Slot) (entries : List Entry) (so_far : Works t env worker pass entries) (k : ℕ) (item : Slot) (draws : Draws (items_of t) pass k item new) where
     below : after_last (numbers_of pass) ≤ k
     below = after-below (numbers_of pass) k draws.rises
 
@@ -64,22 +70,24 @@ module _ (t : Tickets Slot) (env : Env) where
     pub Works-ready : AllByRecursion IsReady (items_of t) → IsReady item
     Works-ready all = each-at IsReady (items_of t) k item all draws.is_item
 
-    pub Works-more : IsOf t new → (after : List Entry) → after ≡ entries ++ entry k item env ∷ [] → Works t env new after
+    pub Works-more : IsOf t new → (after : List Entry) → after ≡ entries ++ entry worker k item env ∷ [] → Works t env worker new after
     Works-more own after same =
-        let e = entry k item env in
-        subst (Works t env new) (sym same) (record {
+        let e = entry worker k item env in
+        subst (Works t env worker new) (sym same) (record {
           own = own;
           is_open = draws.is_open;
           numbers = map-append (λ (f : Entry). f.number) entries (e ∷ []) ∙ ap (λ l. l ++ k ∷ []) so_far.numbers ∙ sym draws.numbers;
           entries_are = each-snoc (IsAt (items_of t) env) entries e so_far.entries_are (draws.is_item, refl);
+          by = each-snoc (IsBy worker) entries e so_far.by refl;
           few = omega (arith, length-append entries (e ∷ []), so_far.few, below, ap after_last draws.numbers, after-snoc (numbers_of pass) k);
           within = omega (arith, draws.below, ap after_last draws.numbers, after-snoc (numbers_of pass) k);
         })
 
-  pub Works-last : (pass : Pass Slot) (w : Worker) → Works t env pass w.outbox.items → IsOf t w.pass → HasEnded w.pass → numbers_of w.pass ≡ numbers_of pass → IsDone t env w
+  pub Works-last : (pass : Pass Slot) (w : Worker) → Works t env w.number pass w.outbox.items → IsOf t w.pass → HasEnded w.pass → numbers_of w.pass ≡ numbers_of pass → IsDone t env w
   Works-last pass w so_far own ended same = record {
     own = own;
     ended = ended;
     numbers = so_far.numbers ∙ sym same;
     entries = so_far.entries_are;
+    by = so_far.by;
   }

@@ -3,15 +3,12 @@ use Rattle.std.specs.Prelude.{◌≡◌, ℕ, ◌+◌, ◌-◌, ◌≤◌, ◌^�
 use Rattle.std.specs.List.{fold, AllByRecursion, IsDistinct}
 use Rattle.std.specs.Ordering.{nat_cmp, eq_by_cmp}
 use Rattle.std.specs.Cmp.Lexicographic.{slice_cmp}
-use Rattle.std.specs.Map.{lookup, keys_of, set_value}
+use Rattle.std.specs.Map.{lookup, keys_of}
 use Rattle.ic_behaviour.specs.declared.call.Message.{Message}
 use Rattle.ic_behaviour.specs.declared.env.Env.{Env}
 use Rattle.ic_behaviour.specs.State.{at}
 use Rattle.ic_state.specs.declared.canister.Canister.{Canister}
 use Rattle.ic_state.specs.declared.world.Parts.{Parts}
-use Rattle.ic_state.specs.IsCanister.{IsCanister}
-use Rattle.ic_exec.specs.declared.work.Done.{Done}
-use Rattle.ic_exec.specs.Executed.{done_of}
 use Rattle.ic_rounds.specs.declared.slot.Slot.{Slot}
 use Rattle.ic_rounds.specs.Dealing.{pairs_of, IsTheirs}
 use Rattle.ic_rounds.specs.Settling.{Stored, stored_of, slot_of, ran, settle_in, IsReady, AreReady, AreCanisters}
@@ -19,15 +16,6 @@ use Rattle.ic_rounds.specs.Settling.{Stored, stored_of, slot_of, ran, settle_in,
 -- a canister with its first message
 abbrev pub slot_at : (key : List ℕ) → Canister → Message → Slot
 slot_at key c m = record { key = key; canister = c; message = m }
-
--- the canister of this key handles the message, and only its entry changes
-pub record HasHandled (env : Env) (es : List (List ℕ × Canister)) (key : List ℕ) (m : Message) (d : Done) (fs : List (List ℕ × Canister)) : Type 0 where
-  pub before : Canister
-  pub after : Canister
-  pub there : lookup (at key) es ≡ Some before
-  pub entries : fs ≡ set_value (at key) es after
-  pub done : done_of after d ≡ ran env (slot_of (slot_at key before m))
-  pub keeps : IsCanister after
 
 -- the canister of this key may handle the message
 pub record IsNext (env : Env) (p : Parts) (key : List ℕ) (m : Message) : Type 0 where

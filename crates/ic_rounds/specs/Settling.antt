@@ -8,7 +8,6 @@ use Rattle.std.specs.Cmp.Lexicographic.{slice_cmp}
 use Rattle.ic_behaviour.specs.declared.call.Message.{Message}
 use Rattle.ic_behaviour.specs.declared.request.Request.{Request}
 use Rattle.ic_behaviour.specs.declared.env.Env.{Env}
-use Rattle.ic_behaviour.specs.Items.{item_of, cycles_in}
 use Rattle.ic_behaviour.specs.State.{at}
 use Rattle.ic_behaviour.specs.Counted.{CountedCanister}
 use Rattle.ic_behaviour.specs.Closing.{Handled}
@@ -20,8 +19,8 @@ use Rattle.ic_api.specs.System.{system_api}
 use Rattle.ic_state.specs.declared.canister.Canister.{Canister as StoredCanister}
 use Rattle.ic_state.specs.declared.world.Parts.{Parts}
 use Rattle.ic_state.specs.Seen.{seen}
-use Rattle.ic_state.specs.IsCanister.{IsCanister, cycles_of}
-use Rattle.ic_calls.specs.Received.{IsExpected}
+use Rattle.ic_state.specs.IsCanister.{IsCanister}
+use Rattle.ic_deliver.specs.Giving.{CanHandle}
 use Rattle.ic_rounds.specs.declared.slot.Slot.{Slot as StoredSlot}
 
 -- ---- a state with the numbers that canisters store of their calls
@@ -90,10 +89,8 @@ settle_in env w slot = put_in w slot.key (ran env slot)
 -- ---- what is asked of slots
 
 -- the canister may handle the message
-pub record IsReady (slot : StoredSlot) : Type 0 where
-  pub keeps : IsCanister slot.canister
-  pub expected : IsExpected (seen slot.canister) slot.message
-  pub cycles : cycles_of slot.canister + cycles_in (item_of slot.message) ≤ 2 ^ 127 - 1
+abbrev pub IsReady : StoredSlot → Type 0
+IsReady slot = CanHandle slot.canister slot.message
 
 -- one after another: what was burned until then stays within what was created
 abbrev pub AreReady : Env → Stored → List StoredSlot → Type 0
@@ -102,14 +99,3 @@ AreReady env w (slot ∷ slots) = IsReady slot × (w.burned + (ran env (slot_of 
 
 abbrev pub AreCanisters : Parts → Type 0
 AreCanisters p = AllByRecursion (λ (e : List ℕ × StoredCanister). IsCanister e.1) p.canisters.entries
-
--- ---- a canister is put back
-
-pub record IsBack (before : Parts) (key : List ℕ) (c : StoredCanister) (more : ℕ) (p : Parts) : Type 0 where
-  pub canisters : p.canisters.entries ≡ insert_entry (slice_cmp nat_cmp) before.canisters.entries key c
-  pub messages : p.messages ≡ before.messages
-  pub requests : p.requests ≡ before.requests
-  pub time : p.time ≡ before.time
-  pub created : p.created ≡ before.created
-  pub burned : p.burned ≡ before.burned + more
-  pub next_canister : p.next_canister ≡ before.next_canister

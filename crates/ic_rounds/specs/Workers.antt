@@ -1,5 +1,5 @@
 -- What workers have before and after their work, and what is put in the order of slots. No standard has this.
-use Rattle.std.specs.Prelude.{◌≡◌, ℕ, ◌≤◌, List, [], Option, Some, length, slice_get, map, vec_capacity}
+use Rattle.std.specs.Prelude.{◌≡◌, ℕ, ◌+◌, ◌≤◌, List, [], ◌∷◌, Option, Some, length, slice_get, map, vec_capacity}
 use Rattle.std.specs.List.{AllByRecursion}
 use Rattle.ic_behaviour.specs.declared.env.Env.{Env}
 use Rattle.ic_tickets.specs.declared.rule.Tickets.{Tickets}
@@ -17,6 +17,15 @@ entry_numbers entries = map (λ (e : Entry). e.number) entries
 abbrev pub IsAt : List Slot → Env → Entry → Type 0
 IsAt slots env e = (slice_get slots e.number ≡ Some e.slot) × (e.env ≡ env)
 
+-- an entry is by the worker with this number
+abbrev pub IsBy : ℕ → Entry → Type 0
+IsBy number e = e.worker ≡ number
+
+-- workers have their numbers, from this one on
+abbrev pub AreNumbered : ℕ → List Worker → Type 0
+AreNumbered number [] = Unit {0}
+AreNumbered number (w ∷ ws) = (w.number ≡ number) × AreNumbered (number + 1) ws
+
 -- a worker has drawn nothing, and has room for all
 pub record IsIdle (t : Tickets Slot) (env : Env) (w : Worker) : Type 0 where
   pub own : IsOf t w.pass
@@ -24,14 +33,14 @@ pub record IsIdle (t : Tickets Slot) (env : Env) (w : Worker) : Type 0 where
   pub outbox : w.outbox.items ≡ []
   pub room : length (items_of t) ≤ vec_capacity w.outbox
   pub ready : AllByRecursion IsReady (items_of t)
-  pub limit : env.limit ≤ 1000000000000
 
--- a worker found no slot left, and has an entry for each that it drew
+-- a worker found no slot left, and has an entry of its own for each that it drew
 pub record IsDone (t : Tickets Slot) (env : Env) (w : Worker) : Type 0 where
   pub own : IsOf t w.pass
   pub ended : HasEnded w.pass
   pub numbers : entry_numbers w.outbox.items ≡ numbers_of w.pass
   pub entries : AllByRecursion (IsAt (items_of t) env) w.outbox.items
+  pub by : AllByRecursion (IsBy w.number) w.outbox.items
 
 -- what came of slot k is in its place
 pub record IsFilled (slots : List Slot) (env : Env) (places : List (Option Turn)) (k : ℕ) : Type 0 where

@@ -1,64 +1,15 @@
-// Workers that work side by side.
-ghost use Rattle.std.specs.Prelude.{◌<◌, length, All};
-ghost use Rattle.std.specs.List.{AllZip};
-ghost use Rattle.std.specs.Thread.{IsSync};
-ghost use denote.Param.Send.{IsSend};
+ghost use Rattle.std.specs.Prelude.{◌<◌, ◌≤◌};
+ghost use Rattle.ic_rounds.specs.declared.crew.TheConstants.{MOST_WORKERS};
 
-use std::thread::{Threads, join_mut};
+/// The most workers of a crew.
+pub const MOST_WORKERS: u32 = 64;
 
-/// What a worker does, with what all of them share.
-pub trait Work<S> {
-    ghost ready: { S → Self → Type 0 };
-    // Of the worker before and after.
-    ghost did: { S → Self → Self → Type 0 };
-
-    fn work(&mut self, shared: &S)
-        requires { ready shared.now self.old }
-        ensures { did shared.now self.old self.new };
-}
-
-/// All work, by halves of the list side by side.
-#[cycle(halves)]
-pub fn all_work<R: Threads + Sync, S: Sync, W: Work<S> + Send>(
-    rt: &R,
-    shared: &S,
-    workers: &mut [W],
-)
-    requires { All (W.ready shared.now) workers.old }
-    ensures { AllZip (W.did shared.now) workers.old workers.new }
-{
-    if workers.len() == 0 {
-        return;
-    }
-    if workers.len() == 1 {
-        workers[0].work(shared);
-        return;
-    }
-    let (front, back) = workers.split_at_mut(workers.len() / 2);
-    both_halves(rt, shared, front, back);
-}
-
-// A function of its own, so that what the closures require is what it is given.
-#[cycle(halves)]
-fn both_halves<R: Threads + Sync, S: Sync, W: Work<S> + Send>(
-    rt: &R,
-    shared: &S,
-    front: &mut [W],
-    back: &mut [W],
-)
-    requires some { (0 < length front.old) × (0 < length back.old) }
-    requires front { All (W.ready shared.now) front.old }
-    requires back { All (W.ready shared.now) back.old }
-    ensures front { AllZip (W.did shared.now) front.old front.new }
-    ensures back { AllZip (W.did shared.now) back.old back.new }
-{
-    let mut first = ||
-        requires { IsSync R.row × IsSync S.row × IsSend W.row × All (W.ready shared.now) front.now }
-        ensures { AllZip (W.did shared.entry.now) front.entry.now front.exit.now }
-    { all_work(rt, shared, front) };
-    let mut second = ||
-        requires { IsSync R.row × IsSync S.row × IsSend W.row × All (W.ready shared.now) back.now }
-        ensures { AllZip (W.did shared.entry.now) back.entry.now back.exit.now }
-    { all_work(rt, shared, back) };
-    join_mut(rt, &mut first, &mut second);
+/// Workers that handle messages side by side, what they run on, and the gate that each passes before a message.
+#[derive(Drop)]
+pub struct Crew<'a, R, G> {
+    pub rt: &'a R,
+    pub workers: u32,
+    pub gate: &'a G,
+    ghost some: { 0 < workers },
+    ghost few: { workers ≤ MOST_WORKERS },
 }

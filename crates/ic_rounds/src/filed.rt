@@ -2,22 +2,23 @@ ghost use Rattle.std.specs.Prelude.{◌≡◌, ◌≤◌, Ok, IfOk};
 ghost use Rattle.ic_rounds.specs.Settling.{IsReady};
 ghost use Rattle.ic_rounds.specs.Turns.{IsTurn, entry};
 
+use crate::permit::Permit;
 use crate::slot::Slot;
 use crate::turn::Turn;
 use ic_base::NoMemory;
-use ic_exec::{Done, handle};
-use ic_state::Env;
+use ic_deliver::give;
+use ic_state::BoundedEnv;
 use std::alloc::Global;
 use std::marker::Model;
 use std::snapshot::Snapshot;
 
-/// An entry of an outbox: what came of the slot with this number, or that memory ran out.
+/// An entry of an outbox: what came of the slot for which its worker passed the gate, or that memory ran out.
 #[derive(Drop)]
 pub struct Filed {
-    number: u32,
+    permit: Permit,
     content: Result<Turn, NoMemory>,
     slot: Snapshot<Slot>,
-    env: Snapshot<Env>,
+    env: Snapshot<BoundedEnv>,
 }
 
 impl Model for Filed {
@@ -27,15 +28,14 @@ impl Model for Filed {
 
     ghost Value = { Entry };
 
-    ghost view = { λ f. entry f.number f.slot.value f.env.value };
+    ghost view = { λ f. entry f.permit.worker f.permit.number f.slot.value f.env.value };
 
     ghost invariant = { λ f. (turn : Turn) → f.content ≡ Ok turn → IsTurn f.env.value f.slot.value turn };
 }
 
 // Handles the message of a slot.
-fn handled(alloc: Global, slot: Slot, env: Env) -> Result<Turn, NoMemory>
+fn handled(alloc: Global, slot: Slot, env: BoundedEnv) -> Result<Turn, NoMemory>
     requires ready { IsReady slot }
-    requires limit { env.limit ≤ 1000000000000 }
     ensures { IfOk result (IsTurn env slot) }
 {
     let Slot {
@@ -44,31 +44,23 @@ fn handled(alloc: Global, slot: Slot, env: Env) -> Result<Turn, NoMemory>
         message,
     } = slot;
     let mut canister = canister;
-    let Done {
-        calls,
-        answers,
-        burned,
-        ..
-    } = handle(alloc, canister.get_mut(), message.take(), env)?;
+    let done = give(alloc, &mut canister, message.take(), env)?;
     Ok(Turn {
         key,
         canister,
-        calls,
-        answers,
-        burned,
+        done,
     })
 }
 
 impl Filed {
-    /// Handles the message of a slot, and keeps what came of it under the slot's number.
-    pub fn of(alloc: Global, number: u32, slot: Slot, env: Env) -> Filed
+    /// Handles the message of a slot, and keeps what came of it under the number for which the gate was passed.
+    pub fn of(alloc: Global, permit: Permit, slot: Slot, env: BoundedEnv) -> Filed
         requires ready { IsReady slot }
-        requires limit { env.limit ≤ 1000000000000 }
-        ensures { result ≡ entry number slot env }
+        ensures { result ≡ entry permit.worker permit.number slot env }
     {
         let kept = Snapshot::of(&slot);
         Filed {
-            number,
+            permit,
             content: handled(alloc, slot, env),
             slot: kept,
             env: Snapshot::of(&env),
@@ -81,10 +73,10 @@ impl Filed {
         ensures content { IfOk result.1 (IsTurn self.env self.slot) }
     {
         let Filed {
-            number,
+            permit,
             content,
             ..
         } = self;
-        (number, content)
+        (permit.number(), content)
     }
 }

@@ -8,7 +8,7 @@ use crate::filed::Filed;
 use crate::slot::Slot;
 use crate::turn::Turn;
 use ic_base::NoMemory;
-use ic_state::Env;
+use ic_state::BoundedEnv;
 use std::alloc::Global;
 use std::snapshot::Snapshot;
 
@@ -39,7 +39,7 @@ fn put(places: &mut Vec<Option<Turn>>, filed: Filed) -> Result<(), NoMemory>
 /// Puts what came of slots into their places.
 pub fn file(
     slots: &Snapshot<Vec<Slot>>,
-    env: Env,
+    env: BoundedEnv,
     places: &mut Vec<Option<Turn>>,
     outbox: Vec<Filed>,
 ) -> Result<(), NoMemory>
@@ -61,7 +61,7 @@ pub fn file(
 pub fn taken(
     alloc: Global,
     slots: &Snapshot<Vec<Slot>>,
-    env: Env,
+    env: BoundedEnv,
     places: Vec<Option<Turn>>,
 ) -> Result<Vec<Turn>, NoMemory>
     requires len { vec_len places ≡ vec_len slots.now.value }

@@ -4,11 +4,12 @@ ghost use Rattle.ic_runs.specs.Steps.{along};
 ghost use Rattle.ic_runs.specs.Round.{first_phase};
 ghost use Rattle.ic_accounting.specs.System.{system_rules};
 
+use crate::crew::{Crew, MOST_WORKERS};
 use crate::taken::taken_out;
 use crate::turns::all_turns;
 use ic_base::NoMemory;
 use ic_outside::Gate;
-use ic_state::{Env, Parts, World};
+use ic_state::{Charge, MOST_INSTRUCTIONS, Parts, World};
 use std::alloc::Global;
 use std::thread::Threads;
 
@@ -26,8 +27,8 @@ pub fn canister_turns<R: Threads + Sync, G: Gate + Sync>(
     price: u64,
     gate: &G,
 ) -> Result<(World, u64), NoMemory>
-    requires workers { (0 < workers) × (workers ≤ 64) }
-    requires limit { limit ≤ 1000000000000 }
+    requires workers { (0 < workers) × (workers ≤ MOST_WORKERS) }
+    requires limit { limit ≤ MOST_INSTRUCTIONS }
     ensures state { IfOk result (λ r. (outside : Outside)
         → r.0 ≡ along (system_rules outside limit price) world
         (first_phase (system_rules outside limit price) world)) }
@@ -55,7 +56,8 @@ pub fn canister_turns<R: Threads + Sync, G: Gate + Sync>(
         burned,
         next_canister,
     };
-    let env = Env { time, limit, price };
-    let parts = all_turns(alloc, rt, parts, firsts, workers, env, gate)?;
+    let crew = Crew { rt, workers, gate };
+    let env = Charge { limit, price }.at(time);
+    let parts = all_turns(alloc, parts, firsts, &crew, env)?;
     Ok((World::seal(parts), handled))
 }

@@ -13,7 +13,9 @@ mod dealt;
 mod filed;
 mod filing;
 mod first;
+mod halves;
 mod in_place;
+mod permit;
 mod phase;
 mod settling;
 mod slot;
@@ -23,6 +25,7 @@ mod turns;
 mod worker;
 mod working;
 
+pub use crew::{Crew, MOST_WORKERS};
 pub use first::canister_turns;
 pub use ic_tickets as tickets;
 pub use phase::turns_of;

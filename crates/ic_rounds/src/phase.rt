@@ -3,35 +3,36 @@ ghost use Rattle.std.specs.List.{AllByRecursion, AllZip};
 ghost use Rattle.ic_tickets.specs.Tickets.{items_of, IsOf, IsFresh, HasEnded, times_drawn};
 ghost use Rattle.ic_rounds.specs.Settling.{IsReady};
 ghost use Rattle.ic_rounds.specs.Turns.{IsTurn};
-ghost use Rattle.ic_rounds.specs.Workers.{IsIdle, IsDone, IsFilled};
+ghost use Rattle.ic_rounds.specs.Workers.{IsIdle, IsDone, IsFilled, AreNumbered};
 
-use crate::crew::all_work;
+use crate::crew::Crew;
 use crate::filing::{file, taken, vacant};
+use crate::halves::all_work;
 use crate::slot::Slot;
 use crate::turn::Turn;
 use crate::worker::{Shop, Worker};
 use ic_base::NoMemory;
 use ic_outside::Gate;
-use ic_state::Env;
+use ic_state::BoundedEnv;
 use ic_tickets::{Pass, Tickets};
 use std::alloc::Global;
 use std::snapshot::Snapshot;
 use std::thread::Threads;
 
-// A worker for each pass. Its outbox has room for all slots.
+// A worker for each pass, numbered from 0 on. Its outbox has room for all slots.
 fn staffed(
     alloc: Global,
     tickets: &Tickets<Slot>,
-    env: Env,
+    env: BoundedEnv,
     count: usize,
     passes: Vec<Pass<Slot>>,
 ) -> Result<Vec<Worker>, NoMemory>
     requires passes { AllByRecursion (λ p. IsOf tickets.now p × IsFresh p) passes.items }
     requires ready { AllByRecursion IsReady (items_of tickets.now) }
-    requires limit { env.limit ≤ 1000000000000 }
     requires count { length (items_of tickets.now) ≤ count }
     requires few { vec_len passes ≤ 64 }
     ensures workers { IfOk result (λ v. AllByRecursion (IsIdle tickets.now env) v.items) }
+    ensures numbers { IfOk result (λ v. AreNumbered 0 v.items) }
     ensures len { IfOk result (λ v. vec_len v ≡ vec_len passes) }
 {
     let _at_these = tickets;
@@ -54,7 +55,7 @@ fn gathered(
     alloc: Global,
     tickets: &Tickets<Slot>,
     slots: &Snapshot<Vec<Slot>>,
-    env: Env,
+    env: BoundedEnv,
     places: &mut Vec<Option<Turn>>,
     workers: Vec<Worker>,
 ) -> Result<Vec<Pass<Slot>>, NoMemory>
@@ -79,30 +80,26 @@ fn gathered(
 // Workers draw the slots, and what came of them is taken in their order.
 fn shared_out<R: Threads + Sync, G: Gate + Sync>(
     alloc: Global,
-    rt: &R,
     slots: Vec<Slot>,
-    crew: u32,
-    env: Env,
-    gate: &G,
+    crew: &Crew<'_, R, G>,
+    env: BoundedEnv,
 ) -> Result<Vec<Turn>, NoMemory>
-    requires crew { (0 < crew) × (crew ≤ 64) }
     requires few { vec_len slots ≤ 64 }
     requires ready { AllByRecursion IsReady slots.items }
-    requires limit { env.limit ≤ 1000000000000 }
     ensures { IfOk result (λ v. AllZip (IsTurn env) slots.items v.items) }
 {
     let these = Snapshot::of(&slots);
     let count = slots.len();
     let mut places = vacant(alloc, count)?;
-    let (tickets, passes) = Tickets::new(alloc, slots, crew)?;
+    let (tickets, passes) = Tickets::new(alloc, slots, crew.workers)?;
     let mut workers = staffed(alloc, &tickets, env, count, passes)?;
     let shop = Shop {
         alloc,
         tickets: &tickets,
         env,
-        gate,
+        gate: crew.gate,
     };
-    all_work(rt, &shop, workers.as_mut_slice());
+    all_work(crew.rt, &shop, workers.as_mut_slice());
     let Shop {
         alloc: _,
         tickets: _,
@@ -114,26 +111,27 @@ fn shared_out<R: Threads + Sync, G: Gate + Sync>(
     taken(alloc, &these, env, places)
 }
 
-/// Handles the messages of slots on up to `workers` workers, and no more than there are slots. What came
+/// Handles the messages of slots on the workers of a crew, and no more than there are slots. What came
 /// of them stands in the order of the slots. Before each message its worker passes the gate, with its own
 /// number, from 0, and the slot's.
 pub fn turns_of<R: Threads + Sync, G: Gate + Sync>(
     alloc: Global,
-    rt: &R,
     slots: Vec<Slot>,
-    workers: u32,
-    env: Env,
-    gate: &G,
+    crew: &Crew<'_, R, G>,
+    env: BoundedEnv,
 ) -> Result<Vec<Turn>, NoMemory>
-    requires workers { (0 < workers) × (workers ≤ 64) }
     requires few { vec_len slots ≤ 64 }
     requires ready { AllByRecursion IsReady slots.items }
-    requires limit { env.limit ≤ 1000000000000 }
     ensures { IfOk result (λ v. AllZip (IsTurn env) slots.items v.items) }
 {
-    let crew = workers.min(slots.len() as u32);
-    if crew == 0 {
+    let workers = crew.workers.min(slots.len() as u32);
+    if workers == 0 {
         return Ok(Vec::new(alloc));
     }
-    shared_out(alloc, rt, slots, crew, env, gate)
+    let crew = Crew {
+        rt: crew.rt,
+        workers,
+        gate: crew.gate,
+    };
+    shared_out(alloc, slots, &crew, env)
 }

@@ -1,12 +1,11 @@
+use ic_exec::Done;
 use ic_principal::Principal;
-use ic_state::{AnsweredList, CanisterPlace, Messages};
+use ic_state::CanisterPlace;
 
 /// What came of a slot.
 #[derive(Drop)]
 pub struct Turn {
     pub key: Principal,
     pub canister: CanisterPlace,
-    pub calls: Messages,
-    pub answers: AnsweredList,
-    pub burned: u128,
+    pub done: Done,
 }

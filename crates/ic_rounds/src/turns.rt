@@ -1,30 +1,27 @@
-ghost use Rattle.std.specs.Prelude.{◌≡◌, ◌<◌, ◌≤◌, map, IfOk, vec_len};
+ghost use Rattle.std.specs.Prelude.{◌≡◌, ◌≤◌, map, IfOk, vec_len};
 ghost use Rattle.std.specs.List.{fold};
 ghost use Rattle.ic_rounds.specs.Dealing.{slots_of, AreFirsts};
 ghost use Rattle.ic_rounds.specs.Settling.{stored_of, slot_of, settle_in, AreReady, AreCanisters};
 
+use crate::crew::Crew;
 use crate::dealt::deal_out;
 use crate::in_place::in_turn;
 use crate::settling::settled;
 use ic_base::NoMemory;
 use ic_outside::Gate;
 use ic_principal::Principal;
-use ic_state::{Env, MessagePlace, Parts};
+use ic_state::{BoundedEnv, MessagePlace, Parts};
 use std::alloc::Global;
 use std::thread::Threads;
 
 // Several workers have the canisters in slots, and these are put back in the order of the slots.
 fn side_by_side<R: Threads + Sync, G: Gate + Sync>(
     alloc: Global,
-    rt: &R,
     parts: Parts,
     firsts: Vec<(Principal, MessagePlace)>,
-    workers: u32,
-    env: Env,
-    gate: &G,
+    crew: &Crew<'_, R, G>,
+    env: BoundedEnv,
 ) -> Result<Parts, NoMemory>
-    requires workers { (0 < workers) × (workers ≤ 64) }
-    requires limit { env.limit ≤ 1000000000000 }
     requires few { vec_len firsts ≤ 64 }
     requires firsts { AreFirsts parts.canisters.entries firsts.items }
     requires ready { AreReady env (stored_of parts) (slots_of parts.canisters.entries firsts.items) }
@@ -52,7 +49,7 @@ fn side_by_side<R: Threads + Sync, G: Gate + Sync>(
         burned,
         next_canister,
     };
-    settled(alloc, rt, parts, slots, workers, env, gate)
+    settled(alloc, parts, slots, crew, env)
 }
 
 /// Handles the first messages to canisters, in rising order of these, and sends what they send in that
@@ -61,15 +58,11 @@ fn side_by_side<R: Threads + Sync, G: Gate + Sync>(
 /// message's place among them.
 pub fn all_turns<R: Threads + Sync, G: Gate + Sync>(
     alloc: Global,
-    rt: &R,
     parts: Parts,
     firsts: Vec<(Principal, MessagePlace)>,
-    workers: u32,
-    env: Env,
-    gate: &G,
+    crew: &Crew<'_, R, G>,
+    env: BoundedEnv,
 ) -> Result<Parts, NoMemory>
-    requires workers { (0 < workers) × (workers ≤ 64) }
-    requires limit { env.limit ≤ 1000000000000 }
     requires few { vec_len firsts ≤ 64 }
     requires firsts { AreFirsts parts.canisters.entries firsts.items }
     requires ready { AreReady env (stored_of parts) (slots_of parts.canisters.entries firsts.items) }
@@ -78,9 +71,9 @@ pub fn all_turns<R: Threads + Sync, G: Gate + Sync>(
         ≡ fold (settle_in env) (stored_of parts) (map slot_of (slots_of parts.canisters.entries firsts.items))) }
     ensures keep { IfOk result AreCanisters }
 {
-    if workers == 1 || firsts.len() <= 1 {
-        in_turn(alloc, parts, firsts, env, gate)
+    if crew.workers == 1 || firsts.len() <= 1 {
+        in_turn(alloc, parts, firsts, env, crew.gate)
     } else {
-        side_by_side(alloc, rt, parts, firsts, workers, env, gate)
+        side_by_side(alloc, parts, firsts, crew, env)
     }
 }

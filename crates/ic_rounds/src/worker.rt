@@ -1,7 +1,7 @@
 use crate::filed::Filed;
 use crate::slot::Slot;
 use ic_outside::Gate;
-use ic_state::Env;
+use ic_state::BoundedEnv;
 use ic_tickets::{Pass, Tickets};
 use std::alloc::Global;
 
@@ -9,7 +9,7 @@ use std::alloc::Global;
 pub struct Shop<'a, G: Gate> {
     pub alloc: Global,
     pub tickets: &'a Tickets<Slot>,
-    pub env: Env,
+    pub env: BoundedEnv,
     pub gate: &'a G,
 }
 

@@ -1,5 +1,4 @@
 pub mod Eligibles
 pub mod Chains
 mod Puts
-mod Ready
 mod Handings

@@ -1,24 +1,21 @@
-ghost use Rattle.std.specs.Prelude.{◌≡◌, ◌+◌, ◌-◌, ◌<◌, ◌≤◌, ◌^◌, false, Some, length, slice_get, IfOk};
+ghost use Rattle.std.specs.Prelude.{◌≡◌, ◌<◌, ◌≤◌, false, Some, length, slice_get, IfOk};
 ghost use Rattle.ic_behaviour.specs.Deliver.{Outside};
 ghost use Rattle.ic_runs.specs.Steps.{step};
 ghost use Rattle.ic_accounting.specs.System.{system_rules};
 ghost use Rattle.ic_schedule.specs.Delivery.{is_to_management, is_managed, Delivers};
-ghost use Rattle.ic_schedule.specs.Handing.{left_by, with_sent};
+ghost use Rattle.ic_schedule.specs.Handing.{left_by};
 
-use crate::execution::{Sent, handle};
 use crate::manager::Manager;
 use ic_base::NoMemory;
-use ic_calls::{callee, route};
-use ic_principal::Principal;
-use ic_state::{Env, Message, Parts, World};
+use ic_calls::{callee, is_management};
+use ic_state::{Charge, MOST_INSTRUCTIONS, Message, Parts, World};
 use std::alloc::Global;
 
 fn is_to_management(message: &Message) -> bool
     ensures { result ≡ is_to_management message.now }
 {
     match message {
-        // The management canister has no bytes.
-        Message::Call { callee, .. } => callee.bytes().is_empty(),
+        Message::Call { callee, .. } => is_management(callee),
         Message::Answer { .. } => false,
     }
 }
@@ -43,42 +40,16 @@ fn take_out(parts: Parts, place: usize) -> (Parts, Message)
     (parts, message)
 }
 
-fn send(parts: Parts, sender: &Principal, sent: Sent) -> Result<Parts, NoMemory>
-    requires room { parts.burned + sent.burned ≤ 2 ^ 127 - 1 }
-    ensures { IfOk result (λ p. p ≡ with_sent sender.now sent parts) }
-{
-    let mut parts = parts;
-    let Sent {
-        calls,
-        answers,
-        burned,
-    } = sent;
-    parts.burned += burned;
-    route(parts, sender, calls, answers)
-}
-
 // Delivers a message that is no call to the management canister.
-fn hand_over(
-    alloc: Global,
-    world: World,
-    place: usize,
-    limit: u64,
-    price: u64,
-) -> Result<World, NoMemory>
-    requires limit { limit ≤ 1000000000000 }
+fn hand_over(alloc: Global, world: World, place: usize, charge: Charge) -> Result<World, NoMemory>
     requires there { place < length world.messages }
     requires other { is_managed world place ≡ false }
-    ensures { IfOk result (λ w. (outside : Outside) → w ≡ step (system_rules outside limit price) world place) }
+    ensures { IfOk result (λ w. (outside : Outside) → w ≡ step (system_rules outside charge.limit charge.price) world place) }
 {
     let (mut parts, message) = take_out(world.open(), place);
     let callee = callee(&message);
-    let env = Env {
-        time: parts.time,
-        limit,
-        price,
-    };
-    let sent = handle(alloc, &mut parts, &callee, message, env)?;
-    let parts = send(parts, &callee, sent)?;
+    let env = charge.at(parts.time);
+    ic_deliver::deliver(alloc, &mut parts, &callee, message, env)?;
     Ok(World::seal(parts))
 }
 
@@ -91,13 +62,13 @@ pub fn deliver<M: Manager>(
     price: u64,
     manager: &M,
 ) -> Result<World, NoMemory>
-    requires limit { limit ≤ 1000000000000 }
+    requires limit { limit ≤ MOST_INSTRUCTIONS }
     requires there { place < length world.messages }
     ensures { IfOk result (λ w. Delivers (M.manages manager.now) limit price world place w) }
 {
     if is_managed(&world, place) {
         manager.manage(alloc, world, place, limit)
     } else {
-        hand_over(alloc, world, place, limit, price)
+        hand_over(alloc, world, place, Charge { limit, price })
     }
 }

@@ -1,26 +1,10 @@
 ghost use Rattle.std.specs.Prelude.{◌≡◌, Some};
 ghost use Rattle.std.specs.Bool.{OnTrue, OnFalse};
-ghost use Rattle.ic_runs.specs.Steps.{sender_of, same_way, IsEligible};
+ghost use Rattle.ic_runs.specs.Steps.{IsEligible};
 ghost use Rattle.ic_schedule.specs.Picks.{goes_first, is_eligible};
 
-use ic_calls::callee;
-use ic_principal::Principal;
+use ic_calls::same_way;
 use ic_state::{Message, World};
-
-fn sender(message: &Message) -> Principal
-    ensures { result ≡ sender_of message.now }
-{
-    match message {
-        Message::Call { sender, .. } => *sender,
-        Message::Answer { sender, .. } => *sender,
-    }
-}
-
-fn same_way(message: &Message, other: &Message) -> bool
-    ensures { result ≡ same_way message.now other.now }
-{
-    sender(message).cmp(&sender(other)).is_eq() && callee(message).cmp(&callee(other)).is_eq()
-}
 
 // No earlier message has the sender and the callee of this one.
 fn goes_first(earlier: &[Message], message: &Message) -> bool

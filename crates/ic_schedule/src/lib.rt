@@ -7,7 +7,6 @@
 
 mod delivering;
 mod eligibility;
-mod execution;
 mod laws;
 mod manager;
 mod replaying;

@@ -2,7 +2,7 @@ ghost use Rattle.std.specs.Prelude.{◌≡◌, ◌≤◌, true, IfOk};
 ghost use Rattle.ic_schedule.specs.Delivery.{Manages, is_managed};
 
 use ic_base::NoMemory;
-use ic_state::World;
+use ic_state::{MOST_INSTRUCTIONS, World};
 use std::alloc::Global;
 
 /// What carries out calls to the management canister.
@@ -18,7 +18,7 @@ pub trait Manager {
         place: usize,
         limit: u64,
     ) -> Result<World, NoMemory>
-        requires limit { limit ≤ 1000000000000 }
+        requires limit { limit ≤ MOST_INSTRUCTIONS }
         requires call { is_managed world place ≡ true }
         ensures { IfOk result (λ w. manages self.now world place limit w) };
 }

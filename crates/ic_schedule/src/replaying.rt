@@ -5,7 +5,7 @@ use crate::delivering::deliver;
 use crate::eligibility::eligible;
 use crate::manager::Manager;
 use ic_base::NoMemory;
-use ic_state::World;
+use ic_state::{MOST_INSTRUCTIONS, World};
 use std::alloc::Global;
 
 /// Delivers the messages at the picked places, one after another, each where it is eligible in the
@@ -21,7 +21,7 @@ pub fn replay<M: Manager>(
     manager: &M,
 ) -> Result<(World, u32), NoMemory>
     requires picks { length picks.now ≤ 1000000 }
-    requires limit { limit ≤ 1000000000000 }
+    requires limit { limit ≤ MOST_INSTRUCTIONS }
     ensures { IfOk result (λ r. Picks (M.manages manager.now) limit price world picks.now r.0 r.1) }
 {
     let mut world = world;

@@ -12,8 +12,9 @@ mod world;
 
 pub use canister::{Canister, CanisterPlace, Code, CodePlace, StorePlace};
 pub use ic_behaviour::{
-    Admitted, Answered, CallId, Callback, Context, Controllers, Effects, EntryKind, Env, Message,
-    Origin, OutCall, OutCalls, Phase, Refusal, Request, Response, View, Waiter, Waiters,
+    Admitted, Answered, BoundedEnv, CallId, Callback, Charge, Context, Controllers, Effects,
+    EntryKind, Env, InstructionLimit, MOST_INSTRUCTIONS, Message, Origin, OutCall, OutCalls, Phase,
+    Refusal, Request, Response, View, Waiter, Waiters,
 };
 pub use lists::{AnsweredList, Contexts, MessagePlace, Messages, Requests};
 pub use world::{Parts, Totals, World};

@@ -82,6 +82,15 @@ impl Messages {
         self.items.push(message)?;
         Ok(())
     }
+
+    /// Puts messages after the others, in their order. After `NoMemory` they are dropped.
+    pub fn append(&mut self, more: Messages) -> Result<(), NoMemory>
+        ensures { OnOk result (self.new ≡ self.old ++ more) }
+    {
+        let Messages { items: mut more } = more;
+        self.items.append(&mut more)?;
+        Ok(())
+    }
 }
 
 /// Requests; the number of one is its place. Contracts see the list.
@@ -129,4 +138,15 @@ impl Model for AnsweredList {
     ghost Value = { List Answered };
 
     ghost view = { λ l. l.items.items };
+}
+
+impl AnsweredList {
+    /// Puts answers after the others, in their order. After `NoMemory` they are dropped.
+    pub fn append(&mut self, more: AnsweredList) -> Result<(), NoMemory>
+        ensures { OnOk result (self.new ≡ self.old ++ more) }
+    {
+        let AnsweredList { items: mut more } = more;
+        self.items.append(&mut more)?;
+        Ok(())
+    }
 }

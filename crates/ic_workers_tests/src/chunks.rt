@@ -1,5 +1,5 @@
 // A first phase that deals a fixed chunk of the slots to each worker, in place of tickets that they draw. It meets
-// the contract of `ic_rounds::turns_of`, word for word.
+// the contract of `ic_rounds::turns_of`, with the fields of its crew as parameters.
 ghost use Rattle.std.specs.Prelude.{◌≡◌, ◌+◌, ◌++◌, ◌<◌, ◌≤◌, IfOk, vec_len};
 ghost use Rattle.std.specs.List.{AllByRecursion, AllZip};
 ghost use Rattle.std.specs.Thread.{IsSync};
@@ -7,10 +7,10 @@ ghost use Rattle.ic_rounds.specs.Settling.{IsReady};
 ghost use Rattle.ic_rounds.specs.Turns.{IsTurn};
 
 use ic_base::NoMemory;
-use ic_exec::{Done, handle};
+use ic_deliver::give;
 use ic_outside::Gate;
 use ic_rounds::{Slot, Turn};
-use ic_state::Env;
+use ic_state::BoundedEnv;
 use std::alloc::Global;
 use std::thread::{Threads, join};
 
@@ -54,9 +54,8 @@ fn cut_off(share: Share) -> Result<(Share, Share), NoMemory>
     Ok((chunk, others))
 }
 
-fn handled(alloc: Global, slot: Slot, env: Env) -> Result<Turn, NoMemory>
+fn handled(alloc: Global, slot: Slot, env: BoundedEnv) -> Result<Turn, NoMemory>
     requires ready { IsReady slot }
-    requires limit { env.limit ≤ 1000000000000 }
     ensures { IfOk result (IsTurn env slot) }
 {
     let Slot {
@@ -65,18 +64,11 @@ fn handled(alloc: Global, slot: Slot, env: Env) -> Result<Turn, NoMemory>
         message,
     } = slot;
     let mut canister = canister;
-    let Done {
-        calls,
-        answers,
-        burned,
-        ..
-    } = handle(alloc, canister.get_mut(), message.take(), env)?;
+    let done = give(alloc, &mut canister, message.take(), env)?;
     Ok(Turn {
         key,
         canister,
-        calls,
-        answers,
-        burned,
+        done,
     })
 }
 
@@ -84,11 +76,10 @@ fn handled(alloc: Global, slot: Slot, env: Env) -> Result<Turn, NoMemory>
 fn handled_by_one<G: Gate>(
     alloc: Global,
     share: Share,
-    env: Env,
+    env: BoundedEnv,
     gate: &G,
 ) -> Result<Vec<Turn>, NoMemory>
     requires ready { AllByRecursion IsReady share.slots.items }
-    requires limit { env.limit ≤ 1000000000000 }
     ensures { IfOk result (λ v. AllZip (IsTurn env) share.slots.items v.items) }
 {
     let Share {
@@ -113,13 +104,12 @@ fn handled_by_all<R: Threads + Sync, G: Gate + Sync>(
     alloc: Global,
     rt: &R,
     share: Share,
-    env: Env,
+    env: BoundedEnv,
     gate: &G,
 ) -> Result<Vec<Turn>, NoMemory>
     requires workers { 0 < share.workers }
     requires few { vec_len share.slots ≤ 64 }
     requires ready { AllByRecursion IsReady share.slots.items }
-    requires limit { env.limit ≤ 1000000000000 }
     ensures { IfOk result (λ v. AllZip (IsTurn env) share.slots.items v.items) }
 {
     if share.workers == 1 {
@@ -136,23 +126,22 @@ fn side_by_side<R: Threads + Sync, G: Gate + Sync>(
     rt: &R,
     chunk: Share,
     others: Share,
-    env: Env,
+    env: BoundedEnv,
     gate: &G,
 ) -> Result<Vec<Turn>, NoMemory>
     requires workers { 0 < others.workers }
     requires few { vec_len others.slots ≤ 64 }
     requires ready { AllByRecursion IsReady chunk.slots.items × AllByRecursion IsReady others.slots.items }
-    requires limit { env.limit ≤ 1000000000000 }
     ensures { IfOk result (λ v. AllZip (IsTurn env) (chunk.slots.items ++ others.slots.items) v.items) }
 {
     let (first, more) = join(
         rt,
         || -> Result<Vec<Turn>, NoMemory>
-            requires { IsSync G.row × AllByRecursion IsReady chunk.slots.items × (env.limit ≤ 1000000000000) }
+            requires { IsSync G.row × AllByRecursion IsReady chunk.slots.items }
             ensures { IfOk result (λ v. AllZip (IsTurn env) chunk.slots.items v.items) }
         { handled_by_one(alloc, chunk, env, gate) },
         || -> Result<Vec<Turn>, NoMemory>
-            requires { IsSync R.row × IsSync G.row × (0 < others.workers) × (vec_len others.slots ≤ 64) × AllByRecursion IsReady others.slots.items × (env.limit ≤ 1000000000000) }
+            requires { IsSync R.row × IsSync G.row × (0 < others.workers) × (vec_len others.slots ≤ 64) × AllByRecursion IsReady others.slots.items }
             ensures { IfOk result (λ v. AllZip (IsTurn env) others.slots.items v.items) }
         { handled_by_all(alloc, rt, others, env, gate) },
     );
@@ -170,13 +159,12 @@ pub fn turns_of<R: Threads + Sync, G: Gate + Sync>(
     rt: &R,
     slots: Vec<Slot>,
     workers: u32,
-    env: Env,
+    env: BoundedEnv,
     gate: &G,
 ) -> Result<Vec<Turn>, NoMemory>
     requires workers { (0 < workers) × (workers ≤ 64) }
     requires few { vec_len slots ≤ 64 }
     requires ready { AllByRecursion IsReady slots.items }
-    requires limit { env.limit ≤ 1000000000000 }
     ensures { IfOk result (λ v. AllZip (IsTurn env) slots.items v.items) }
 {
     let crew = workers.min(slots.len() as u32);

@@ -5,7 +5,7 @@ use crate::gates::Holding;
 use crate::worlds::{busy, slots};
 use ic_outside::Gate;
 use ic_round::round;
-use ic_state::Env;
+use ic_state::InstructionLimit;
 use std::alloc::Global;
 use std::test::*;
 use std::thread::Threads;
@@ -43,6 +43,31 @@ fn one_worker_gives_up(rt: HostRuntime) {
     assert_eq!(rt; gate.seen(), (2, 1));
 }
 
+// Four workers run, each held until all have come. Each passes with a number of its own, once, on its way to a slot
+// of its own.
+#[test]
+fn four_workers_run(rt: HostRuntime) {
+    let gate = Holding::new(4, 4);
+    assert_eq!(rt; handled(rt.alloc(), &rt, 4, 4, &gate), Some(4));
+    assert_eq!(rt; gate.seen(), (4, 0));
+    let mut slots = 0;
+    for worker in 0..4 {
+        let told = gate.told(worker);
+        assert_eq!(rt; told.count_ones(), 1);
+        slots |= told;
+    }
+    assert_eq!(rt; slots, 0x1111);
+}
+
+// One worker passes with the number 0, once before each message, with its place.
+#[test]
+fn one_worker_passes_each(rt: HostRuntime) {
+    let gate = Holding::new(0, 0);
+    assert_eq!(rt; handled(rt.alloc(), &rt, 3, 1, &gate), Some(3));
+    assert_eq!(rt; gate.seen(), (3, 0));
+    assert_eq!(rt; gate.told(0), 0x111);
+}
+
 // Nor that work is shared by tickets: while one worker is held with its first slot, the other gets the
 // three others.
 #[test]
@@ -62,11 +87,7 @@ fn handled_in_chunks<R: Threads + Sync, G: Gate + Sync>(
     requires { canisters ≤ 64 }
 {
     let slots = slots(alloc, canisters)?;
-    let env = Env {
-        time: 0,
-        limit: 5_000_000,
-        price: 0,
-    };
+    let env = InstructionLimit::of(5_000_000).at(0, 0);
     match turns_of(alloc, rt, slots, 2, env, gate) {
         Ok(turns) => Some(turns.len()),
         Err(_) => None,

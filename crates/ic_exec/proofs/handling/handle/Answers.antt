@@ -14,7 +14,7 @@ returns-in-Call-clause-done c =
     let a : Canister = c.args.canister.now in
     let k = c.in-Call in
     done_is c.handle_call.result c.handle_call.new.canister (local_call (enters_by system_api) c.args.env (seen a) k.origin k.sender k.method k.arg k.cycles (admitted (seen a) k.method))
-    (local (enters_by system_api) c.args.env (seen a) c.args.message) c.handle_call.ensures.done
+    (local (enters_by system_api) c.args.env (seen a) c.args.message) (rw c.env.ensures.value at c.handle_call.ensures.done)
     (local_of_call (enters_by system_api) c.args.env (seen a) c.args.message k.origin k.sender k.callee k.method k.arg k.cycles k.is)
 
 pub returns-in-Canister-clause-done : goal.returns-in-Canister-clause-done

@@ -10,7 +10,7 @@ returns-in-Err g c =
     record {
       turns = inl (
         (c.in-Ok.next, c.in-Ok.text),
-        sym (ap (after_line c.args.options.now c.args.world) line) ∙ c.in-Ok.ensures,
+        sym (ap (after_line c.args.setting.now.options.now c.args.world) line) ∙ c.in-Ok.ensures,
         rw (sym text) c.in-Err.ensures,
       );
     }

@@ -8,8 +8,8 @@ use Rattle.ic_methods.specs.Taken.{incoming_of}
 use Rattle.ic_methods.proofs.Cycles.{holds}
 use Rattle.ic_methods.proofs.managing.manage.Goals as goal
 
-pub ending_of-requires-clause-holds : goal.ending_of-requires-clause-holds
-ending_of-requires-clause-holds c = holds c.args.parts (incoming_of c.args.call) c.requires.taken
+pub ending_of-requires : goal.ending_of-requires
+ending_of-requires c = record { holds = holds c.args.parts (incoming_of c.args.call) c.requires.taken }
 
 pub returns-clause-state : goal.returns-clause-state
 returns-clause-state c = IfOk-weaker c.send.result _ _ (λ p sent now counts time. sent ∙ c.in_ok-ending.ensures.does now counts time) c.send.ensures.state

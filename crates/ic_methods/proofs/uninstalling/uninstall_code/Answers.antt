@@ -8,12 +8,12 @@ use Rattle.ic_methods.proofs.uninstalling.uninstall_code.Goals as goal
 
 pub returns-clause-does : goal.returns-clause-does
 returns-clause-does c = λ now s stands. ap Ok (
-    uninstalls_is (incoming_of c.args.call.now) c.args.id c.args.canister.now c.close.new.canister c.in_ok-response.response c.in_ok-rejections.rejections c.in_ok-closing.closing c.in_ok-answers.answers
-    (seen c.uninstall.new.canister) c.in_ok-response.ensures c.in_ok-rejections.ensures.emptied c.in_ok-rejections.ensures.answers c.in_ok-closing.ensures.answers c.in_ok-answers.ensures
+    uninstalls_is (incoming_of c.args.call.now) c.args.id c.args.canister.now c.close.new.canister c.in_ok-response.response c.in_ok-answers.answers c.in_ok-closing.closing c.append.new.self
+    (seen c.uninstall.new.canister) c.in_ok-response.ensures c.in_ok-answers.ensures.emptied c.in_ok-answers.ensures.answers c.in_ok-closing.ensures.answers c.in_ok-append.ensures
     c.in_ok-closing.ensures.closed now s stands.counts
     )
 
 pub returns-clause-counts : goal.returns-clause-counts
 returns-clause-counts c = λ now is.
-    let empty = subst (IsTrueOf now c.args.id) (sym c.in_ok-rejections.ensures.emptied) (emptied_true now c.args.id (seen c.args.canister.now) is) in
+    let empty = subst (IsTrueOf now c.args.id) (sym c.in_ok-answers.ensures.emptied) (emptied_true now c.args.id (seen c.args.canister.now) is) in
     subst (IsTrueOf now c.args.id) (sym c.in_ok-closing.ensures.closed) (closed_true now c.args.id (seen c.uninstall.new.canister) empty)

@@ -2,11 +2,11 @@ use Rattle.std.proofs.Common.{◌≡◌, false, is_some, IfOk, sym, ◌∙◌, s
 use Rattle.std.specs.Map.{lookup}
 use Rattle.ic_behaviour.specs.declared.call.Message.{Message}
 use Rattle.ic_behaviour.specs.State.{at, callee_of}
-use Rattle.ic_mgmt.proofs.Handles.{Handled, taken_out, managed_ok, sent_ok, answer_delivers}
+use Rattle.ic_mgmt.proofs.Handles.{Handled, taken_out, managed_ok, sent_delivers, answer_delivers}
 use Rattle.ic_mgmt.proofs.outside.handle.Goals as goal
 
-pub manage-requires-clause-taken : goal.manage-requires-clause-taken
-manage-requires-clause-taken c = taken_out c.requires.next.0 c.args.message c.args.parts _ c.in-Call.callee c.in-Call.is c.requires.next.1
+pub manage-requires : goal.manage-requires
+manage-requires c = record { taken = taken_out c.requires.next.0 c.args.message c.args.parts _ c.in-Call.callee c.in-Call.is c.requires.next.1 }
 
 pub returns-then-is_management : goal.returns-then-is_management
 returns-then-is_management c =
@@ -18,9 +18,9 @@ returns-then-is_management c =
 pub returns-in-Call : goal.returns-in-Call
 returns-in-Call c =
     let absent = subst (λ (m : Message). is_some (lookup (at (callee_of m)) c.args.parts.canisters.entries) ≡ false) c.in-Call.is c.requires.absent in
-    subst (λ (m : Message). IfOk c.send_back.result (Handled c.args.limit m c.args.parts)) (sym c.in-Call.is)
-    (sent_ok c.args.limit c.in-Call.origin c.in-Call.sender c.in-Call.callee c.in-Call.method c.in-Call.arg c.in-Call.cycles c.args.parts absent
-    c.send_back.result (sym c.is_management.ensures ∙ c.if-is_management.false) c.send_back.ensures)
+    subst (λ (m : Message). Handled c.args.limit m c.args.parts c.send_back.new.parts) (sym c.in-Call.is)
+    (λ kept todo is. sent_delivers c.args.limit kept c.in-Call.origin c.in-Call.sender c.in-Call.callee c.in-Call.method c.in-Call.arg c.in-Call.cycles todo c.args.parts is absent
+    c.send_back.new.parts (sym c.is_management.ensures ∙ c.if-is_management.false) c.in_ok-send_back-in-Call.ensures.back)
 
 pub returns : goal.returns
 returns c =

@@ -14,7 +14,7 @@ all_turns-requires-clause-few g c κs within =
     let firsts = c.open-firsts.result.0.items in
     let left = c.open-firsts.result.1 in
     let began = begins rest queues is c.in_ok-keys.keys.items c.in_ok-draw_all.field-0 firsts left c.in_ok-keys.ensures c.in_ok-draw_all.ensures c.open-firsts.ensures.firsts c.open-firsts.ensures.queues in
-    omega (arith, c.open-firsts.result.0.ok.0, few_firsts rest queues is c.args.limit c.args.price firsts left began)
+    omega (arith, c.open-firsts.result.0.ok.0, few_firsts rest queues is c.args.charge.limit c.args.charge.price firsts left began)
 
 pub all_turns-requires-clause-firsts : goal.all_turns-requires-clause-firsts
 all_turns-requires-clause-firsts g c κs within =
@@ -24,7 +24,7 @@ all_turns-requires-clause-firsts g c κs within =
     let firsts = c.open-firsts.result.0.items in
     let left = c.open-firsts.result.1 in
     let began = begins rest queues is c.in_ok-keys.keys.items c.in_ok-draw_all.field-0 firsts left c.in_ok-keys.ensures c.in_ok-draw_all.ensures c.open-firsts.ensures.firsts c.open-firsts.ensures.queues in
-    are_firsts rest queues is c.args.limit c.args.price firsts left began
+    are_firsts rest queues is c.args.charge.limit c.args.charge.price firsts left began
 
 pub all_turns-requires-clause-ready : goal.all_turns-requires-clause-ready
 all_turns-requires-clause-ready g c κs within =
@@ -34,7 +34,7 @@ all_turns-requires-clause-ready g c κs within =
     let firsts = c.open-firsts.result.0.items in
     let left = c.open-firsts.result.1 in
     let began = begins rest queues is c.in_ok-keys.keys.items c.in_ok-draw_all.field-0 firsts left c.in_ok-keys.ensures c.in_ok-draw_all.ensures c.open-firsts.ensures.firsts c.open-firsts.ensures.queues in
-    firsts_ready rest queues is c.args.limit c.args.price firsts left began
+    rw c.at-env.ensures (firsts_ready rest queues is c.args.charge.limit c.args.charge.price firsts left began)
 
 pub all_turns-requires-clause-keep : goal.all_turns-requires-clause-keep
 all_turns-requires-clause-keep g c κs within =
@@ -44,7 +44,7 @@ all_turns-requires-clause-keep g c κs within =
     let firsts = c.open-firsts.result.0.items in
     let left = c.open-firsts.result.1 in
     let began = begins rest queues is c.in_ok-keys.keys.items c.in_ok-draw_all.field-0 firsts left c.in_ok-keys.ensures c.in_ok-draw_all.ensures c.open-firsts.ensures.firsts c.open-firsts.ensures.queues in
-    rest_keep rest queues is c.args.limit c.args.price firsts left began
+    rest_keep rest queues is c.args.charge.limit c.args.charge.price firsts left began
 
 pub seal-requires : goal.seal-requires
 seal-requires g c =
@@ -54,8 +54,8 @@ seal-requires g c =
     let firsts = c.open-firsts.result.0.items in
     let left = c.open-firsts.result.1 in
     let began = begins rest queues is c.in_ok-keys.keys.items c.in_ok-draw_all.field-0 firsts left c.in_ok-keys.ensures c.in_ok-draw_all.ensures c.open-firsts.ensures.firsts c.open-firsts.ensures.queues in
-    let ends = sealed rest queues is c.args.limit c.args.price firsts left began c.in_ok-parts.parts c.taken_apart-rest.result.0 c.in_ok-queues.queues
-    c.taken_apart-rest.result.1 c.in_ok-parts.ensures.keep c.in_ok-parts.ensures.stored c.taken_apart-rest.ensures.rest c.taken_apart-rest.ensures.messages
+    let ends = sealed rest queues is c.args.charge.limit c.args.charge.price firsts left began c.in_ok-parts.parts c.taken_apart-rest.result.0 c.in_ok-queues.queues
+    c.taken_apart-rest.result.1 c.in_ok-parts.ensures.keep (rw c.at-env.ensures at c.in_ok-parts.ensures.stored) c.taken_apart-rest.ensures.rest c.taken_apart-rest.ensures.messages
     c.in_ok-queues.ensures.messages c.in_ok-queues.ensures.canisters in
     ends.keeps
 
@@ -67,9 +67,9 @@ returns g c =
     let firsts = c.open-firsts.result.0.items in
     let left = c.open-firsts.result.1 in
     let began = begins rest queues is c.in_ok-keys.keys.items c.in_ok-draw_all.field-0 firsts left c.in_ok-keys.ensures c.in_ok-draw_all.ensures c.open-firsts.ensures.firsts c.open-firsts.ensures.queues in
-    let ends = sealed rest queues is c.args.limit c.args.price firsts left began c.in_ok-parts.parts c.taken_apart-rest.result.0 c.in_ok-queues.queues
-    c.taken_apart-rest.result.1 c.in_ok-parts.ensures.keep c.in_ok-parts.ensures.stored c.taken_apart-rest.ensures.rest c.taken_apart-rest.ensures.messages
+    let ends = sealed rest queues is c.args.charge.limit c.args.charge.price firsts left began c.in_ok-parts.parts c.taken_apart-rest.result.0 c.in_ok-queues.queues
+    c.taken_apart-rest.result.1 c.in_ok-parts.ensures.keep (rw c.at-env.ensures at c.in_ok-parts.ensures.stored) c.taken_apart-rest.ensures.rest c.taken_apart-rest.ensures.messages
     c.in_ok-queues.ensures.messages c.in_ok-queues.ensures.canisters in
     λ outside.
-    let rules = system_rules outside c.args.limit c.args.price in
+    let rules = system_rules outside c.args.charge.limit c.args.charge.price in
     c.seal.ensures ∙ ends.state outside ∙ ap (λ (t : State). along rules t (first_phase rules t)) c.open-rest.ensures.state

@@ -6,4 +6,4 @@ use Rattle.ic_queue_rounds.proofs.rounds.round.Goals as goal
 
 pub returns : goal.returns
 returns g c =
-    IfOk-weaker c.outside_turns.result _ _ (λ end done. round_is (managed_rules c.args.limit c.args.price) c.args.world c.in_ok-world.world end (c.in_ok-world.ensures managing) (done c.args.price)) c.outside_turns.ensures
+    IfOk-weaker c.outside_turns.result _ _ (λ end done. round_is (managed_rules c.args.charge.limit c.args.charge.price) c.args.world c.in_ok-world.world end (c.in_ok-world.ensures managing) (done c.args.charge.price)) c.outside_turns.ensures

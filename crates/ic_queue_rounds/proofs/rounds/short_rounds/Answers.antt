@@ -19,14 +19,14 @@ returns-then-not-has_few_messages-clause-made g c = sym c.loop-made.invariant.ma
 
 pub returns-clause-state : goal.returns-clause-state
 returns-clause-state g c =
-    let rules = managed_rules c.args.limit c.args.price in
+    let rules = managed_rules c.args.charge.limit c.args.charge.price in
     let now = c.loop-made.world in
     let all : c.loop-made.made ≡ c.args.count = omega arith in
     subst (λ (n : ℕ). along rules now (concat (rounds rules (c.args.count - n) now)) ≡ along rules c.args.world (concat (rounds rules c.args.count c.args.world))) all (sym c.loop-made.invariant.state)
 
 pub returns-clause-made : goal.returns-clause-made
 returns-clause-made g c =
-    let rules = managed_rules c.args.limit c.args.price in
+    let rules = managed_rules c.args.charge.limit c.args.charge.price in
     let now = c.loop-made.world in
     let all : c.loop-made.made ≡ c.args.count = omega arith in
     subst (λ (n : ℕ). n + length (rounds rules (c.args.count - n) now) ≡ length (rounds rules c.args.count c.args.world)) all (sym c.loop-made.invariant.many)

@@ -3,4 +3,4 @@ use Rattle.ic_round.proofs.Roundings.{Rounding}
 use Rattle.ic_queue_rounds.proofs.rounds.short_rounds.Given as goal
 
 abbrev pub invariant-loop-made : goal.invariant-loop-made
-invariant-loop-made g l = Rounding (managed_rules l.limit l.price) l.count l.made l.fn.world l.world
+invariant-loop-made g l = Rounding (managed_rules l.charge.limit l.charge.price) l.count l.made l.fn.world l.world

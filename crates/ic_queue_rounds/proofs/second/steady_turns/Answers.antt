@@ -10,16 +10,18 @@ use Rattle.ic_queue_rounds.specs.InQueues.{with_messages}
 use Rattle.ic_queue_rounds.proofs.Passes.{begins, sealed}
 use Rattle.ic_queue_rounds.proofs.second.steady_turns.Goals as goal
 
-pub all_handled-requires-clause-passing : goal.all_handled-requires-clause-passing
-all_handled-requires-clause-passing c =
+pub all_handled-requires : goal.all_handled-requires
+all_handled-requires c =
     let rest = c.open-rest.result.0 in
     let queues = c.open-rest.result.1 in
     let is = c.open-rest.ensures.keeps in
     let steady = subst (λ (s : State). AllByRecursion (λ (m : Message). is_steady m ≡ true) s.messages) (sym c.open-rest.ensures.state) c.requires.steady in
     record {
-      start = with_messages rest queues.messages;
-      inside = (without_outs queues).messages;
-      passing = begins c.args.limit rest queues is steady c.outs.inside.items.items (c.outs.view_is ∙ c.in_ok-queues.ensures.messages);
+      passing = record {
+        start = with_messages rest queues.messages;
+        inside = (without_outs queues).messages;
+        passing = begins c.args.limit rest queues is steady c.outs.inside.items.items (c.outs.view_is ∙ c.in_ok-queues.ensures.messages);
+      };
     }
 
 pub seal-requires : goal.seal-requires

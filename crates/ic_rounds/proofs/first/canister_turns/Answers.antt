@@ -31,7 +31,7 @@ all_turns-requires-clause-ready g c κs within =
     let firsts = c.in_ok-firsts.firsts.items in
     let left = c.in_ok-firsts.left in
     let values = passed p is c.in_ok-taken_out.field-0 firsts left c.in_ok-taken_out.ensures c.in_ok-firsts.ensures.firsts c.in_ok-firsts.ensures.left in
-    passed_ready p is left firsts values c.args.limit c.args.price _ refl
+    rw c.at-env.ensures (passed_ready p is left firsts values c.args.limit c.args.price _ refl)
 
 pub seal-requires : goal.seal-requires
 seal-requires g c =
@@ -40,7 +40,7 @@ seal-requires g c =
     let firsts = c.in_ok-firsts.firsts.items in
     let left = c.in_ok-firsts.left in
     let values = passed p is c.in_ok-taken_out.field-0 firsts left c.in_ok-taken_out.ensures c.in_ok-firsts.ensures.firsts c.in_ok-firsts.ensures.left in
-    (code_ends p is left firsts values c.args.limit c.args.price c.in_ok-parts.parts c.in_ok-parts.ensures.keep c.in_ok-parts.ensures.stored).0
+    (code_ends p is left firsts values c.args.limit c.args.price c.in_ok-parts.parts c.in_ok-parts.ensures.keep (rw c.at-env.ensures at c.in_ok-parts.ensures.stored)).0
 
 pub returns-clause-state : goal.returns-clause-state
 returns-clause-state g c =
@@ -51,7 +51,7 @@ returns-clause-state g c =
     let values = passed p is c.in_ok-taken_out.field-0 firsts left c.in_ok-taken_out.ensures c.in_ok-firsts.ensures.firsts c.in_ok-firsts.ensures.left in
     λ outside.
     let rules = system_rules outside c.args.limit c.args.price in
-    c.seal.ensures ∙ (code_ends p is left firsts values c.args.limit c.args.price c.in_ok-parts.parts c.in_ok-parts.ensures.keep c.in_ok-parts.ensures.stored).1 outside
+    c.seal.ensures ∙ (code_ends p is left firsts values c.args.limit c.args.price c.in_ok-parts.parts c.in_ok-parts.ensures.keep (rw c.at-env.ensures at c.in_ok-parts.ensures.stored)).1 outside
     ∙ ap (λ (t : State). along rules t (first_phase rules t)) c.open-canisters.ensures.state
 
 pub returns-clause-handled : goal.returns-clause-handled

@@ -28,6 +28,6 @@ loop-key-preserved g c =
     let end : Stored = fold (settle_in c.args.env) (stored_of p) (map slot_of (slots_of p.canisters.entries c.args.firsts.items)) in
     record {
       left = more c.args.env end c.loop-key.parts c.take_turn.new.parts _ c.pop_front.new.self.items (subst (AreLeft c.args.env end c.loop-key.parts) c.in-Some.ensures.items c.loop-key.invariant.left)
-          c.in_ok-take_turn.ensures.turn c.in_ok-take_turn.ensures.keep;
-      place = omega (arith, ap length c.in-Some.ensures.items, c.loop-key.invariant.place);
+          c.in_ok-number.ensures.turn c.in_ok-number.ensures.keep;
+      place = omega (arith, ap length c.in-Some.ensures.items, c.loop-key.invariant.place, c.in_ok-number.ensures.number, c.pass-permit.ensures.number);
     }

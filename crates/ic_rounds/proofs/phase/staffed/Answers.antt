@@ -4,8 +4,9 @@ use Rattle.std.proofs.lemmas.Iterator.Consumers.{YieldsList-turn, YieldsList-end
 use Rattle.std.proofs.lemmas.Iterator.Adapters.{YieldsList-from_vec}
 use Rattle.ic_tickets.specs.Tickets.{IsOf, IsFresh}
 use Rattle.ic_rounds.specs.declared.worker.Worker.{Worker}
-use Rattle.ic_rounds.specs.Workers.{IsIdle}
+use Rattle.ic_rounds.specs.Workers.{IsIdle, AreNumbered}
 use Rattle.ic_rounds.proofs.Elements.{each-read, each-snoc}
+use Rattle.ic_rounds.proofs.Works.{numbered-snoc}
 use Rattle.ic_rounds.proofs.phase.staffed.Goals as goal
 
 pub overflow_cast-number : goal.overflow_cast-number
@@ -36,10 +37,10 @@ loop-pass-preserved c =
       outbox = c.in_ok-outbox.ensures.items;
       room = omega (arith, c.requires.count, c.in_ok-outbox.ensures.exact);
       ready = c.requires.ready;
-      limit = c.requires.limit;
     } in
     record {
       workers = subst (AllByRecursion (IsIdle t c.args.env)) (sym c.push_reserved.ensures.items) (each-snoc (IsIdle t c.args.env) c.loop-pass.workers.items w c.loop-pass.invariant.workers idle);
+      numbers = subst (AreNumbered 0) (sym c.push_reserved.ensures.items) (numbered-snoc 0 c.loop-pass.workers.items w c.loop-pass.invariant.numbers (omega (arith, c.len-number.ensures, c.loop-pass.workers.ok.0)));
       many = omega (arith, c.push_reserved.ensures.len, c.loop-pass.invariant.many, length-append c.loop-pass.yielded (c.in-Some.pass ∷ []));
       room = c.push_reserved.ensures.capacity ∙ c.loop-pass.invariant.room;
     }

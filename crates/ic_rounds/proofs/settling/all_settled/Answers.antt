@@ -9,8 +9,8 @@ use Rattle.ic_rounds.specs.Settling.{Stored, stored_of}
 use Rattle.ic_rounds.proofs.Settles.{turn_fits, Aside, Aside-more}
 use Rattle.ic_rounds.proofs.settling.all_settled.Goals as goal
 
-pub overflow_add-parts : goal.overflow_add-parts
-overflow_add-parts c =
+pub settle-requires : goal.settle-requires
+settle-requires c =
     let turns = c.args.turns in
     let gives = c.into_iter-turn-iterator.ensures.into_iter_gives in
     let road = YieldsList-from_vec {s = c.into_iter-turn-iterator.result} turns.items gives.0 (gives.1 ∙ turns.ok.0) in
@@ -18,7 +18,7 @@ overflow_add-parts c =
     let so_far = YieldsList-so_far road c.loop-turn.yielded c.loop-turn.turn-iterator c.loop-turn.yielded_by in
     let fits = turn_fits (stored_of c.args.parts) turns.items c.loop-turn.yielded c.in-Some.turn c.requires.turns here.0 here.1 (sym (map-id c.loop-turn.yielded) ∙ so_far) in
     let burned = ap (λ (w : Stored). w.burned) c.loop-turn.invariant.aside.others in
-    omega (arith, fits.1, burned)
+    record { room = omega (arith, fits.1, burned) }
 
 pub loop-turn-preserved : goal.loop-turn-preserved
 loop-turn-preserved c =
@@ -29,8 +29,8 @@ loop-turn-preserved c =
     let so_far = YieldsList-so_far road c.loop-turn.yielded c.loop-turn.turn-iterator c.loop-turn.yielded_by in
     let fits = turn_fits (stored_of c.args.parts) turns.items c.loop-turn.yielded c.in-Some.turn c.requires.turns here.0 here.1 (sym (map-id c.loop-turn.yielded) ∙ so_far) in
     record {
-      aside = subst (Aside (stored_of c.args.parts) (c.loop-turn.yielded ++ c.in-Some.turn ∷ []) c.send.new.parts) (sym c.push_reserved.ensures.items)
-          (Aside-more (stored_of c.args.parts) c.loop-turn.yielded c.loop-turn.parts c.send.new.parts c.loop-turn.canisters.items c.in-Some.turn c.loop-turn.invariant.aside fits.0 c.in_ok-send.ensures);
+      aside = subst (Aside (stored_of c.args.parts) (c.loop-turn.yielded ++ c.in-Some.turn ∷ []) c.settle.new.parts) (sym c.push_reserved.ensures.items)
+          (Aside-more (stored_of c.args.parts) c.loop-turn.yielded c.loop-turn.parts c.settle.new.parts c.loop-turn.canisters.items c.in-Some.turn c.loop-turn.invariant.aside fits.0 c.in_ok-settle.ensures.sent);
       many = omega (arith, c.push_reserved.ensures.len, c.loop-turn.invariant.many, length-append c.loop-turn.yielded (c.in-Some.turn ∷ []));
       room = c.push_reserved.ensures.capacity ∙ c.loop-turn.invariant.room;
     }

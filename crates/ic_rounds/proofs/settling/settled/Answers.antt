@@ -21,8 +21,8 @@ returns-then-is_empty-clause-stored g c =
     IfOk-weaker c.all_settled.result (λ p. stored_of p ≡ fold put_turn (stored_of c.args.parts) turns) _
     (λ p is. is ∙ turns_all c.args.env (stored_of c.args.parts) c.args.slots.items turns c.in_ok-turns.ensures) c.all_settled.ensures.stored
 
-pub settle-requires-clause-keeps : goal.settle-requires-clause-keeps
-settle-requires-clause-keeps g c =
+pub put_turn-requires-clause-keeps : goal.put_turn-requires-clause-keeps
+put_turn-requires-clause-keeps g c =
     let gives = c.into_iter-turn-iterator.ensures.into_iter_gives in
     let turns = c.in_ok-turns.turns in
     let road = YieldsList-from_vec {s = c.into_iter-turn-iterator.result} turns.items gives.0 (gives.1 ∙ turns.ok.0) in
@@ -31,8 +31,8 @@ settle-requires-clause-keeps g c =
     (turn_fits (stored_of c.args.parts) turns.items c.loop-turn.yielded c.in-Some.turn (are_turns c.args.env (stored_of c.args.parts) c.args.slots.items turns.items c.requires.ready c.in_ok-turns.ensures) here.0 here.1
     (sym (map-id c.loop-turn.yielded) ∙ so_far)).0
 
-pub settle-requires-clause-room : goal.settle-requires-clause-room
-settle-requires-clause-room g c =
+pub put_turn-requires-clause-room : goal.put_turn-requires-clause-room
+put_turn-requires-clause-room g c =
     let gives = c.into_iter-turn-iterator.ensures.into_iter_gives in
     let turns = c.in_ok-turns.turns in
     let road = YieldsList-from_vec {s = c.into_iter-turn-iterator.result} turns.items gives.0 (gives.1 ∙ turns.ok.0) in
@@ -40,7 +40,7 @@ settle-requires-clause-room g c =
     let so_far = YieldsList-so_far road c.loop-turn.yielded c.loop-turn.turn-iterator c.loop-turn.yielded_by in
     let fits = turn_fits (stored_of c.args.parts) turns.items c.loop-turn.yielded c.in-Some.turn (are_turns c.args.env (stored_of c.args.parts) c.args.slots.items turns.items c.requires.ready c.in_ok-turns.ensures) here.0 here.1
     (sym (map-id c.loop-turn.yielded) ∙ so_far) in
-    subst (λ (n : ℕ). n + c.in-Some.turn.burned ≤ 2 ^ 127 - 1) (sym (ap (λ (w : Stored). w.burned) c.loop-turn.invariant.stored)) fits.1
+    subst (λ (n : ℕ). n + c.in-Some.turn.done.burned ≤ 2 ^ 127 - 1) (sym (ap (λ (w : Stored). w.burned) c.loop-turn.invariant.stored)) fits.1
 
 pub returns-clause-stored : goal.returns-clause-stored
 returns-clause-stored g c =

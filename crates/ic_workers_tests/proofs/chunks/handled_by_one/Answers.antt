@@ -9,12 +9,12 @@ use Rattle.ic_rounds.proofs.Elements.{each-read}
 use Rattle.ic_workers_tests.proofs.Parts.{zip-parts}
 use Rattle.ic_workers_tests.proofs.chunks.handled_by_one.Goals as goal
 
-pub handled-requires-clause-ready : goal.handled-requires-clause-ready
-handled-requires-clause-ready g c =
+pub handled-requires : goal.handled-requires
+handled-requires g c =
     let gives = c.into_iter-slot-iterator.ensures.into_iter_gives in
     let road = YieldsList-from_vec {s = c.into_iter-slot-iterator.result} c.args.share.slots.items gives.0 (gives.1 ∙ c.args.share.slots.ok.0) in
     let here = YieldsList-turn road c.loop-slot.yielded c.loop-slot.slot-iterator c.loop-slot.yielded_by c.next.result c.next.new.self c.in-Some.slot c.in-Some.is c.next.ensures.steps in
-    each-read IsReady c.args.share.slots.items (length c.loop-slot.yielded) c.in-Some.slot c.requires.ready here.0 here.1
+    record { ready = each-read IsReady c.args.share.slots.items (length c.loop-slot.yielded) c.in-Some.slot c.requires.ready here.0 here.1 }
 
 pub push_reserved-requires : goal.push_reserved-requires
 push_reserved-requires g c =

@@ -4,21 +4,22 @@ use Rattle.ic_rounds.proofs.working.WorkerWorkShop.work.Goals as goal
 
 pub handle-requires-clause-ready : goal.handle-requires-clause-ready
 handle-requires-clause-ready g c =
-    Works-ready c.args.shop.now.tickets.now c.args.shop.now.env c.loop-drawn.self.pass c.draw.new.pass c.loop-drawn.self.outbox.items c.loop-drawn.invariant.works _ _ c.in-Some.ensures.some c.requires.ready
+    Works-ready c.args.shop.now.tickets.now c.args.shop.now.env c.loop-drawn.self.number c.loop-drawn.self.pass c.draw.new.pass c.loop-drawn.self.outbox.items c.loop-drawn.invariant.works _ _ c.in-Some.ensures.some c.requires.ready
 
 pub handle-requires-clause-room : goal.handle-requires-clause-room
 handle-requires-clause-room g c =
-    let more = Works-room c.args.shop.now.tickets.now c.args.shop.now.env c.loop-drawn.self.pass c.draw.new.pass c.loop-drawn.self.outbox.items c.loop-drawn.invariant.works _ _ c.in-Some.ensures.some in
+    let more = Works-room c.args.shop.now.tickets.now c.args.shop.now.env c.loop-drawn.self.number c.loop-drawn.self.pass c.draw.new.pass c.loop-drawn.self.outbox.items c.loop-drawn.invariant.works _ _ c.in-Some.ensures.some in
     omega (arith, more, c.loop-drawn.self.outbox.ok.0, c.loop-drawn.invariant.room)
 
 pub loop-drawn-smaller : goal.loop-drawn-smaller
 loop-drawn-smaller g c =
-    Works-falls c.args.shop.now.tickets.now c.args.shop.now.env c.loop-drawn.self.pass c.draw.new.pass c.loop-drawn.self.outbox.items c.loop-drawn.invariant.works _ _ c.in-Some.ensures.some
+    Works-falls c.args.shop.now.tickets.now c.args.shop.now.env c.loop-drawn.self.number c.loop-drawn.self.pass c.draw.new.pass c.loop-drawn.self.outbox.items c.loop-drawn.invariant.works _ _ c.in-Some.ensures.some
 
 pub loop-drawn-preserved : goal.loop-drawn-preserved
 loop-drawn-preserved g c =
     record {
-      works = Works-more c.args.shop.now.tickets.now c.args.shop.now.env c.loop-drawn.self.pass c.draw.new.pass c.loop-drawn.self.outbox.items c.loop-drawn.invariant.works _ _ c.in-Some.ensures.some
+      works = Works-more c.args.shop.now.tickets.now c.args.shop.now.env c.loop-drawn.self.number c.loop-drawn.self.pass c.draw.new.pass c.loop-drawn.self.outbox.items c.loop-drawn.invariant.works _ _ c.in-Some.ensures.some
           c.draw.ensures.own c.handle.new.outbox.items c.handle.ensures.filed;
+      number = c.loop-drawn.invariant.number;
       room = omega (arith, c.loop-drawn.invariant.room, c.handle.ensures.capacity);
     }

@@ -1,6 +1,6 @@
 use Rattle.std.proofs.Common.{refl}
 use Rattle.ic_rounds.proofs.Elements.{zip-halves}
-use Rattle.ic_rounds.proofs.crew.+halves.Goals as goal
+use Rattle.ic_rounds.proofs.halves.+halves.Goals as goal
 
 pub all_work-returns : goal.all_work-returns
 all_work-returns g n c =

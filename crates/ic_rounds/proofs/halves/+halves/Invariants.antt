@@ -1,5 +1,5 @@
 use Rattle.std.proofs.Common.{◌+◌, ◌-◌, ◌*◌, length}
-use Rattle.ic_rounds.proofs.crew.+halves.Given as goal
+use Rattle.ic_rounds.proofs.halves.+halves.Given as goal
 
 abbrev pub decreases-all_work : goal.decreases-all_work
 decreases-all_work g l = 4 * length l.workers.now
