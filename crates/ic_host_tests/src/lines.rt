@@ -1,6 +1,5 @@
 use crate::running::script_of;
-use ic_path::Path;
-use ic_principal::Principal;
+use ic_principal::{Path, Principal};
 use ic_script::{Ask, Command, LineError, Paths, parse_line};
 use std::alloc::Global;
 

@@ -1,5 +1,4 @@
-use ic_path::Path;
-use ic_principal::{Bytes, Principal, Text};
+use ic_principal::{Bytes, Path, Principal, Text};
 use std::marker::Model;
 
 /// A request to a canister, as a line spells it.

@@ -8,8 +8,7 @@ use crate::command::Paths;
 use crate::line_cause::LineError;
 use hex::FromHexError;
 use ic_base::NoMemory;
-use ic_path::Path;
-use ic_principal::Bytes;
+use ic_principal::{Bytes, Path};
 use std::alloc::Global;
 
 const MOST_PATHS: usize = 64;

@@ -4,8 +4,7 @@ ghost use Rattle.ic_witness.specs.At.{at, at_end, is_hidden, is_ordered, part_un
 ghost use Rattle.ic_witness.specs.Nodes.{flat};
 ghost use Rattle.ic_witness.specs.Walks.{answer, closed, gap_at, gap_through, hidden};
 
-use ic_path::Path;
-use ic_principal::Bytes;
+use ic_principal::{Bytes, Path};
 use ic_tree::Tree;
 
 /// What a tree says of a path.

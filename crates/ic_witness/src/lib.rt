@@ -19,7 +19,7 @@ mod writing;
 
 pub use fault::TreeFault;
 pub use finding::{Found, look_up};
-pub use ic_path::Path;
+pub use ic_principal::Path;
 pub use laws::{
     no_front, one_tree, pruned_at, pruned_depth, pruned_ordered, pruned_root, read_back, state_at,
     state_says, state_stands, trees_read,

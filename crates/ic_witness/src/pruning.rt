@@ -10,8 +10,7 @@ ghost use Rattle.ic_witness.specs.Whole.{is_whole};
 use crate::levels::{Level, is_one_leaf, level_of};
 use crate::needs::{has_empty, has_needed, is_among, needed_labels, rests};
 use ic_base::NoMemory;
-use ic_path::Path;
-use ic_principal::Bytes;
+use ic_principal::{Bytes, Path};
 use ic_tree::{Tree, fork, labeled, root};
 use std::alloc::Global;
 

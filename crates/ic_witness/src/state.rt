@@ -6,8 +6,7 @@ ghost use Rattle.ic_witness.specs.Witness.{HasWitnesses, state_witness, witness_
 use crate::pruning::witness;
 use crate::writing::write;
 use ic_base::NoMemory;
-use ic_path::Path;
-use ic_principal::Bytes;
+use ic_principal::{Bytes, Path};
 use ic_state::World;
 use ic_tree::{Tree, state_tree};
 use std::alloc::Global;
