@@ -7,3 +7,8 @@ pub mod Listings
 pub mod Ties
 pub mod Changes
 mod Witness
+pub mod Lists
+pub mod Delivers
+pub mod Chains
+pub mod SomeTurn
+pub mod RunLaws

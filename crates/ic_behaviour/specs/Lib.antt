@@ -14,3 +14,6 @@ pub mod Closing
 pub mod Local
 pub mod Deliver
 pub mod Tallied
+pub mod Steps
+pub mod Round
+pub mod Runs

@@ -4,8 +4,10 @@
 //! A state (`specs/State`) has canisters with their call contexts, messages under way, and the
 //! requests of users. `specs/Sound` says what every state keeps: a call stands in one place, each
 //! context that is still open awaits a call, and cycles are neither made nor lost. `specs/Deliver`
-//! says what the delivery of a message changes. The rows of the System API and the management
-//! canister are arguments of these definitions.
+//! says what the delivery of a message changes. `specs/Steps` says which messages may be delivered next,
+//! `specs/Round` in which order rounds deliver them, and `specs/Runs` what a run is: messages are delivered one
+//! after another, in any order or in rounds. The rows of the System API and the management canister are arguments of
+//! these definitions.
 #![tactic(auto)]
 
 mod call;
@@ -18,6 +20,7 @@ mod laws;
 mod limit;
 mod phase;
 mod request;
+mod runs;
 
 pub use call::{Answered, CallId, Callback, Message, Origin, Response};
 pub use charge::Charge;
@@ -29,3 +32,4 @@ pub use laws::{changes_keep_counts, changes_keep_sound, sound_by_totals};
 pub use limit::{BoundedEnv, InstructionLimit, MOST_INSTRUCTIONS};
 pub use phase::{Controllers, Phase, Waiter, Waiters};
 pub use request::Request;
+pub use runs::{any_order, rounds_are_steps};

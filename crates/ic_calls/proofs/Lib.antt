@@ -3,3 +3,5 @@ pub mod Keeps
 pub mod Opens
 pub mod Receives
 pub mod Sends
+pub mod PhaseKeeps
+pub mod Sets

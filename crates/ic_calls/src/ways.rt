@@ -1,7 +1,7 @@
 ghost use Rattle.std.specs.Prelude.{◌≡◌, []};
 ghost use Rattle.ic_behaviour.specs.State.{caller_of, callee_of};
 ghost use Rattle.ic_behaviour.specs.Deliver.{is_management};
-ghost use Rattle.ic_runs.specs.Steps.{sender_of, same_way};
+ghost use Rattle.ic_behaviour.specs.Steps.{sender_of, same_way};
 
 use ic_principal::Principal;
 use ic_state::{Message, Origin};

@@ -19,10 +19,10 @@ use Rattle.ic_behaviour.specs.Sound.{Sound}
 use Rattle.ic_behaviour.specs.Tallied.{Tallied}
 use Rattle.ic_behaviour.proofs.Ties.{tallied}
 use Rattle.ic_behaviour.proofs.Weights.{at-self, same_id-self, same_id-is, total-at, total-map}
-use Rattle.ic_accounting.proofs.Spots.{Spot, spot}
-use Rattle.ic_accounting.proofs.Places.{total-items, each-mapped, each-true}
-use Rattle.ic_accounting.proofs.Starts.{own_stands}
-use Rattle.ic_accounting.proofs.Delivers.{no_ingress_answer}
+use Rattle.ic_run_laws.proofs.Spots.{Spot, spot}
+use Rattle.ic_run_laws.proofs.Places.{total-items, each-mapped, each-true}
+use Rattle.ic_run_laws.proofs.Starts.{own_stands}
+use Rattle.ic_run_laws.proofs.Delivers.{no_ingress_answer}
 use Rattle.ic_state.specs.declared.canister.Canister.{Canister as StoredCanister}
 use Rattle.ic_state.specs.Seen.{seen}
 use Rattle.ic_state.specs.IsCanister.{IsCanister}

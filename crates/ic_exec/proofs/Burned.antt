@@ -13,7 +13,7 @@ use Rattle.ic_behaviour.specs.Outcomes.{Enters}
 use Rattle.ic_behaviour.specs.Executing.{Work, nothing, is_own, called}
 use Rattle.ic_behaviour.specs.Closing.{Handled, finished}
 use Rattle.ic_behaviour.specs.Local.{admitted, refused, context_of, with_context, begin_call, local_call, with_answer, on_answer, local}
-use Rattle.ic_accounting.proofs.Trapped.{paid}
+use Rattle.ic_run_laws.proofs.Trapped.{paid}
 
 finished_burned : (price : ℕ) (w : Work) → (finished price w).burned ≡ min ((finished price w).canister.balance + (finished price w).burned) (price * (finished price w).used)
 finished_burned price w = ap (λ b. min b (price * w.used)) (sym (paid price w))

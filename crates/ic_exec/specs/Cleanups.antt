@@ -9,7 +9,7 @@ use Rattle.ic_behaviour.specs.State.{Code}
 use Rattle.ic_behaviour.specs.Counted.{CountedCanister}
 use Rattle.ic_behaviour.specs.Outcomes.{Outcome, Enters}
 use Rattle.ic_behaviour.specs.Executing.{view}
-use Rattle.ic_accounting.specs.TrapKeeps.{store_left}
+use Rattle.ic_run_laws.specs.TrapKeeps.{store_left}
 use Rattle.ic_entry.specs.Entered.{told}
 
 abbrev pub cleaned_by : Lists → Outcome → Lists × ℕ

@@ -9,7 +9,7 @@ ghost use Rattle.ic_state.specs.declared.canister.Canister.{Canister as StoredCa
 ghost use Rattle.ic_state.specs.Seen.{seen};
 ghost use Rattle.ic_state.specs.IsCanister.{IsCanister, cycles_of};
 ghost use Rattle.ic_calls.specs.Received.{IsExpected, CanEnter};
-ghost use Rattle.ic_accounting.specs.TrapKeeps.{TrapKeeps};
+ghost use Rattle.ic_run_laws.specs.TrapKeeps.{TrapKeeps};
 ghost use Rattle.ic_api.specs.System.{system_api};
 ghost use Rattle.ic_exec.specs.Executed.{handled_of, done_of, work_of, message_cycles, executed_cycles};
 

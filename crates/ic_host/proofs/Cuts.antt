@@ -11,19 +11,19 @@ use Rattle.ic_script.specs.declared.Command.{Command}
 use Rattle.ic_script.specs.declared.LineCause.{LineCause}
 use Rattle.ic_behaviour.specs.State.{State}
 use Rattle.ic_behaviour.specs.Submitted.{empty}
-use Rattle.ic_runs.specs.Runs.{Act, after, last_state}
-use Rattle.ic_runs.proofs.RunLaws.{after-append}
+use Rattle.ic_behaviour.specs.Runs.{Act, after, last_state}
+use Rattle.ic_behaviour.proofs.RunLaws.{after-append}
 use Rattle.ic_options.specs.declared.Options.{Options}
 use Rattle.ic_options.specs.Options.{options_of}
-use Rattle.ic_printed.specs.Texts.{bad_text}
-use Rattle.ic_lines.specs.declared.status.Status.TheVariants.{Done, BadLine}
-use Rattle.ic_lines.specs.AfterCommand.{acts_of, acts_of_rounds, text_of, fault_of, unless, after_command}
-use Rattle.ic_lines.specs.AfterLine.{after_line, after_spelled}
-use Rattle.ic_lines.specs.EndPart.{end_state, end_part}
-use Rattle.ic_lines.specs.Options.{default_options, rules_of}
-use Rattle.ic_lines.specs.Out.{Output, out, out_of, output_of}
-use Rattle.ic_lines.specs.Script.{script_for, walk_of}
-use Rattle.ic_lines.specs.Walk.{Place, Bad, Walk, start, behind_line, behind, judge, judge_line, onward, walk}
+use Rattle.ic_output.specs.Texts.{bad_text}
+use Rattle.ic_script_runner.specs.declared.status.Status.TheVariants.{Done, BadLine}
+use Rattle.ic_script_runner.specs.AfterCommand.{acts_of, acts_of_rounds, text_of, fault_of, unless, after_command}
+use Rattle.ic_script_runner.specs.AfterLine.{after_line, after_spelled}
+use Rattle.ic_script_runner.specs.EndPart.{end_state, end_part}
+use Rattle.ic_script_runner.specs.Options.{default_options, rules_of}
+use Rattle.ic_script_runner.specs.Out.{Output, out, out_of, output_of}
+use Rattle.ic_script_runner.specs.Script.{script_for, walk_of}
+use Rattle.ic_script_runner.specs.Walk.{Place, Bad, Walk, start, behind_line, behind, judge, judge_line, onward, walk}
 use Rattle.ic_host.specs.Trace.{acts_of_spelled, acts_of_line, acting, acts_from, trace_of, trace, rules}
 use Rattle.ic_host.specs.Printed.{way, judged, lines_shown, state_shown, Cut, PrintedRun, RunIsPrinted}
 

@@ -30,28 +30,28 @@ use Rattle.ic_behaviour.specs.Submitted.{empty}
 use Rattle.ic_behaviour.proofs.Spots.{total-spot}
 use Rattle.ic_behaviour.proofs.Weights.{nat-self, total-append, total-below, total-flat, total-map}
 use Rattle.ic_api.specs.System.{system_api}
-use Rattle.ic_runs.specs.Steps.{Rules, step, IsEligible}
-use Rattle.ic_runs.specs.Runs.{Act, Delivers, Submits, SetsTime, after_act, after, AreAllowed, IsRun, last_state}
-use Rattle.ic_runs.proofs.RunLaws.{after-append}
-use Rattle.ic_accounting.proofs.Delivers.{deliver_is, deliver_none}
-use Rattle.ic_accounting.proofs.Fills.{total-remove}
-use Rattle.ic_accounting.proofs.Histories.{allowed_parts}
-use Rattle.ic_accounting.proofs.Spots.{Spot, spot}
-use Rattle.ic_orders.specs.declared.demand.Demand.{Demand}
-use Rattle.ic_orders.specs.declared.demand.Demand.TheVariants as demand
-use Rattle.ic_orders.specs.declared.denial.Denial.{Denial}
-use Rattle.ic_orders.specs.declared.denial.Denial.TheVariants as D
-use Rattle.ic_orders.specs.Checks.{◌>>=◌, or_else, ordered}
-use Rattle.ic_orders.specs.Denials.{denies}
-use Rattle.ic_orders.specs.Modules.{code_of}
-use Rattle.ic_orders.specs.Replies.{canister_reply, status_reply}
-use Rattle.ic_management.specs.Moves.{Incoming, with_call, awaiting, waiter_of, deleted, emptied, to_context, to_waiter}
-use Rattle.ic_management.specs.Manage.{controllers_in, ended, manage}
-use Rattle.ic_management.specs.Rows.{controllers_or, unless_full, unless_above, next_canister, amount_or, unless_unsuited, installation_on, unless_refused, unless_stopped, at_canister, row, stops_in}
-use Rattle.ic_lifecycle.specs.Texts.{uninstalled, restarted}
+use Rattle.ic_behaviour.specs.Steps.{Rules, step, IsEligible}
+use Rattle.ic_behaviour.specs.Runs.{Act, Delivers, Submits, SetsTime, after_act, after, AreAllowed, IsRun, last_state}
+use Rattle.ic_behaviour.proofs.RunLaws.{after-append}
+use Rattle.ic_run_laws.proofs.Delivers.{deliver_is, deliver_none}
+use Rattle.ic_run_laws.proofs.Fills.{total-remove}
+use Rattle.ic_run_laws.proofs.Histories.{allowed_parts}
+use Rattle.ic_run_laws.proofs.Spots.{Spot, spot}
+use Rattle.ic_mgmt_candid.specs.declared.demand.Demand.{Demand}
+use Rattle.ic_mgmt_candid.specs.declared.demand.Demand.TheVariants as demand
+use Rattle.ic_mgmt_candid.specs.declared.denial.Denial.{Denial}
+use Rattle.ic_mgmt_candid.specs.declared.denial.Denial.TheVariants as D
+use Rattle.ic_mgmt_candid.specs.Checks.{◌>>=◌, or_else, ordered}
+use Rattle.ic_mgmt_candid.specs.Denials.{denies}
+use Rattle.ic_mgmt_candid.specs.Modules.{code_of}
+use Rattle.ic_mgmt_candid.specs.Replies.{canister_reply, status_reply}
+use Rattle.ic_mgmt_laws.specs.Moves.{Incoming, with_call, awaiting, waiter_of, deleted, emptied, to_context, to_waiter}
+use Rattle.ic_mgmt_laws.specs.Manage.{controllers_in, ended, manage}
+use Rattle.ic_mgmt_laws.specs.Rows.{controllers_or, unless_full, unless_above, next_canister, amount_or, unless_unsuited, installation_on, unless_refused, unless_stopped, at_canister, row, stops_in}
+use Rattle.ic_calls.specs.Texts.{uninstalled, restarted}
 use Rattle.ic_options.specs.declared.Options.{Options}
-use Rattle.ic_lines.specs.Options.{rules_of}
-use Rattle.ic_lines.proofs.Keeps.{rules_keep, act_sound, after_sound}
+use Rattle.ic_script_runner.specs.Options.{rules_of}
+use Rattle.ic_script_runner.proofs.Keeps.{rules_keep, act_sound, after_sound}
 use Rattle.ic_host.specs.Headline.{AnswersAreFinal}
 use Rattle.ic_host.proofs.Told.{tells, owes, awaits, closing_tells, settles}
 use Rattle.ic_host.proofs.Traces.{empty_sound}

@@ -16,17 +16,17 @@ use Rattle.ic_behaviour.specs.Submitted.{empty}
 use Rattle.ic_behaviour.specs.Sound.{Sound}
 use Rattle.ic_behaviour.proofs.Ties.{tallied}
 use Rattle.ic_behaviour.proofs.Weights.{laws, at-self}
-use Rattle.ic_runs.specs.Steps.{Rules, step, IsEligible}
-use Rattle.ic_runs.specs.Runs.{Act, Delivers, AllStates, EachState, EachDelivery, IsRun, IsAnyRun, HasMessage, after_act}
-use Rattle.ic_runs.proofs.RunLaws.{all_states, all_deliveries, any_run}
-use Rattle.ic_accounting.proofs.Delivers.{deliver_is}
-use Rattle.ic_accounting.proofs.Drains.{drained_done}
-use Rattle.ic_accounting.proofs.Histories.{allowed_parts, run_answered}
-use Rattle.ic_accounting.proofs.Trapped.{trap_keeps}
-use Rattle.ic_accounting.specs.EntryKeeps.{EntriesKeep}
-use Rattle.ic_accounting.specs.RulesKeep.{RulesKeep}
+use Rattle.ic_behaviour.specs.Steps.{Rules, step, IsEligible}
+use Rattle.ic_behaviour.specs.Runs.{Act, Delivers, AllStates, EachState, EachDelivery, IsRun, IsAnyRun, HasMessage, after_act}
+use Rattle.ic_behaviour.proofs.RunLaws.{all_states, all_deliveries, any_run}
+use Rattle.ic_run_laws.proofs.Delivers.{deliver_is}
+use Rattle.ic_run_laws.proofs.Drains.{drained_done}
+use Rattle.ic_run_laws.proofs.Histories.{allowed_parts, run_answered}
+use Rattle.ic_run_laws.proofs.Trapped.{trap_keeps}
+use Rattle.ic_run_laws.specs.EntryKeeps.{EntriesKeep}
+use Rattle.ic_run_laws.specs.RulesKeep.{RulesKeep}
 use Rattle.ic_host.specs.Headline.{PlacedOnce, Conserves, DoneWhenDrained, AnsweredOnce, IsAnswer, work_on, TrapLeaves, TrapsLeave}
-use Rattle.ic_lines.proofs.Keeps.{act_sound}
+use Rattle.ic_script_runner.proofs.Keeps.{act_sound}
 use Rattle.ic_host.proofs.Told.{settles}
 use Rattle.ic_host.proofs.Traces.{empty_sound}
 

@@ -21,16 +21,16 @@ use Rattle.ic_behaviour.specs.Deliver.{env_at, handled_by, is_management, sent_b
 use Rattle.ic_behaviour.specs.Sound.{Sound, IsNamed}
 use Rattle.ic_behaviour.specs.Submitted.{empty}
 use Rattle.ic_api.specs.System.{system_api}
-use Rattle.ic_runs.specs.Steps.{Rules}
-use Rattle.ic_runs.specs.Runs.{Act, Delivers, Submits, SetsTime, after_act, AllStates, AllDeliveries, OfDelivery, EachDelivery, IsRun}
-use Rattle.ic_runs.proofs.RunLaws.{all_deliveries}
-use Rattle.ic_accounting.proofs.Delivers.{deliver_is}
-use Rattle.ic_accounting.proofs.Spots.{spot}
-use Rattle.ic_management.specs.Moves.{message_of}
-use Rattle.ic_management.specs.Manage.{ended, manage}
+use Rattle.ic_behaviour.specs.Steps.{Rules}
+use Rattle.ic_behaviour.specs.Runs.{Act, Delivers, Submits, SetsTime, after_act, AllStates, AllDeliveries, OfDelivery, EachDelivery, IsRun}
+use Rattle.ic_behaviour.proofs.RunLaws.{all_deliveries}
+use Rattle.ic_run_laws.proofs.Delivers.{deliver_is}
+use Rattle.ic_run_laws.proofs.Spots.{spot}
+use Rattle.ic_mgmt_laws.specs.Moves.{message_of}
+use Rattle.ic_mgmt_laws.specs.Manage.{ended, manage}
 use Rattle.ic_options.specs.declared.Options.{Options}
-use Rattle.ic_lines.specs.Options.{rules_of}
-use Rattle.ic_lines.proofs.Keeps.{rules_keep}
+use Rattle.ic_script_runner.specs.Options.{rules_of}
+use Rattle.ic_script_runner.proofs.Keeps.{rules_keep}
 use Rattle.ic_host.specs.Headline.{turned_away_at, turned_away_by, TurnedAwayLeaves, RefusalsLeave}
 use Rattle.ic_host.proofs.Promises.{each_sound}
 

@@ -37,8 +37,8 @@ use Rattle.ic_behaviour.specs.Executing.{Work, nothing, change, is_own, served, 
 use Rattle.ic_behaviour.specs.Closing.{Handled, is_open, response_for, rejected, released, releases, phase_after, closing, finished}
 use Rattle.ic_behaviour.specs.Local.{admitted, refused, context_of, with_context, begin_call, local_call, one_less, with_answer, on_answer, local}
 use Rattle.ic_behaviour.proofs.Weights.{total-append, total-map, total-below, total-flat, total-at}
-use Rattle.ic_accounting.specs.EntryKeeps.{EntriesKeep}
-use Rattle.ic_accounting.proofs.Works.{split}
+use Rattle.ic_run_laws.specs.EntryKeeps.{EntriesKeep}
+use Rattle.ic_run_laws.proofs.Works.{split}
 
 -- 1 for an answer to this call
 abbrev pub tells : CallId → Answered → ℕ

@@ -15,20 +15,20 @@ use Rattle.ic_behaviour.specs.Sound.{Sound}
 use Rattle.ic_behaviour.specs.Submitted.{empty}
 use Rattle.ic_behaviour.proofs.Ties.{sound as sound_from}
 use Rattle.ic_behaviour.proofs.Changes.{empty_tallied}
-use Rattle.ic_runs.specs.Steps.{IsEligible}
-use Rattle.ic_runs.specs.Runs.{Delivers, Submits, after, AreAllowed, IsRun}
-use Rattle.ic_runs.proofs.RunLaws.{delivers_allowed, allowed-append}
+use Rattle.ic_behaviour.specs.Steps.{IsEligible}
+use Rattle.ic_behaviour.specs.Runs.{Delivers, Submits, after, AreAllowed, IsRun}
+use Rattle.ic_behaviour.proofs.RunLaws.{delivers_allowed, allowed-append}
 use Rattle.ic_schedule.specs.Picks.{is_eligible}
 use Rattle.ic_schedule.proofs.Eligibles.{is-eligible}
 use Rattle.ic_options.specs.declared.Options.{Options}
-use Rattle.ic_lines.specs.Options.{rules_of, default_options}
+use Rattle.ic_script_runner.specs.Options.{rules_of, default_options}
 use Rattle.ic_options.specs.Options.{options_of}
-use Rattle.ic_lines.specs.AfterCommand.{accepts_now, acts_of, acts_of_rounds, fault_of}
-use Rattle.ic_lines.specs.AfterLine.{after_line}
-use Rattle.ic_lines.specs.Script.{script_for}
-use Rattle.ic_lines.specs.Walk.{Place, start, behind_line, judge, judge_line}
+use Rattle.ic_script_runner.specs.AfterCommand.{accepts_now, acts_of, acts_of_rounds, fault_of}
+use Rattle.ic_script_runner.specs.AfterLine.{after_line}
+use Rattle.ic_script_runner.specs.Script.{script_for}
+use Rattle.ic_script_runner.specs.Walk.{Place, start, behind_line, judge, judge_line}
 use Rattle.ic_host.specs.Trace.{acts_of_spelled, acts_of_line, acting, acts_from, trace_of, trace, rules}
-use Rattle.ic_lines.proofs.Keeps.{rules_keep, after_sound, rounds_eligible}
+use Rattle.ic_script_runner.proofs.Keeps.{rules_keep, after_sound, rounds_eligible}
 use Rattle.ic_host.proofs.Cuts.{spells}
 
 -- the acts of rounds, where they begin in a sound state

@@ -8,15 +8,15 @@ use Rattle.ic_script.specs.declared.Command.{Command}
 use Rattle.ic_script.specs.declared.Command.TheVariants.{Nothing}
 use Rattle.ic_script.specs.declared.LineCause.{LineCause}
 use Rattle.ic_behaviour.specs.State.{State}
-use Rattle.ic_runs.specs.Runs.{Act, after}
+use Rattle.ic_behaviour.specs.Runs.{Act, after}
 use Rattle.ic_options.specs.declared.Options.{Options}
 use Rattle.ic_options.specs.Options.{options_of}
-use Rattle.ic_lines.specs.AfterCommand.{accepts_now, answer_now, acts_of, acts_of_rounds, text_of, unless, fault_of, after_command}
-use Rattle.ic_lines.specs.AfterLine.{after_line, after_spelled}
-use Rattle.ic_lines.specs.Options.{default_options, rules_of}
-use Rattle.ic_lines.specs.Out.{out, out_of, output_of}
-use Rattle.ic_lines.specs.Script.{script_for, walk_of}
-use Rattle.ic_lines.specs.Walk.{Place, Bad, Walk, start, behind_line, behind, judge, judge_line, onward, walk}
+use Rattle.ic_script_runner.specs.AfterCommand.{accepts_now, answer_now, acts_of, acts_of_rounds, text_of, unless, fault_of, after_command}
+use Rattle.ic_script_runner.specs.AfterLine.{after_line, after_spelled}
+use Rattle.ic_script_runner.specs.Options.{default_options, rules_of}
+use Rattle.ic_script_runner.specs.Out.{out, out_of, output_of}
+use Rattle.ic_script_runner.specs.Script.{script_for, walk_of}
+use Rattle.ic_script_runner.specs.Walk.{Place, Bad, Walk, start, behind_line, behind, judge, judge_line, onward, walk}
 use Rattle.ic_host.specs.Trace.{acts_of_spelled, acts_of_line, acting, acts_from, trace_of, trace, rules}
 use Rattle.ic_host.specs.Printed.{ButForWorkers}
 

@@ -19,17 +19,17 @@ use Rattle.ic_behaviour.specs.Local.{admit, local}
 use Rattle.ic_behaviour.specs.Deliver.{env_at, filled, answered_by, is_management, without}
 use Rattle.ic_behaviour.specs.Installing.{enters_after}
 use Rattle.ic_api.specs.System.{system_api}
-use Rattle.ic_runs.specs.Steps.{Rules, step}
-use Rattle.ic_runs.specs.Runs.{Act, Delivers, last_state}
-use Rattle.ic_accounting.specs.TrapKeeps.{TrapKeeps}
-use Rattle.ic_accounting.specs.AllDone.{AllDone}
-use Rattle.ic_accounting.specs.RulesKeep.{AnswersCall}
-use Rattle.ic_orders.specs.declared.denial.Denial.{Denial}
-use Rattle.ic_orders.specs.Checks.{◌>>=◌, ordered}
-use Rattle.ic_orders.specs.Denials.{denies}
-use Rattle.ic_management.specs.Moves.{Incoming, message_of, with_call, replied}
-use Rattle.ic_management.specs.Rows.{row}
-use Rattle.ic_management.specs.Manage.{controllers_in}
+use Rattle.ic_behaviour.specs.Steps.{Rules, step}
+use Rattle.ic_behaviour.specs.Runs.{Act, Delivers, last_state}
+use Rattle.ic_run_laws.specs.TrapKeeps.{TrapKeeps}
+use Rattle.ic_run_laws.specs.AllDone.{AllDone}
+use Rattle.ic_run_laws.specs.RulesKeep.{AnswersCall}
+use Rattle.ic_mgmt_candid.specs.declared.denial.Denial.{Denial}
+use Rattle.ic_mgmt_candid.specs.Checks.{◌>>=◌, ordered}
+use Rattle.ic_mgmt_candid.specs.Denials.{denies}
+use Rattle.ic_mgmt_laws.specs.Moves.{Incoming, message_of, with_call, replied}
+use Rattle.ic_mgmt_laws.specs.Rows.{row}
+use Rattle.ic_mgmt_laws.specs.Manage.{controllers_in}
 
 -- no call has two places
 abbrev pub PlacedOnce : State → Type 0

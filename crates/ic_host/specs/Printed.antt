@@ -7,16 +7,16 @@ use Rattle.ic_outside.specs.Pieces.{pieces, line_of}
 use Rattle.ic_script.specs.Line.{command_of}
 use Rattle.ic_script.specs.declared.Command.{Command}
 use Rattle.ic_behaviour.specs.State.{State}
-use Rattle.ic_runs.specs.Runs.{Act, last_state}
+use Rattle.ic_behaviour.specs.Runs.{Act, last_state}
 use Rattle.ic_options.specs.declared.Options.{Options}
 use Rattle.ic_options.specs.Options.{options_of}
-use Rattle.ic_printed.specs.Texts.{bad_text, calls_line, closing}
-use Rattle.ic_lines.specs.declared.status.Status.TheVariants.{Done, BadLine}
-use Rattle.ic_lines.specs.AfterCommand.{acts_of, acts_of_rounds, text_of}
-use Rattle.ic_lines.specs.EndPart.{answers_from, end_state}
-use Rattle.ic_lines.specs.Out.{out}
-use Rattle.ic_lines.specs.Script.{script_for}
-use Rattle.ic_lines.specs.Walk.{Bad, Walk, start, judge, walk}
+use Rattle.ic_output.specs.Texts.{bad_text, calls_line, closing}
+use Rattle.ic_script_runner.specs.declared.status.Status.TheVariants.{Done, BadLine}
+use Rattle.ic_script_runner.specs.AfterCommand.{acts_of, acts_of_rounds, text_of}
+use Rattle.ic_script_runner.specs.EndPart.{answers_from, end_state}
+use Rattle.ic_script_runner.specs.Out.{out}
+use Rattle.ic_script_runner.specs.Script.{script_for}
+use Rattle.ic_script_runner.specs.Walk.{Bad, Walk, start, judge, walk}
 use Rattle.ic_host.specs.Trace.{rules, trace}
 
 -- the way through the first pieces of a script

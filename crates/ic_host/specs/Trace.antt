@@ -6,14 +6,14 @@ use Rattle.ic_script.specs.Line.{command_of}
 use Rattle.ic_script.specs.declared.Command.{Command}
 use Rattle.ic_script.specs.declared.LineCause.{LineCause}
 use Rattle.ic_behaviour.specs.State.{State}
-use Rattle.ic_runs.specs.Steps.{Rules}
-use Rattle.ic_runs.specs.Runs.{Act}
+use Rattle.ic_behaviour.specs.Steps.{Rules}
+use Rattle.ic_behaviour.specs.Runs.{Act}
 use Rattle.ic_options.specs.declared.Options.{Options}
-use Rattle.ic_lines.specs.AfterCommand.{acts_of, acts_of_rounds}
-use Rattle.ic_lines.specs.Options.{default_options, rules_of}
+use Rattle.ic_script_runner.specs.AfterCommand.{acts_of, acts_of_rounds}
+use Rattle.ic_script_runner.specs.Options.{default_options, rules_of}
 use Rattle.ic_options.specs.Options.{options_of}
-use Rattle.ic_lines.specs.Script.{script_for}
-use Rattle.ic_lines.specs.Walk.{Place, Bad, start, behind_line, judge}
+use Rattle.ic_script_runner.specs.Script.{script_for}
+use Rattle.ic_script_runner.specs.Walk.{Place, Bad, start, behind_line, judge}
 
 abbrev pub acts_of_spelled : Options → State → Result Command LineCause → List Act
 acts_of_spelled options state (Ok command) = acts_of options state command

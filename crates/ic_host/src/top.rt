@@ -1,19 +1,19 @@
 ghost use Rattle.std.specs.Prelude.{◌≡◌, ◌≢◌, ◌≤◌, ℕ, List, [], Some, None, IsTrue, IfSome, map, length, string_bytes};
 ghost use Rattle.ic_outside.specs.Faults.{Rose};
 ghost use Rattle.ic_options.specs.Options.{options_of};
-ghost use Rattle.ic_runs.specs.Runs.{IsRun, EachState, EachDelivery};
+ghost use Rattle.ic_behaviour.specs.Runs.{IsRun, EachState, EachDelivery};
 ghost use Rattle.ic_host.specs.Headline.{PlacedOnce, Conserves, DoneWhenDrained, AnsweredOnce, AnswersAreFinal, TrapsLeave, RefusalsLeave, TurnedAwayLeaves};
 ghost use Rattle.ic_host.specs.Printed.{RunIsPrinted, ButForWorkers};
 ghost use Rattle.ic_host.specs.Trace.{rules, trace};
-ghost use Rattle.ic_lines.specs.Acts.{Concludes, usage_output};
-ghost use Rattle.ic_lines.specs.Counts.{source_count_after, sink_count_after};
-ghost use Rattle.ic_lines.specs.Explained.{Explained, GivesOutput, generated_by};
-ghost use Rattle.ic_lines.specs.Out.{out};
-ghost use Rattle.ic_lines.specs.Sending.{sink_at};
+ghost use Rattle.ic_script_runner.specs.Acts.{Concludes, usage_output};
+ghost use Rattle.ic_script_runner.specs.Counts.{source_count_after, sink_count_after};
+ghost use Rattle.ic_script_runner.specs.Explained.{Explained, GivesOutput, generated_by};
+ghost use Rattle.ic_script_runner.specs.Out.{out};
+ghost use Rattle.ic_script_runner.specs.Sending.{sink_at};
 
-use ic_lines::{Status, print_last, run_generated, run_script};
 use ic_options::{Options, usage};
 use ic_outside::{Gate, Sink, Source};
+use ic_script_runner::{Status, print_last, run_generated, run_script};
 use std::alloc::Global;
 use std::thread::Threads;
 

@@ -27,17 +27,17 @@ use Rattle.ic_state.specs.Seen.{seen, state_of}
 use Rattle.ic_state.specs.IsWorld.{HasCounts, IsWorld}
 use Rattle.ic_api.specs.System.{system_api}
 use Rattle.ic_deliver.specs.Delivered.{sent_back_in}
-use Rattle.ic_accounting.proofs.Delivers.{deliver_is, no_answer, answered_advances}
-use Rattle.ic_runs.specs.Steps.{step}
-use Rattle.ic_runs.proofs.Lists.{remove_at}
-use Rattle.ic_management.specs.KeepsCalls.{KeepsCalls}
-use Rattle.ic_management.specs.Moves.{Incoming, message_of, with_call, replied}
-use Rattle.ic_management.specs.Manage.{handled, manage}
-use Rattle.ic_management.specs.Managed.{managed_rules}
-use Rattle.ic_management.proofs.Apart.{same_counts, sends_last}
-use Rattle.ic_management.proofs.Manages.{manage_keeps}
-use Rattle.ic_management.proofs.Steps.{call_counts, replied_keeps}
-use Rattle.ic_methods.specs.Taken.{Taken, AreCanisters, HaveCounts}
+use Rattle.ic_run_laws.proofs.Delivers.{deliver_is, no_answer, answered_advances}
+use Rattle.ic_behaviour.specs.Steps.{step}
+use Rattle.ic_behaviour.proofs.Lists.{remove_at}
+use Rattle.ic_mgmt_laws.specs.KeepsCalls.{KeepsCalls}
+use Rattle.ic_mgmt_laws.specs.Moves.{Incoming, message_of, with_call, replied}
+use Rattle.ic_mgmt_laws.specs.Manage.{handled, manage}
+use Rattle.ic_mgmt_laws.specs.Managed.{managed_rules}
+use Rattle.ic_mgmt_laws.proofs.Apart.{same_counts, sends_last}
+use Rattle.ic_mgmt_laws.proofs.Manages.{manage_keeps}
+use Rattle.ic_mgmt_laws.proofs.Steps.{call_counts, replied_keeps}
+use Rattle.ic_mgmt.specs.Taken.{Taken, AreCanisters, HaveCounts}
 use Rattle.ic_mgmt.specs.Sweeping.{among, Meets, Delivers}
 use Rattle.ic_mgmt.proofs.Sweeps.{is_at_place, seen_there}
 

@@ -2,3 +2,13 @@ pub mod WayLaws
 pub mod Sweeps
 pub mod Handles
 pub mod Singles
+pub mod Entries
+pub mod Numbers
+pub mod Cycles
+pub mod Sends
+pub mod Refusals
+pub mod Rows
+pub mod Installs
+pub mod Worlds
+pub mod Makes
+pub mod Orders

@@ -15,8 +15,8 @@ use Rattle.ic_behaviour.proofs.Weights.{at-is}
 use Rattle.ic_state.specs.declared.world.Parts.{Parts}
 use Rattle.ic_state.specs.Seen.{state_of}
 use Rattle.ic_state.specs.IsWorld.{IsWorld}
-use Rattle.ic_runs.specs.Steps.{step}
-use Rattle.ic_management.specs.Managed.{managed_rules}
+use Rattle.ic_behaviour.specs.Steps.{step}
+use Rattle.ic_mgmt_laws.specs.Managed.{managed_rules}
 use Rattle.ic_mgmt.specs.Sweeping.{among, Delivers}
 use Rattle.ic_mgmt.specs.ToManagement.{IsToManagement}
 use Rattle.ic_mgmt.proofs.Sweeps.{seen_there}

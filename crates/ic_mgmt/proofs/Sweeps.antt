@@ -13,10 +13,10 @@ use Rattle.ic_state.specs.declared.canister.Canister.{Canister as StoredCanister
 use Rattle.ic_state.specs.declared.world.Parts.{Parts}
 use Rattle.ic_state.specs.Seen.{seen, entry_of, state_of}
 use Rattle.ic_state.specs.IsWorld.{IsWorld}
-use Rattle.ic_runs.specs.Steps.{Rules, step, same_way, along}
-use Rattle.ic_runs.specs.Round.{goes, sweep, second_phase}
-use Rattle.ic_runs.proofs.Lists.{slice_get_at, take_front}
-use Rattle.ic_management.specs.Managed.{managed_rules}
+use Rattle.ic_behaviour.specs.Steps.{Rules, step, same_way, along}
+use Rattle.ic_behaviour.specs.Round.{goes, sweep, second_phase}
+use Rattle.ic_behaviour.proofs.Lists.{slice_get_at, take_front}
+use Rattle.ic_mgmt_laws.specs.Managed.{managed_rules}
 use Rattle.ic_mgmt.specs.Sweeping.{among, is_inside, stays, Delivers, ahead, Reaches}
 
 not_both : (a b : Bool) → (not a && not b) ≡ not (a || b)

@@ -11,7 +11,7 @@ use Rattle.std.proofs.lemmas.List.Folds.{list_any-append}
 use Rattle.ic_behaviour.specs.declared.call.Message.{Message}
 use Rattle.ic_behaviour.specs.State.{at, callee_of}
 use Rattle.ic_behaviour.proofs.Weights.{laws}
-use Rattle.ic_runs.specs.Steps.{sender_of}
+use Rattle.ic_behaviour.specs.Steps.{sender_of}
 use Rattle.ic_mgmt.specs.Ways.{way_cmp, is_way, HasWays}
 
 both-equal : (o p : Ordering) → is_eq (ordering_then o p) ≡ (is_eq o && is_eq p)

@@ -8,9 +8,9 @@ use Rattle.ic_state.specs.declared.canister.Canister.{Canister}
 use Rattle.ic_state.specs.declared.world.Parts.{Parts}
 use Rattle.ic_state.specs.Seen.{state_of}
 use Rattle.ic_state.specs.IsWorld.{IsWorld}
-use Rattle.ic_runs.specs.Steps.{Rules, step, same_way, along}
-use Rattle.ic_runs.specs.Round.{sweep, second_phase}
-use Rattle.ic_management.specs.Managed.{managed_rules}
+use Rattle.ic_behaviour.specs.Steps.{Rules, step, same_way, along}
+use Rattle.ic_behaviour.specs.Round.{sweep, second_phase}
+use Rattle.ic_mgmt_laws.specs.Managed.{managed_rules}
 
 -- the parts with the messages that stay, and those to come, before their own, which are the new ones
 abbrev pub among : (kept todo : List Message) → Parts → Parts

@@ -7,7 +7,7 @@ use Rattle.std.specs.Cmp.Lexicographic.{slice_cmp}
 use Rattle.std.specs.declared.cmp.Ordering.{Ordering}
 use Rattle.ic_behaviour.specs.declared.call.Message.{Message}
 use Rattle.ic_behaviour.specs.State.{at, callee_of}
-use Rattle.ic_runs.specs.Steps.{sender_of}
+use Rattle.ic_behaviour.specs.Steps.{sender_of}
 
 abbrev pub way_cmp : List ℕ × List ℕ → List ℕ × List ℕ → Ordering
 way_cmp x y = ordering_then (slice_cmp nat_cmp x.0 y.0) (slice_cmp nat_cmp x.1 y.1)

@@ -1,7 +1,7 @@
 ghost use Rattle.std.specs.Prelude.{◌≡◌, ◌≤◌, ℕ, slice_get, IfOk};
 ghost use Rattle.std.specs.Option.{MatchOption};
-ghost use Rattle.ic_runs.specs.Steps.{step};
-ghost use Rattle.ic_management.specs.Managed.{managed_rules};
+ghost use Rattle.ic_behaviour.specs.Steps.{step};
+ghost use Rattle.ic_mgmt_laws.specs.Managed.{managed_rules};
 ghost use Rattle.ic_mgmt.specs.ToManagement.{IsToManagement};
 
 use crate::outside::handle;

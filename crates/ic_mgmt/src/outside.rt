@@ -5,10 +5,11 @@ ghost use Rattle.ic_behaviour.specs.State.{at, callee_of};
 ghost use Rattle.ic_state.specs.IsWorld.{IsWorld};
 ghost use Rattle.ic_mgmt.specs.Sweeping.{among, Meets, Delivers};
 
+use crate::incoming::Incoming;
+use crate::managing::manage;
 use ic_base::NoMemory;
 use ic_calls::is_management;
 use ic_deliver::send_back;
-use ic_methods::{Incoming, manage};
 use ic_state::{Message, Parts};
 use std::alloc::Global;
 

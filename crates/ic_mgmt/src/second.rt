@@ -1,9 +1,9 @@
 ghost use Rattle.std.specs.Prelude.{◌≡◌, ◌<◌, ◌≤◌, ◌^◌, ℕ, [], length, IfOk};
 ghost use Rattle.std.specs.List.{list_all};
 ghost use Rattle.ic_state.specs.IsWorld.{IsWorld};
-ghost use Rattle.ic_runs.specs.Steps.{along};
-ghost use Rattle.ic_runs.specs.Round.{second_phase};
-ghost use Rattle.ic_management.specs.Managed.{managed_rules};
+ghost use Rattle.ic_behaviour.specs.Steps.{along};
+ghost use Rattle.ic_behaviour.specs.Round.{second_phase};
+ghost use Rattle.ic_mgmt_laws.specs.Managed.{managed_rules};
 ghost use Rattle.ic_mgmt.specs.Sweeping.{is_inside, Reaches};
 
 use crate::parts::{put_together, taken_apart};

@@ -1,6 +1,8 @@
-//! A test of command lines, beside the crate that reads them: a crate with tests of its own is proved
-//! twice.
+//! Tests of the words of the command line and of generated scripts, beside their crates: a crate with tests of its own is
+//! proved twice.
 #![tactic(auto)]
 
+#[cfg(test)]
+mod generated;
 #[cfg(test)]
 mod tests;

@@ -15,9 +15,9 @@ use Rattle.ic_behaviour.proofs.Ties.{tallied}
 use Rattle.ic_state.specs.declared.world.Parts.{Parts}
 use Rattle.ic_state.specs.Seen.{seen, state_of}
 use Rattle.ic_state.specs.IsWorld.{IsWorld}
-use Rattle.ic_accounting.specs.System.{system_rules}
-use Rattle.ic_runs.specs.Steps.{step, along}
-use Rattle.ic_runs.specs.Round.{first_phase}
+use Rattle.ic_run_laws.specs.System.{system_rules}
+use Rattle.ic_behaviour.specs.Steps.{step, along}
+use Rattle.ic_behaviour.specs.Round.{first_phase}
 use Rattle.ic_rounds.specs.Dealing.{slots_of, AreFirsts}
 use Rattle.ic_rounds.specs.Settling.{Stored, Slot, stored_of, slot_of, ran, put_in, settle_in, AreReady, AreCanisters, entering}
 use Rattle.ic_rounds.proofs.PutBacks.{Rises}

@@ -4,3 +4,4 @@ pub mod Draws
 pub mod Fronts
 pub mod Passes
 pub mod Ends
+pub mod Roundings

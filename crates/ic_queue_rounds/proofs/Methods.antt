@@ -5,13 +5,13 @@ use Rattle.std.specs.Str.{bytes_eq}
 use Rattle.std.proofs.lemmas.Bool.{or_parts, false≢true}
 use Rattle.ic_base.specs.Reader.{◌>>=◌}
 use Rattle.cd_codec.specs.Content.{Content}
-use Rattle.ic_orders.specs.declared.method.Method.{Method}
-use Rattle.ic_orders.specs.declared.method.Method.TheVariants as M
-use Rattle.ic_orders.specs.declared.demand.Demand.{Demand}
-use Rattle.ic_orders.specs.declared.demand.Demand.TheVariants as demand
-use Rattle.ic_orders.specs.Methods.{method_of}
-use Rattle.ic_orders.specs.Demands.{canister_id, install, with_settings, controllers_of, argument, type_of, picked, demand_of}
-use Rattle.ic_orders.specs.Picks.{only_two, as_principal, as_nat}
+use Rattle.ic_mgmt_candid.specs.declared.method.Method.{Method}
+use Rattle.ic_mgmt_candid.specs.declared.method.Method.TheVariants as M
+use Rattle.ic_mgmt_candid.specs.declared.demand.Demand.{Demand}
+use Rattle.ic_mgmt_candid.specs.declared.demand.Demand.TheVariants as demand
+use Rattle.ic_mgmt_candid.specs.Methods.{method_of}
+use Rattle.ic_mgmt_candid.specs.Demands.{canister_id, install, with_settings, controllers_of, argument, type_of, picked, demand_of}
+use Rattle.ic_mgmt_candid.specs.Picks.{only_two, as_principal, as_nat}
 use Rattle.ic_queues.specs.Queued.{may_change_canisters}
 
 abbrev pub steady_method : Method → Bool

@@ -11,9 +11,9 @@ use Rattle.ic_behaviour.proofs.Weights.{at-is}
 use Rattle.ic_state.specs.declared.world.Parts.{Parts}
 use Rattle.ic_state.specs.Seen.{state_of}
 use Rattle.ic_state.specs.IsWorld.{IsWorld}
-use Rattle.ic_runs.specs.Steps.{sender_of, same_way, along}
-use Rattle.ic_runs.specs.Round.{second_phase}
-use Rattle.ic_management.specs.Managed.{managed_rules}
+use Rattle.ic_behaviour.specs.Steps.{sender_of, same_way, along}
+use Rattle.ic_behaviour.specs.Round.{second_phase}
+use Rattle.ic_mgmt_laws.specs.Managed.{managed_rules}
 use Rattle.ic_mgmt.specs.Sweeping.{among, stays, Delivers, Reaches}
 use Rattle.ic_mgmt.proofs.Sweeps.{seen_there, is_at_place, reaches_start, reaches_kept, reaches_gone, reaches_end}
 use Rattle.ic_queues.specs.Queued.{Queued, is_steady, is_inside, outs, without_outs}

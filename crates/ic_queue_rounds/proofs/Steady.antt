@@ -15,24 +15,24 @@ use Rattle.ic_behaviour.specs.Closing.{empty_reply, closed}
 use Rattle.ic_behaviour.specs.Entry.{enters_by}
 use Rattle.ic_behaviour.specs.Installing.{EntersAfter, Installation, enters_after}
 use Rattle.ic_behaviour.specs.Deliver.{is_management, handled_outside, handled_by, without}
-use Rattle.ic_accounting.proofs.Delivers.{deliver_is}
+use Rattle.ic_run_laws.proofs.Delivers.{deliver_is}
 use Rattle.ic_api.specs.System.{system_api}
-use Rattle.ic_orders.specs.declared.method.Method.{Method}
-use Rattle.ic_orders.specs.declared.demand.InstallCode.{InstallCode}
-use Rattle.ic_orders.specs.declared.demand.Demand.{Demand}
-use Rattle.ic_orders.specs.declared.demand.Demand.TheVariants as demand
-use Rattle.ic_orders.specs.declared.denial.Denial.{Denial}
-use Rattle.ic_orders.specs.declared.denial.Denial.TheVariants as D
-use Rattle.ic_orders.specs.Checks.{◌>>=◌, or_else, unless, is_canisters, demanded, permitted, ordered}
-use Rattle.ic_orders.specs.Methods.{method_of, is_only_for_canisters}
-use Rattle.ic_orders.specs.Demands.{demand_of}
-use Rattle.ic_orders.specs.Modules.{code_of}
-use Rattle.ic_management.specs.Moves.{Incoming, with_call, with_canister, with_balance, granted, replied, awaiting, running, emptied}
-use Rattle.ic_management.specs.Rows.{controllers_or, unless_above, tops_up, deposits, updates, tells, unless_unsuited, installation_on, unless_refused, installs, uninstalls, starts, stops_in, at_canister, row}
-use Rattle.ic_management.specs.Manage.{controllers_in, ended, manage}
-use Rattle.ic_management.specs.Managed.{managed_rules}
+use Rattle.ic_mgmt_candid.specs.declared.method.Method.{Method}
+use Rattle.ic_mgmt_candid.specs.declared.demand.InstallCode.{InstallCode}
+use Rattle.ic_mgmt_candid.specs.declared.demand.Demand.{Demand}
+use Rattle.ic_mgmt_candid.specs.declared.demand.Demand.TheVariants as demand
+use Rattle.ic_mgmt_candid.specs.declared.denial.Denial.{Denial}
+use Rattle.ic_mgmt_candid.specs.declared.denial.Denial.TheVariants as D
+use Rattle.ic_mgmt_candid.specs.Checks.{◌>>=◌, or_else, unless, is_canisters, demanded, permitted, ordered}
+use Rattle.ic_mgmt_candid.specs.Methods.{method_of, is_only_for_canisters}
+use Rattle.ic_mgmt_candid.specs.Demands.{demand_of}
+use Rattle.ic_mgmt_candid.specs.Modules.{code_of}
+use Rattle.ic_mgmt_laws.specs.Moves.{Incoming, with_call, with_canister, with_balance, granted, replied, awaiting, running, emptied}
+use Rattle.ic_mgmt_laws.specs.Rows.{controllers_or, unless_above, tops_up, deposits, updates, tells, unless_unsuited, installation_on, unless_refused, installs, uninstalls, starts, stops_in, at_canister, row}
+use Rattle.ic_mgmt_laws.specs.Manage.{controllers_in, ended, manage}
+use Rattle.ic_mgmt_laws.specs.Managed.{managed_rules}
 use Rattle.ic_mgmt.proofs.Handles.{managing}
-use Rattle.ic_runs.specs.Steps.{step}
+use Rattle.ic_behaviour.specs.Steps.{step}
 use Rattle.ic_queues.specs.Queued.{may_change_canisters, is_steady}
 use Rattle.ic_queue_rounds.proofs.Methods.{steady_method, steady_demand, Given, method_steady, demand_steady}
 

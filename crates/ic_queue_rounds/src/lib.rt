@@ -1,21 +1,22 @@
-//! Rounds over queues, so that a round need not go through the messages that it leaves. What state a
-//! round leads to is proved; which messages it touches on the way no clause says.
+//! Rounds: both phases, and rounds one after another until no message is under way.
 //!
-//! Between the rounds of one call of `run_rounds` the messages of the world stand in the queues of
-//! `ic_queues`. The first phase takes the first message of each canister's queue; the second phase takes
+//! `round` goes through the list of messages. Where many rounds follow one another, `run_rounds` goes through queues, so
+//! that a round need not pass the messages that it leaves. Between these rounds the messages of the world are in the
+//! queues of `ic_queues`. The first phase takes the first message of each canister's queue; the second phase takes
 //! all messages to no canister. Only where one of these may make or delete a canister the second phase
 //! goes through the list, as that of `ic_mgmt` does, and the queues are made anew. That each phase is the
-//! phase that `ic_runs` defines over the list is proved, so `run_rounds` has the contract that it has in
-//! `ic_round`, whose rounds go through the list.
+//! phase that `ic_behaviour` defines over the list is proved. Which messages a round touches on the way no clause says.
 #![tactic(auto)]
 
 mod drawn;
 mod first;
+mod over_list;
 mod queued;
 mod rounds;
 mod second;
 
 pub use ic_rounds::Crew;
 pub use ic_state::Charge;
+pub use over_list::round;
 pub use queued::QueuedWorld;
-pub use rounds::{round, run_rounds};
+pub use rounds::{round_in_queues, run_rounds};

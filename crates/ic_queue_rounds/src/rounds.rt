@@ -1,15 +1,15 @@
 ghost use Rattle.std.specs.Prelude.{◌≡◌, ◌+◌, ◌-◌, ◌<◌, ◌≤◌, true, length, IfOk};
 ghost use Rattle.std.specs.List.{concat};
-ghost use Rattle.ic_runs.specs.Steps.{along};
-ghost use Rattle.ic_runs.specs.Round.{round, rounds};
-ghost use Rattle.ic_management.specs.Managed.{managed_rules};
+ghost use Rattle.ic_behaviour.specs.Steps.{along};
+ghost use Rattle.ic_behaviour.specs.Round.{round, rounds};
+ghost use Rattle.ic_mgmt_laws.specs.Managed.{managed_rules};
 
 use crate::first::canister_turns;
+use crate::over_list::{listed_rounds, round};
 use crate::queued::QueuedWorld;
 use crate::second::outside_turns;
 use ic_base::NoMemory;
 use ic_outside::Gate;
-use ic_round::{round as round_over_list, run_rounds as rounds_over_list};
 use ic_rounds::{Crew, MOST_WORKERS};
 use ic_state::{Charge, MOST_INSTRUCTIONS, World};
 use std::alloc::Global;
@@ -23,8 +23,8 @@ const FEW: u32 = 8;
 /// at: a script that drains after each line would else make queues at each line.
 const SHORT: usize = 64;
 
-/// A round over queues.
-pub fn round<R: Threads + Sync, G: Gate + Sync>(
+/// A round over queues. That of `over_list` goes through the list.
+pub fn round_in_queues<R: Threads + Sync, G: Gate + Sync>(
     alloc: Global,
     world: QueuedWorld,
     crew: &Crew<'_, R, G>,
@@ -58,7 +58,7 @@ fn queued_rounds<R: Threads + Sync, G: Gate + Sync>(
         if world.is_empty() {
             return Ok((world, made));
         }
-        world = round(alloc, world, crew, charge)?;
+        world = round_in_queues(alloc, world, crew, charge)?;
     }
     Ok((world, count))
 }
@@ -93,7 +93,7 @@ fn short_rounds<R: Threads + Sync, G: Gate + Sync>(
         if !has_few_messages(&world) {
             return Ok((world, made));
         }
-        let (next, _) = round_over_list(
+        let (next, _) = round(
             alloc,
             crew.rt,
             world,
@@ -149,11 +149,11 @@ pub fn run_rounds<R: Threads + Sync, G: Gate + Sync>(
     ensures made { IfOk result (λ r. r.1
         ≡ length (rounds (managed_rules limit price) count world)) }
 {
-    if count < FEW {
-        return rounds_over_list(alloc, rt, world, count, workers, limit, price, gate);
-    }
     let crew = Crew { rt, workers, gate };
     let charge = Charge { limit, price };
+    if count < FEW {
+        return listed_rounds(alloc, world, count, &crew, charge);
+    }
     let (world, made) = short_rounds(alloc, world, count, &crew, charge)?;
     let (world, more) = long_rounds(alloc, world, count - made, &crew, charge)?;
     Ok((world, made + more))

@@ -2,9 +2,9 @@ ghost use Rattle.std.specs.Prelude.{◌≡◌, ℕ, List, [], true, IfOk};
 ghost use Rattle.std.specs.List.{AllByRecursion};
 ghost use Rattle.ic_behaviour.specs.declared.call.Message.{Message as AMessage};
 ghost use Rattle.ic_state.specs.declared.world.Parts.{Parts as TheParts};
-ghost use Rattle.ic_runs.specs.Steps.{along};
-ghost use Rattle.ic_runs.specs.Round.{second_phase};
-ghost use Rattle.ic_management.specs.Managed.{managed_rules};
+ghost use Rattle.ic_behaviour.specs.Steps.{along};
+ghost use Rattle.ic_behaviour.specs.Round.{second_phase};
+ghost use Rattle.ic_mgmt_laws.specs.Managed.{managed_rules};
 ghost use Rattle.ic_queues.specs.Queued.{is_steady};
 ghost use Rattle.ic_queue_rounds.specs.Passing.{Passing, IsPassing};
 

@@ -1,8 +1,7 @@
 use crate::asks::{Ask, creation, installation};
 use ic_outside::OpenGate;
 use ic_principal::Principal;
-use ic_queue_rounds::{Charge, Crew, QueuedWorld, round, run_rounds};
-use ic_round::run_rounds as rounds_over_list;
+use ic_queue_rounds::{Charge, Crew, QueuedWorld, round, round_in_queues, run_rounds};
 use ic_state::World;
 use std::alloc::Global;
 use std::thread::Threads;
@@ -57,9 +56,21 @@ fn over_queues<R: Threads + Sync>(
         price: 1,
     };
     for _ in 0..count {
-        world = round(alloc, world, &crew, charge).ok()?;
+        world = round_in_queues(alloc, world, &crew, charge).ok()?;
     }
     world.into_world(alloc).ok()
+}
+
+// Up to so many rounds over the list, by one worker.
+fn over_list<R: Threads + Sync>(alloc: Global, rt: &R, world: World, count: u32) -> Option<World> {
+    let mut world = world;
+    for _ in 0..count {
+        if !world.parts().messages.is_empty() {
+            let (next, _) = round(alloc, rt, world, 1, LIMIT, 1, &OpenGate).ok()?;
+            world = next;
+        }
+    }
+    Some(world)
 }
 
 /// Up to so many rounds.
@@ -70,14 +81,13 @@ pub fn rounds<R: Threads + Sync>(
     world: World,
     count: u32,
 ) -> Option<World> {
-    let done = match body {
-        Body::List => rounds_over_list(alloc, rt, world, count, 1, LIMIT, 1, &OpenGate),
-        Body::Queues if count < 8 => return over_queues(alloc, rt, world, count),
-        Body::Queues => run_rounds(alloc, rt, world, count, 2, LIMIT, 1, &OpenGate),
-    };
-    match done {
-        Ok((world, _)) => Some(world),
-        Err(_) => None,
+    match body {
+        Body::List => over_list(alloc, rt, world, count),
+        Body::Queues if count < 8 => over_queues(alloc, rt, world, count),
+        Body::Queues => match run_rounds(alloc, rt, world, count, 2, LIMIT, 1, &OpenGate) {
+            Ok((world, _)) => Some(world),
+            Err(_) => None,
+        },
     }
 }
 

@@ -9,7 +9,7 @@ use crate::rows::{Row, Run, Seen, asking as asking_rows, relaying as relaying_ro
 use ic_base::NoMemory;
 use ic_outside::OpenGate;
 use ic_principal::{Bytes, Principal, Text};
-use ic_round::{round, run_rounds};
+use ic_queue_rounds::{round, run_rounds};
 use ic_state::{Canister, Message, Origin, Response, World};
 use std::alloc::Global;
 use std::process::Abort;

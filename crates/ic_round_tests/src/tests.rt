@@ -3,7 +3,7 @@ ghost use Rattle.std.specs.Prelude.{◌≡◌, ◌+◌, ◌<◌, ◌^◌, length
 use ic_base::NoMemory;
 use ic_outside::OpenGate;
 use ic_principal::{Bytes, Principal, Text};
-use ic_round::{round, run_rounds};
+use ic_queue_rounds::{round, run_rounds};
 use ic_state::{Canister, Controllers, Response, World};
 use std::alloc::Global;
 use std::test::*;

@@ -17,16 +17,16 @@ use Rattle.ic_behaviour.specs.Sound.{Sound}
 use Rattle.ic_behaviour.specs.Deliver.{Outside, as_absent, env_at, handled_by, placed, routed}
 use Rattle.ic_behaviour.proofs.Weights.{laws, at-is}
 use Rattle.ic_behaviour.proofs.Ties.{tallied}
-use Rattle.ic_runs.specs.Steps.{step, along}
-use Rattle.ic_runs.specs.Round.{turns, first_for}
-use Rattle.ic_runs.proofs.Lists.{First, first, first_place, first_found, first_dropped, drop_first, slice_get_at, remove_at}
-use Rattle.ic_accounting.proofs.Delivers.{deliver_is, deliver_sound, as_absent_keeps}
-use Rattle.ic_accounting.proofs.Counts.{counts_others, counts_own}
-use Rattle.ic_accounting.specs.System.{system_rules}
+use Rattle.ic_behaviour.specs.Steps.{step, along}
+use Rattle.ic_behaviour.specs.Round.{turns, first_for}
+use Rattle.ic_behaviour.proofs.Lists.{First, first, first_place, first_found, first_dropped, drop_first, slice_get_at, remove_at}
+use Rattle.ic_run_laws.proofs.Delivers.{deliver_is, deliver_sound, as_absent_keeps}
+use Rattle.ic_run_laws.proofs.Counts.{counts_others, counts_own}
+use Rattle.ic_run_laws.specs.System.{system_rules}
 use Rattle.ic_rounds.specs.Settling.{entering}
 use Rattle.ic_rounds.specs.Settling.{Stored, Slot, ran, put_in, settle_in}
 use Rattle.ic_rounds.proofs.Slots.{without_first, left, IsSlot}
-use Rattle.ic_accounting.proofs.Systems.{entries_keep}
+use Rattle.ic_run_laws.proofs.Systems.{entries_keep}
 
 -- ---- the first that passes
 

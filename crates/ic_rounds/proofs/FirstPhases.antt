@@ -17,21 +17,21 @@ use Rattle.ic_behaviour.specs.Deliver.{Outside, as_absent, env_at}
 use Rattle.ic_behaviour.specs.Sound.{Sound}
 use Rattle.ic_behaviour.proofs.Ties.{tallied}
 use Rattle.ic_behaviour.proofs.Weights.{at-is}
-use Rattle.ic_accounting.proofs.Delivers.{deliver_sound, as_absent_keeps}
-use Rattle.ic_runs.specs.Steps.{Rules, step, along}
-use Rattle.ic_runs.specs.Round.{turns, busy, first_for, first_phase, has_message}
+use Rattle.ic_run_laws.proofs.Delivers.{deliver_sound, as_absent_keeps}
+use Rattle.ic_behaviour.specs.Steps.{Rules, step, along}
+use Rattle.ic_behaviour.specs.Round.{turns, busy, first_for, first_phase, has_message}
 use Rattle.ic_state.specs.declared.canister.Canister.{Canister as StoredCanister}
 use Rattle.ic_state.specs.declared.world.Parts.{Parts}
 use Rattle.ic_state.specs.Seen.{seen, state_of}
 use Rattle.ic_state.specs.IsCanister.{IsCanister}
 use Rattle.ic_state.specs.IsWorld.{HasCounts, IsWorld}
-use Rattle.ic_accounting.specs.System.{system_rules}
+use Rattle.ic_run_laws.specs.System.{system_rules}
 use Rattle.ic_rounds.specs.Settling.{entering}
 use Rattle.ic_rounds.specs.declared.slot.Slot.{Slot as StoredSlot}
 use Rattle.ic_rounds.specs.Taking.{Taking, is_key, sort_out, none_taken}
 use Rattle.ic_rounds.specs.Dealing.{AreFirsts, slots_of, pairs_of, IsTheirs}
 use Rattle.ic_rounds.specs.Settling.{Stored, Slot, stored_of, slot_of, settle_in, IsReady, AreReady, AreCanisters}
-use Rattle.ic_accounting.proofs.Systems.{entries_keep}
+use Rattle.ic_run_laws.proofs.Systems.{entries_keep}
 use Rattle.ic_rounds.proofs.Slots.{left, IsSlot}
 use Rattle.ic_rounds.proofs.Batches.{AreDistinct, counted_state, batch}
 use Rattle.ic_rounds.proofs.PutBacks.{Rises}

@@ -1,8 +1,8 @@
 ghost use Rattle.std.specs.Prelude.{◌≡◌, ◌<◌, ◌≤◌, ◌^◌, length, IfOk};
 ghost use Rattle.ic_behaviour.specs.Deliver.{Outside};
-ghost use Rattle.ic_runs.specs.Steps.{along};
-ghost use Rattle.ic_runs.specs.Round.{first_phase};
-ghost use Rattle.ic_accounting.specs.System.{system_rules};
+ghost use Rattle.ic_behaviour.specs.Steps.{along};
+ghost use Rattle.ic_behaviour.specs.Round.{first_phase};
+ghost use Rattle.ic_run_laws.specs.System.{system_rules};
 
 use crate::crew::{Crew, MOST_WORKERS};
 use crate::taken::taken_out;

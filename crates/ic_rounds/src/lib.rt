@@ -4,7 +4,7 @@
 //! another, each where its canister stands (`specs/InPlace`). For several, each message goes into a slot with
 //! its canister (`specs/Dealing`), workers draw slots by tickets, side by side (`specs/Workers`), and what came
 //! of them is put where it belongs in the order of canisters (`specs/Settling`). That this is the first
-//! phase of a round as `ic_runs` defines it, one delivery after another, is proved, for any number of
+//! phase of a round as `ic_behaviour` defines it, one delivery after another, is proved, for any number of
 //! workers.
 #![tactic(auto)]
 

@@ -5,8 +5,8 @@ use Rattle.std.proofs.Math.Seq.{take-suc}
 use Rattle.std.proofs.lemmas.Option.{slice_get_past}
 use Rattle.ic_behaviour.specs.State.{State}
 use Rattle.ic_behaviour.specs.Deliver.{Outside}
-use Rattle.ic_runs.specs.Steps.{Rules, step, IsEligible, along, AreEligible}
-use Rattle.ic_accounting.specs.System.{system_rules}
+use Rattle.ic_behaviour.specs.Steps.{Rules, step, IsEligible, along, AreEligible}
+use Rattle.ic_run_laws.specs.System.{system_rules}
 use Rattle.ic_schedule.specs.Delivery.{Manages, is_managed, Delivers, IsStep}
 use Rattle.ic_schedule.specs.Picks.{is_eligible, Chain, Picks, picked}
 use Rattle.ic_schedule.proofs.Eligibles.{eligible-is, eligible-not}

@@ -4,7 +4,7 @@ use Rattle.std.specs.Prelude.{slice_get, MatchOption}
 use Rattle.std.specs.List.{list_any}
 use Rattle.ic_behaviour.specs.declared.call.Message.{Message}
 use Rattle.ic_behaviour.specs.State.{State}
-use Rattle.ic_runs.specs.Steps.{same_way, IsEligible}
+use Rattle.ic_behaviour.specs.Steps.{same_way, IsEligible}
 use Rattle.ic_schedule.specs.Picks.{goes_first, is_eligible}
 
 fails : (b : Bool) → not b ≡ true → b ≡ false

@@ -25,11 +25,11 @@ use Rattle.ic_state.specs.declared.world.Parts.{Parts}
 use Rattle.ic_state.specs.Seen.{seen, entry_of, state_of}
 use Rattle.ic_state.specs.IsCanister.{IsCanister}
 use Rattle.ic_state.specs.IsWorld.{HasCounts, IsWorld}
-use Rattle.ic_runs.specs.Steps.{step}
-use Rattle.ic_accounting.specs.System.{system_rules}
-use Rattle.ic_accounting.proofs.Systems.{entries_keep}
-use Rattle.ic_accounting.proofs.Delivers.{deliver_is, deliver_sound, as_absent_keeps, no_answer}
-use Rattle.ic_accounting.proofs.Counts.{counts_others, counts_own}
+use Rattle.ic_behaviour.specs.Steps.{step}
+use Rattle.ic_run_laws.specs.System.{system_rules}
+use Rattle.ic_run_laws.proofs.Systems.{entries_keep}
+use Rattle.ic_run_laws.proofs.Delivers.{deliver_is, deliver_sound, as_absent_keeps, no_answer}
+use Rattle.ic_run_laws.proofs.Counts.{counts_others, counts_own}
 use Rattle.ic_exec.specs.Executed.{done_of}
 use Rattle.ic_deliver.specs.Giving.{CanTake}
 use Rattle.ic_deliver.specs.Delivered.{HasHandled, refused_in}

@@ -4,8 +4,8 @@ use Rattle.ic_behaviour.specs.declared.call.Message.{Message}
 use Rattle.ic_behaviour.specs.declared.call.Message.TheVariants.{Call, Answer}
 use Rattle.ic_behaviour.specs.State.{State}
 use Rattle.ic_behaviour.specs.Deliver.{Outside, is_management}
-use Rattle.ic_runs.specs.Steps.{step}
-use Rattle.ic_accounting.specs.System.{system_rules}
+use Rattle.ic_behaviour.specs.Steps.{step}
+use Rattle.ic_run_laws.specs.System.{system_rules}
 
 -- ---- calls to the management canister
 

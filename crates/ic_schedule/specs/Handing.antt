@@ -5,8 +5,8 @@ use Rattle.ic_behaviour.specs.Deliver.{Outside}
 use Rattle.ic_state.specs.declared.world.Parts.{Parts}
 use Rattle.ic_state.specs.Seen.{state_of}
 use Rattle.ic_state.specs.IsWorld.{IsWorld}
-use Rattle.ic_runs.specs.Steps.{step}
-use Rattle.ic_accounting.specs.System.{system_rules}
+use Rattle.ic_behaviour.specs.Steps.{step}
+use Rattle.ic_run_laws.specs.System.{system_rules}
 
 abbrev pub left_by : Parts → (place : ℕ) → Parts
 left_by w place = record w { messages = remove w.messages place }

@@ -3,7 +3,7 @@ use Rattle.std.specs.Prelude.{◌≡◌, ℕ, ◌≤◌, Bool, false, cond, not,
 use Rattle.std.specs.List.{list_any}
 use Rattle.ic_behaviour.specs.declared.call.Message.{Message}
 use Rattle.ic_behaviour.specs.State.{State}
-use Rattle.ic_runs.specs.Steps.{Rules, step, same_way, IsEligible}
+use Rattle.ic_behaviour.specs.Steps.{Rules, step, same_way, IsEligible}
 use Rattle.ic_schedule.specs.Delivery.{Manages, Delivers}
 
 -- ---- whether a place is eligible

@@ -1,7 +1,7 @@
 ghost use Rattle.std.specs.Prelude.{◌≡◌, ◌<◌, ◌≤◌, false, Some, length, slice_get, IfOk};
 ghost use Rattle.ic_behaviour.specs.Deliver.{Outside};
-ghost use Rattle.ic_runs.specs.Steps.{step};
-ghost use Rattle.ic_accounting.specs.System.{system_rules};
+ghost use Rattle.ic_behaviour.specs.Steps.{step};
+ghost use Rattle.ic_run_laws.specs.System.{system_rules};
 ghost use Rattle.ic_schedule.specs.Delivery.{is_to_management, is_managed, Delivers};
 ghost use Rattle.ic_schedule.specs.Handing.{left_by};
 

@@ -1,6 +1,6 @@
 ghost use Rattle.std.specs.Prelude.{◌≡◌, Some};
 ghost use Rattle.std.specs.Bool.{OnTrue, OnFalse};
-ghost use Rattle.ic_runs.specs.Steps.{IsEligible};
+ghost use Rattle.ic_behaviour.specs.Steps.{IsEligible};
 ghost use Rattle.ic_schedule.specs.Picks.{goes_first, is_eligible};
 
 use ic_calls::same_way;

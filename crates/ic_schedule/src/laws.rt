@@ -1,8 +1,8 @@
 ghost use Rattle.std.specs.Prelude.{◌≡◌, ℕ, List, [], ◌∷◌, true, take, cond};
 ghost use Rattle.ic_behaviour.specs.State.{State};
 ghost use Rattle.ic_behaviour.specs.Deliver.{Outside};
-ghost use Rattle.ic_runs.specs.Steps.{IsEligible, along, AreEligible};
-ghost use Rattle.ic_accounting.specs.System.{system_rules};
+ghost use Rattle.ic_behaviour.specs.Steps.{IsEligible, along, AreEligible};
+ghost use Rattle.ic_run_laws.specs.System.{system_rules};
 ghost use Rattle.ic_schedule.specs.Delivery.{IsStep};
 ghost use Rattle.ic_schedule.specs.Picks.{is_eligible, Picks, picked};
 

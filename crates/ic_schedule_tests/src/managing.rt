@@ -9,8 +9,8 @@ pub struct Management;
 
 impl Manager for Management {
     ghost use Rattle.std.specs.Prelude.{◌≡◌, ℕ};
-    ghost use Rattle.ic_runs.specs.Steps.{step};
-    ghost use Rattle.ic_management.specs.Managed.{managed_rules};
+    ghost use Rattle.ic_behaviour.specs.Steps.{step};
+    ghost use Rattle.ic_mgmt_laws.specs.Managed.{managed_rules};
 
     ghost manages = { λ m s place limit t. (price : ℕ) → t ≡ step (managed_rules limit price) s place };
 

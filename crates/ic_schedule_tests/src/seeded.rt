@@ -4,7 +4,7 @@ use ic_base::NoMemory;
 use ic_calls::callee;
 use ic_outside::OpenGate;
 use ic_principal::Principal;
-use ic_round::round;
+use ic_queue_rounds::round;
 use ic_schedule::eligible;
 use ic_state::{Canister, World};
 use std::alloc::Global;

@@ -1,6 +1,10 @@
-//! Tests of state trees, root hashes and request ids, beside their crate: a crate with tests of its
-//! own is proved twice.
+//! Tests of the world's calls, of the line that shows a state, and of state trees, root hashes and request ids, beside
+//! their crates: a crate with tests of its own is proved twice.
 #![tactic(auto)]
 
 #[cfg(test)]
+mod lines;
+#[cfg(test)]
 mod tests;
+#[cfg(test)]
+mod worlds;

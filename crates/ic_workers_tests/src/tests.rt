@@ -4,7 +4,7 @@ use crate::chunks::turns_of;
 use crate::gates::Holding;
 use crate::worlds::{busy, slots};
 use ic_outside::Gate;
-use ic_round::round;
+use ic_queue_rounds::round;
 use ic_state::InstructionLimit;
 use std::alloc::Global;
 use std::test::*;

@@ -6,8 +6,8 @@ use Rattle.ic_behaviour.proofs.Weights.{each-map}
 use Rattle.ic_state.specs.declared.canister.Canister.{Canister}
 use Rattle.ic_state.specs.Seen.{seen}
 use Rattle.ic_state.specs.IsCanister.{IsContext}
-use Rattle.ic_accounting.specs.TrapKeeps.{TrapKeeps}
-use Rattle.ic_accounting.proofs.Trapped.{trap_keeps}
+use Rattle.ic_run_laws.specs.TrapKeeps.{TrapKeeps}
+use Rattle.ic_run_laws.proofs.Trapped.{trap_keeps}
 use Rattle.ic_api.specs.System.{system_api}
 use Rattle.ic_exec.proofs.Conserves.{Settled, handled_cycles, conserves}
 use Rattle.ic_exec.proofs.Burned.{Burns, burns}

@@ -1,9 +1,9 @@
 use Rattle.std.proofs.Common.{map, string_bytes, arith}
-use Rattle.ic_lines.specs.Options.{default_options}
+use Rattle.ic_script_runner.specs.Options.{default_options}
 use Rattle.ic_options.specs.Options.{options_of}
 use Rattle.std.specs.Prelude.{unwrap_or}
-use Rattle.ic_lines.proofs.Counts.{sink_count_after-later}
-use Rattle.ic_lines.proofs.Keeps.{rules_keep}
+use Rattle.ic_script_runner.proofs.Counts.{sink_count_after-later}
+use Rattle.ic_script_runner.proofs.Keeps.{rules_keep}
 use Rattle.ic_host.proofs.Cuts.{run_is_printed, nothing_runs}
 use Rattle.ic_host.proofs.Workers.{workers_change_nothing}
 use Rattle.ic_host.proofs.Traces.{trace_is_run}

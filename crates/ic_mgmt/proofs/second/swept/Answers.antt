@@ -2,9 +2,9 @@ use Rattle.std.proofs.Common.{length, sym, ap, ◌∙◌, subst}
 use Rattle.ic_behaviour.specs.State.{State}
 use Rattle.ic_state.specs.Seen.{state_of}
 use Rattle.ic_state.specs.IsWorld.{IsWorld}
-use Rattle.ic_runs.specs.Steps.{along}
-use Rattle.ic_runs.specs.Round.{second_phase}
-use Rattle.ic_management.specs.Managed.{managed_rules}
+use Rattle.ic_behaviour.specs.Steps.{along}
+use Rattle.ic_behaviour.specs.Round.{second_phase}
+use Rattle.ic_mgmt_laws.specs.Managed.{managed_rules}
 use Rattle.ic_mgmt.proofs.Sweeps.{reaches_end}
 use Rattle.ic_mgmt.proofs.second.swept.Goals as goal
 

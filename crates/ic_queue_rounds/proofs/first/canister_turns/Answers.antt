@@ -1,8 +1,8 @@
 use Rattle.std.proofs.Common.{ap, ◌∙◌, arith}
 use Rattle.ic_behaviour.specs.State.{State}
-use Rattle.ic_runs.specs.Steps.{along}
-use Rattle.ic_runs.specs.Round.{first_phase}
-use Rattle.ic_accounting.specs.System.{system_rules}
+use Rattle.ic_behaviour.specs.Steps.{along}
+use Rattle.ic_behaviour.specs.Round.{first_phase}
+use Rattle.ic_run_laws.specs.System.{system_rules}
 use Rattle.ic_queue_rounds.proofs.Fronts.{begins, firsts_ready, are_firsts, few_firsts, rest_keep, sealed}
 use Rattle.ic_queue_rounds.proofs.first.canister_turns.Goals as goal
 

@@ -1,8 +1,8 @@
 use Rattle.std.proofs.Common.{length, sym, ap, ◌∙◌}
 use Rattle.std.proofs.lemmas.Bool.{eqb-true}
 use Rattle.ic_behaviour.specs.State.{State}
-use Rattle.ic_management.specs.Managed.{managed_rules}
-use Rattle.ic_round.proofs.Roundings.{Rounding-start, Rounding-none}
+use Rattle.ic_mgmt_laws.specs.Managed.{managed_rules}
+use Rattle.ic_queue_rounds.proofs.Roundings.{Rounding-start, Rounding-none}
 use Rattle.ic_queue_rounds.proofs.rounds.long_rounds.Goals as goal
 
 pub returns-then-is_empty-clause-state : goal.returns-then-is_empty-clause-state

@@ -1,5 +1,5 @@
-use Rattle.ic_management.specs.Managed.{managed_rules}
-use Rattle.ic_round.proofs.Roundings.{Rounding}
+use Rattle.ic_mgmt_laws.specs.Managed.{managed_rules}
+use Rattle.ic_queue_rounds.proofs.Roundings.{Rounding}
 use Rattle.ic_queue_rounds.proofs.rounds.queued_rounds.Given as goal
 
 abbrev pub invariant-loop-made : goal.invariant-loop-made

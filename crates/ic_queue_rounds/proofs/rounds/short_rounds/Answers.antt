@@ -1,9 +1,9 @@
 use Rattle.std.proofs.Common.{◌≡◌, ◌+◌, ◌-◌, ◌<◌, ℕ, length, sym, subst, arith, not-suc-le-zero}
 use Rattle.std.specs.List.{concat}
-use Rattle.ic_runs.specs.Steps.{along}
-use Rattle.ic_runs.specs.Round.{rounds}
-use Rattle.ic_management.specs.Managed.{managed_rules}
-use Rattle.ic_round.proofs.Roundings.{Rounding-more}
+use Rattle.ic_behaviour.specs.Steps.{along}
+use Rattle.ic_behaviour.specs.Round.{rounds}
+use Rattle.ic_mgmt_laws.specs.Managed.{managed_rules}
+use Rattle.ic_queue_rounds.proofs.Roundings.{Rounding-more}
 use Rattle.ic_queue_rounds.proofs.rounds.short_rounds.Goals as goal
 
 pub loop-made-preserved : goal.loop-made-preserved

@@ -2,9 +2,9 @@ use Rattle.std.proofs.Common.{◌≡◌, true, ap, sym, ◌∙◌, subst}
 use Rattle.std.specs.List.{AllByRecursion}
 use Rattle.ic_behaviour.specs.declared.call.Message.{Message}
 use Rattle.ic_behaviour.specs.State.{State}
-use Rattle.ic_runs.specs.Steps.{along}
-use Rattle.ic_runs.specs.Round.{second_phase}
-use Rattle.ic_management.specs.Managed.{managed_rules}
+use Rattle.ic_behaviour.specs.Steps.{along}
+use Rattle.ic_behaviour.specs.Round.{second_phase}
+use Rattle.ic_mgmt_laws.specs.Managed.{managed_rules}
 use Rattle.ic_queues.specs.Queued.{is_steady, without_outs}
 use Rattle.ic_queue_rounds.specs.InQueues.{with_messages}
 use Rattle.ic_queue_rounds.proofs.Passes.{begins, sealed}

@@ -1,8 +1,8 @@
 use Rattle.std.proofs.Common.{length, refl, ap, ◌∙◌, arith}
 use Rattle.ic_behaviour.specs.State.{State}
-use Rattle.ic_runs.specs.Steps.{along}
-use Rattle.ic_runs.specs.Round.{first_phase}
-use Rattle.ic_accounting.specs.System.{system_rules}
+use Rattle.ic_behaviour.specs.Steps.{along}
+use Rattle.ic_behaviour.specs.Round.{first_phase}
+use Rattle.ic_run_laws.specs.System.{system_rules}
 use Rattle.ic_rounds.proofs.FirstPhases.{passed, passed_few, passed_firsts, passed_ready, code_ends, many}
 use Rattle.ic_rounds.proofs.first.canister_turns.Goals as goal
 

@@ -1,8 +1,8 @@
 use Rattle.std.proofs.Common.{◌≡◌, false, sym, ap, ◌∙◌}
 use Rattle.ic_behaviour.specs.State.{State}
 use Rattle.ic_state.specs.Seen.{state_of}
-use Rattle.ic_runs.specs.Steps.{step}
-use Rattle.ic_accounting.specs.System.{system_rules}
+use Rattle.ic_behaviour.specs.Steps.{step}
+use Rattle.ic_run_laws.specs.System.{system_rules}
 use Rattle.ic_schedule.specs.Delivery.{is_to_management, is_managed_message, is_managed}
 use Rattle.ic_schedule.specs.Handing.{IsDelivered}
 use Rattle.ic_schedule.proofs.Handings.{takes_at, handed_over}

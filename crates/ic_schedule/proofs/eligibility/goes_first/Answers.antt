@@ -1,7 +1,7 @@
 use Rattle.std.proofs.Common.{not, ap, rules, tests}
 use Rattle.std.proofs.lemmas.Iterator.{YieldsList-from_slice}
 use Rattle.std.proofs.lemmas.Iterator.Search.{any_from_yields_List}
-use Rattle.ic_runs.specs.Steps.{same_way}
+use Rattle.ic_behaviour.specs.Steps.{same_way}
 use Rattle.ic_schedule.proofs.eligibility.goes_first.Goals as goal
 
 pub returns : goal.returns

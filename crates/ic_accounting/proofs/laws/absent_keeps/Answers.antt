@@ -1,5 +1,0 @@
-use Rattle.ic_accounting.proofs.Delivers.{as_absent_keeps}
-use Rattle.ic_accounting.proofs.laws.absent_keeps.Goals as goal
-
-pub returns : goal.returns
-returns c = record { kept = as_absent_keeps }

@@ -1,5 +1,0 @@
-use Rattle.ic_accounting.proofs.Trapped.{trap_keeps}
-use Rattle.ic_accounting.proofs.laws.trap_keeps.Goals as goal
-
-pub returns : goal.returns
-returns c = record { kept = λ enters env v m is. trap_keeps enters env v m is }

@@ -1,8 +1,0 @@
-use Rattle.ic_accounting.proofs.Systems.{entries_keep, rules_keep}
-use Rattle.ic_accounting.proofs.system.system_api_keeps.Goals as goal
-
-pub returns-clause-entries : goal.returns-clause-entries
-returns-clause-entries c = entries_keep
-
-pub returns-clause-rules : goal.returns-clause-rules
-returns-clause-rules c = rules_keep

@@ -1,5 +1,0 @@
-use Rattle.ic_lifecycle.proofs.Keeps.{waited_keeps}
-use Rattle.ic_lifecycle.proofs.phases.await_stop.Goals as goal
-
-pub returns-clause-keeps : goal.returns-clause-keeps
-returns-clause-keeps c = waited_keeps c.args.canister.now c.wait.new.phase c.args.waiter c.wait.result c.requires.keeps c.requires.room c.wait.ensures.waits c.wait.ensures.same

@@ -1,8 +1,0 @@
-use Rattle.ic_management.proofs.Apart.{same_counts, sends_last}
-use Rattle.ic_management.proofs.laws.management_is_apart.Goals as goal
-
-pub returns-clause-counts : goal.returns-clause-counts
-returns-clause-counts c = λ enters limit now other s call time counts. same_counts enters limit now other s call time counts
-
-pub returns-clause-last : goal.returns-clause-last
-returns-clause-last c = λ enters limit now s call front. sends_last enters limit now s call front

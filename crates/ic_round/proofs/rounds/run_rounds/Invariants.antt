@@ -1,6 +1,0 @@
-use Rattle.ic_management.specs.Managed.{managed_rules}
-use Rattle.ic_round.proofs.Roundings.{Rounding}
-use Rattle.ic_round.proofs.rounds.run_rounds.Given as goal
-
-abbrev pub invariant-loop-made : goal.invariant-loop-made
-invariant-loop-made g l = Rounding (managed_rules l.limit l.price) l.count l.made l.fn.world l.world

@@ -1,0 +1,456 @@
+ghost use Rattle.std.specs.Prelude.{◌≡◌, ◌<◌, ◌≤◌, ℕ, List, [], length, Ok, IfOk};
+ghost use Rattle.ic_behaviour.specs.Submitted.{submitted, timed};
+ghost use Rattle.ic_behaviour.specs.Round.{rounds};
+ghost use Rattle.ic_behaviour.specs.Entry.{enters_by};
+ghost use Rattle.ic_api.specs.System.{system_api};
+ghost use Rattle.ic_entry.specs.Inspection.{is_accepted};
+ghost use Rattle.ic_entry.specs.Query.{query_response};
+ghost use Rattle.ic_state.specs.IsCanister.{IsCanister};
+ghost use Rattle.ic_state.specs.IsWorld.{IsWorld};
+ghost use Rattle.ic_state.specs.Seen.{seen, state_of};
+ghost use Rattle.ic_script_runner.specs.Acts.{Acts};
+ghost use Rattle.ic_script_runner.specs.AfterLine.{after_line};
+ghost use Rattle.ic_script_runner.specs.AfterCommand.{after_command, after_rounds, text_of_rounds, answer_now, accepts_now, fault_of, unless};
+ghost use Rattle.ic_candid_lines.specs.Decoding.{decode_text, show_text};
+ghost use Rattle.ic_candid_lines.specs.Encoding.{encode_text};
+ghost use Rattle.ic_candid_lines.specs.Upgrading.{upgrade_text};
+ghost use Rattle.ic_script_runner.specs.Options.{rules_of};
+ghost use Rattle.ic_options.specs.Options.{HasBounds};
+ghost use Rattle.ic_output.specs.Texts.{accepted_text, query_text, call_refused_text, state_line, witness_text};
+
+use crate::picking::picked;
+use ic_base::NoMemory as WantOfMemory;
+use ic_calls::no_canister;
+use ic_candid_lines::{decode_text, encode_text, show_text, upgrade_text};
+use ic_exec::{inspect, inspects, query};
+use ic_options::Options;
+use ic_output::{
+    accepted_text, call_refused_text, pick_text, query_text, ran_text, state_line, witness_line,
+};
+use ic_outside::Gate;
+use ic_principal::{Bytes, Principal};
+use ic_queue_rounds::run_rounds;
+use ic_script::{Ask, Command, LineCause, LineError, Paths, parse_line};
+use ic_state::{CanisterPlace, Env, Parts, Response, World};
+use std::alloc::Global;
+use std::thread::Threads;
+
+const MOST_CALLS: usize = 1_048_576;
+
+/// Why a line was not done.
+#[derive(Clone, Copy, Debug, PartialEq, Eq)]
+pub enum NotDone {
+    /// The line is bad.
+    Bad(LineCause),
+    /// Memory was wanting.
+    NoMemory,
+}
+
+impl From<WantOfMemory> for NotDone {
+    ghost use Rattle.std.specs.Prelude.{◌≡◌};
+    ghost use Rattle.ic_script_runner.specs.declared.doing.NotDone.TheVariants.{NoMemory};
+
+    ghost from_gives = { λ _ error. error ≡ NoMemory };
+
+    fn from(_: WantOfMemory) -> NotDone {
+        NotDone::NoMemory
+    }
+}
+
+impl From<LineError> for NotDone {
+    ghost use Rattle.std.specs.Prelude.{◌≡◌};
+    ghost use Rattle.ic_script_runner.specs.Acts.{not_done};
+
+    ghost from_gives = { λ error outcome. outcome ≡ not_done error };
+
+    fn from(error: LineError) -> NotDone {
+        match error {
+            LineError::Form => NotDone::Bad(LineCause::Form),
+            LineError::Principal => NotDone::Bad(LineCause::Principal),
+            LineError::Hex => NotDone::Bad(LineCause::Hex),
+            LineError::Number => NotDone::Bad(LineCause::Number),
+            LineError::Size => NotDone::Bad(LineCause::Size),
+            LineError::NoMemory => NotDone::NoMemory,
+        }
+    }
+}
+
+/// Does a line: the world after it, and what it prints. On an error the world is dropped.
+#[tactic(auto, unfolding(crate::specs::AfterLine::after_line))]
+pub fn do_line<R: Threads + Sync, G: Gate + Sync>(
+    alloc: Global,
+    rt: &R,
+    options: &Options,
+    world: World,
+    line: &[u8],
+    gate: &G,
+) -> Result<(World, Bytes), NotDone>
+    requires { HasBounds options.now }
+    ensures { Acts (after_line options.now world line.now) result }
+{
+    match parse_line(alloc, line) {
+        Ok(command) => do_command(alloc, rt, options, world, command, gate),
+        Err(error) => Err(NotDone::from(error)),
+    }
+}
+
+#[tactic(auto, unfolding(crate::specs::AfterCommand::after_command))]
+fn do_command<R: Threads + Sync, G: Gate + Sync>(
+    alloc: Global,
+    rt: &R,
+    options: &Options,
+    world: World,
+    command: Command,
+    gate: &G,
+) -> Result<(World, Bytes), NotDone>
+    requires within { HasBounds options.now }
+    requires time { (time : ℕ) → command ≡ Command.Time time → time ≤ 9223372036854775807 }
+    requires size { (from to : List ℕ) → command ≡ Command.Upgradable from to
+        → (length from ≤ 2097152) × (length to ≤ 2097152) }
+    ensures { Acts (after_command options.now world command) result }
+{
+    match command {
+        Command::Nothing => Ok((
+            world,
+            Bytes {
+                items: Vec::new(alloc),
+            },
+        )),
+        Command::Call(ask) => submit(alloc, options, world, ask),
+        Command::Query(ask) => answer(alloc, options, world, ask),
+        Command::Run(count) => make_rounds(alloc, rt, options, world, count, gate),
+        Command::Drain => make_rounds(alloc, rt, options, world, options.rounds, gate),
+        Command::Time(time) => set_time(alloc, world, time),
+        Command::State => show_state(alloc, world),
+        Command::Decode { expected, bytes } => decode(alloc, world, &expected, &bytes),
+        Command::Show { expected, bytes } => show(alloc, world, &expected, &bytes),
+        Command::Encode { expected, text } => encode(alloc, world, &expected, &text),
+        Command::Upgradable { from, to } => upgrade(alloc, world, &from, &to),
+        Command::Witness(paths) => show_witness(alloc, world, &paths),
+        Command::Pick(place) => pick(alloc, options, world, place),
+    }
+}
+
+#[tactic(auto, unfolding(crate::specs::AfterCommand::after_command))]
+fn submit(
+    alloc: Global,
+    options: &Options,
+    world: World,
+    ask: Ask,
+) -> Result<(World, Bytes), NotDone>
+    requires { HasBounds options.now }
+    ensures { Acts (after_command options.now world (Command.Call ask)) result }
+{
+    if world.parts().requests.len() >= MOST_CALLS {
+        return Err(NotDone::Bad(LineCause::Calls));
+    }
+    let mut parts = world.open();
+    let is_accepted = accepts_now(alloc, options, &mut parts, &ask);
+    let world = World::seal(parts);
+    match is_accepted {
+        Ok(true) => accept(alloc, world, ask),
+        Ok(false) => refuse(alloc, world),
+        Err(_) => Err(NotDone::NoMemory),
+    }
+}
+
+// Whether the callee accepts the call. All stays as it is, without memory too.
+#[tactic(auto, unfolding(crate::specs::AfterCommand::accepts_now))]
+fn accepts_now(
+    alloc: Global,
+    options: &Options,
+    parts: &mut Parts,
+    ask: &Ask,
+) -> Result<bool, WantOfMemory>
+    requires within { HasBounds options.now }
+    requires keeps { IsWorld parts.old }
+    ensures accepted { IfOk result (λ b. b ≡ accepts_now options.now (state_of parts.old) ask.now) }
+    ensures same { state_of parts.new ≡ state_of parts.old }
+    ensures keeps { IsWorld parts.new }
+{
+    let env = Env {
+        time: parts.time,
+        limit: options.limit,
+        price: options.price,
+    };
+    match parts.canisters.get_mut(&ask.callee) {
+        Some(place) => accepts(alloc, place, ask, env),
+        None => Ok(true),
+    }
+}
+
+// The argument is copied for a canister that looks at calls, and for no other.
+fn accepts(
+    alloc: Global,
+    place: &mut CanisterPlace,
+    ask: &Ask,
+    env: Env,
+) -> Result<bool, WantOfMemory>
+    requires { IsCanister place.old }
+    ensures accepted { IfOk result (λ b. b ≡ is_accepted (enters_by system_api) env (seen place.old) ask.now.sender ask.now.method ask.now.arg) }
+    ensures same { place.new ≡ place.old }
+{
+    if !inspects(place.get()) {
+        return Ok(true);
+    }
+    let arg = Bytes {
+        items: Vec::from_slice(alloc, ask.arg.items.as_slice())?,
+    };
+    inspect(
+        alloc,
+        place.get_mut(),
+        ask.sender,
+        &ask.method.items,
+        arg,
+        env,
+    )
+}
+
+fn accept(alloc: Global, world: World, ask: Ask) -> Result<(World, Bytes), NotDone>
+    requires { length world.requests < 1048576 }
+    ensures { Acts (Ok (submitted world ask.sender ask.callee ask.method ask.arg, accepted_text (length world.requests))) result }
+{
+    let number = world.parts().requests.len();
+    let Ok(text) = accepted_text(alloc, number) else {
+        return Err(NotDone::NoMemory);
+    };
+    match world.submit(ask.sender, ask.callee, ask.method, ask.arg) {
+        Ok(world) => Ok((world, text)),
+        Err(_) => Err(NotDone::NoMemory),
+    }
+}
+
+fn refuse(alloc: Global, world: World) -> Result<(World, Bytes), NotDone>
+    ensures { Acts (Ok (world, call_refused_text)) result }
+{
+    match call_refused_text(alloc) {
+        Ok(text) => Ok((world, text)),
+        Err(_) => Err(NotDone::NoMemory),
+    }
+}
+
+// The world stays as it is.
+fn answer(
+    alloc: Global,
+    options: &Options,
+    world: World,
+    ask: Ask,
+) -> Result<(World, Bytes), NotDone>
+    requires { HasBounds options.now }
+    ensures { Acts (Ok (world, query_text (answer_now options.now world ask))) result }
+{
+    let mut parts = world.open();
+    let answered = answer_now(alloc, options, &mut parts, ask);
+    let world = World::seal(parts);
+    match answered {
+        Ok(response) => match query_text(alloc, &response) {
+            Ok(text) => Ok((world, text)),
+            Err(_) => Err(NotDone::NoMemory),
+        },
+        Err(_) => Err(NotDone::NoMemory),
+    }
+}
+
+// What the canister that is asked answers. All stays as it is, without memory too.
+#[tactic(auto, unfolding(crate::specs::AfterCommand::answer_now))]
+fn answer_now(
+    alloc: Global,
+    options: &Options,
+    parts: &mut Parts,
+    ask: Ask,
+) -> Result<Response, WantOfMemory>
+    requires within { HasBounds options.now }
+    requires keeps { IsWorld parts.old }
+    ensures response { IfOk result (λ r. r ≡ answer_now options.now (state_of parts.old) ask) }
+    ensures same { state_of parts.new ≡ state_of parts.old }
+    ensures keeps { IsWorld parts.new }
+{
+    let env = Env {
+        time: parts.time,
+        limit: options.limit,
+        price: options.price,
+    };
+    let Ask {
+        sender,
+        callee,
+        method,
+        arg,
+    } = ask;
+    match parts.canisters.get_mut(&callee) {
+        Some(place) => asked(alloc, place, sender, &method.items, arg, env),
+        None => no_canister(alloc, &callee),
+    }
+}
+
+// Asks the canister in its place, which stays as it is.
+fn asked(
+    alloc: Global,
+    place: &mut CanisterPlace,
+    sender: Principal,
+    method: &str,
+    arg: Bytes,
+    env: Env,
+) -> Result<Response, WantOfMemory>
+    requires { IsCanister place.old }
+    ensures response { IfOk result (λ r. r ≡ query_response (enters_by system_api) env (seen place.old) sender method.now arg) }
+    ensures same { place.new ≡ place.old }
+{
+    query(alloc, place.get_mut(), sender, method, arg, env)
+}
+
+fn make_rounds<R: Threads + Sync, G: Gate + Sync>(
+    alloc: Global,
+    rt: &R,
+    options: &Options,
+    world: World,
+    count: u32,
+    gate: &G,
+) -> Result<(World, Bytes), NotDone>
+    requires { HasBounds options.now }
+    ensures { Acts (Ok (after_rounds options.now count world, text_of_rounds options.now count world)) result }
+{
+    let Ok((world, made)) = run_rounds_by(alloc, rt, options, world, count, gate) else {
+        return Err(NotDone::NoMemory);
+    };
+    match ran_text(alloc, made, world.parts().messages.items.len()) {
+        Ok(text) => Ok((world, text)),
+        Err(_) => Err(NotDone::NoMemory),
+    }
+}
+
+/// Makes up to so many rounds, as the options say: the world after them, and how many handled a
+/// message.
+pub fn run_rounds_by<R: Threads + Sync, G: Gate + Sync>(
+    alloc: Global,
+    rt: &R,
+    options: &Options,
+    world: World,
+    count: u32,
+    gate: &G,
+) -> Result<(World, u32), WantOfMemory>
+    requires { HasBounds options.now }
+    ensures state { IfOk result (λ r. r.0 ≡ after_rounds options.now count world) }
+    ensures made { IfOk result (λ r. r.1 ≡ length (rounds (rules_of options.now) count world)) }
+{
+    match run_rounds(
+        alloc,
+        rt,
+        world,
+        count,
+        options.workers,
+        options.limit,
+        options.price,
+        gate,
+    ) {
+        Ok((world, made)) => Ok((world, made)),
+        Err(error) => Err(error),
+    }
+}
+
+fn set_time(alloc: Global, mut world: World, time: u64) -> Result<(World, Bytes), NotDone>
+    requires { time ≤ 9223372036854775807 }
+    ensures { Acts (unless (fault_of world (Command.Time time)) (timed world time, [])) result }
+{
+    if time < world.parts().time {
+        return Err(NotDone::Bad(LineCause::Back));
+    }
+    world.set_time(time);
+    Ok((
+        world,
+        Bytes {
+            items: Vec::new(alloc),
+        },
+    ))
+}
+
+// The world stays as it is.
+fn show_state(alloc: Global, world: World) -> Result<(World, Bytes), NotDone>
+    ensures { Acts (Ok (world, state_line world)) result }
+{
+    match state_line(alloc, &world) {
+        Ok(text) => Ok((world, text)),
+        Err(_) => Err(NotDone::NoMemory),
+    }
+}
+
+// The world stays as it is.
+fn show_witness(alloc: Global, world: World, paths: &Paths) -> Result<(World, Bytes), NotDone>
+    ensures { Acts (Ok (world, witness_text world paths.now)) result }
+{
+    match witness_line(alloc, &world, &paths.items) {
+        Ok(text) => Ok((world, text)),
+        Err(_) => Err(NotDone::NoMemory),
+    }
+}
+
+#[tactic(auto, unfolding(crate::specs::AfterCommand::after_command))]
+fn pick(
+    alloc: Global,
+    options: &Options,
+    world: World,
+    place: u32,
+) -> Result<(World, Bytes), NotDone>
+    requires { HasBounds options.now }
+    ensures { Acts (after_command options.now world (Command.Pick place)) result }
+{
+    let Ok((world, was_eligible)) = picked(alloc, options, world, place) else {
+        return Err(NotDone::NoMemory);
+    };
+    match pick_text(alloc, was_eligible) {
+        Ok(text) => Ok((world, text)),
+        Err(_) => Err(NotDone::NoMemory),
+    }
+}
+
+fn decode(
+    alloc: Global,
+    world: World,
+    expected: &Bytes,
+    bytes: &Bytes,
+) -> Result<(World, Bytes), NotDone>
+    ensures { Acts (Ok (world, decode_text expected.now bytes.now)) result }
+{
+    match decode_text(alloc, &expected.items, &bytes.items) {
+        Ok(text) => Ok((world, text)),
+        Err(_) => Err(NotDone::NoMemory),
+    }
+}
+
+fn show(
+    alloc: Global,
+    world: World,
+    expected: &Bytes,
+    bytes: &Bytes,
+) -> Result<(World, Bytes), NotDone>
+    ensures { Acts (Ok (world, show_text expected.now bytes.now)) result }
+{
+    match show_text(alloc, &expected.items, &bytes.items) {
+        Ok(text) => Ok((world, text)),
+        Err(_) => Err(NotDone::NoMemory),
+    }
+}
+
+fn encode(
+    alloc: Global,
+    world: World,
+    expected: &Bytes,
+    text: &Bytes,
+) -> Result<(World, Bytes), NotDone>
+    ensures { Acts (Ok (world, encode_text expected.now text.now)) result }
+{
+    match encode_text(alloc, &expected.items, &text.items) {
+        Ok(printed) => Ok((world, printed)),
+        Err(_) => Err(NotDone::NoMemory),
+    }
+}
+
+fn upgrade(alloc: Global, world: World, from: &Bytes, to: &Bytes) -> Result<(World, Bytes), NotDone>
+    requires from { length from.now ≤ 2097152 }
+    requires to { length to.now ≤ 2097152 }
+    ensures { Acts (Ok (world, upgrade_text from.now to.now)) result }
+{
+    match upgrade_text(alloc, &from.items, &to.items) {
+        Ok(text) => Ok((world, text)),
+        Err(_) => Err(NotDone::NoMemory),
+    }
+}
