@@ -12,7 +12,6 @@ use Rattle.std.specs.Map.{lookup, keys_of}
 use Rattle.std.proofs.lemmas.Bool.{cases_Bool, cond-true, cond-false, or_left, or_right}
 use Rattle.std.proofs.lemmas.Map.Keys.{IsDistinct-from_sorted, IsDistinct-head, IsDistinct-tail}
 use Rattle.std.proofs.lemmas.Map.Made.{is_some-lookup}
-use Rattle.std.proofs.lemmas.Map.Lookups.{btree_set_from_contains, exact_bytes}
 use Rattle.ic_behaviour.specs.declared.call.Message.{Message}
 use Rattle.ic_behaviour.specs.State.{at, callee_of}
 use Rattle.ic_behaviour.proofs.Weights.{at-is, at-self, at-back, each-map}
@@ -23,33 +22,9 @@ use Rattle.ic_rounds.proofs.Slots.{without_first as passed_first}
 use Rattle.ic_rounds.proofs.Batches.{AreDistinct, apart}
 use Rattle.ic_rounds.proofs.PutBacks.{Rises}
 use Rattle.ic_rounds.proofs.Takes.{lookup-inserted, rest_same, agree_all, left_by, rest_keys, sorted_out}
-use Rattle.ic_rounds.proofs.Firsts.{find_self}
+use Rattle.ic_rounds.proofs.MadeMaps.{same_entries}
 use Rattle.ic_queues.specs.Queued.{Queued, has_queue, first_to, without_first, without_first_to}
 use Rattle.ic_queue_rounds.specs.Drawing.{Drawing, none_drawn, with_first, draw}
-
--- ---- sorted entries with the same look-ups are the same
-
-pair_up : {X : Type 0} (look : List ℕ → Option X) (es fs : List (List ℕ × X)) → keys_of es ≡ keys_of fs → AllByRecursion (λ e. look e.0 ≡ Some e.1) es → AllByRecursion (λ e. look e.0 ≡ Some e.1) fs → es ≡ fs
-pair_up look [] [] same left right = refl
-pair_up look [] (f ∷ fs) same left right = cc
-pair_up look (e ∷ es) [] same left right = cc
-pair_up look (e ∷ es) (f ∷ fs) same left right =
-    let key : e.0 ≡ f.0 = cc in
-    let keys : keys_of es ≡ keys_of fs = cc in
-    let found : Some e.1 ≡ Some f.1 = sym left.0 ∙ ap look key ∙ right.0 in
-    let value : e.1 ≡ f.1 = cc in
-    let rest = pair_up look es fs keys left.1 right.1 in
-    λ i. (key i, value i) ∷ rest i
-
-same_entries : {X : Type 0} (es fs : List (List ℕ × X)) → Rises (keys_of es) → Rises (keys_of fs) → ((q : List ℕ) → lookup (at q) es ≡ lookup (at q) fs) → es ≡ fs
-same_entries {X} es fs sorted also same =
-    let keys : keys_of es ≡ keys_of fs =
-    btree_set_from_contains nat_list_cmp_total (record { keys = keys_of es }) (record { keys = keys_of fs }) sorted also
-    (λ q. sym (is_some-lookup (at q) es) ∙ ap is_some (same q) ∙ is_some-lookup (at q) fs) exact_bytes in
-    pair_up (λ q. lookup (at q) fs) es fs keys
-    (each-map (λ (e : List ℕ × X). lookup (at e.0) es ≡ Some e.1) (λ (e : List ℕ × X). lookup (at e.0) fs ≡ Some e.1) (λ e found. sym (same e.0) ∙ found) es
-    (find_self es (IsDistinct-from_sorted (slice_cmp nat_cmp) (keys_of es) sorted)))
-    (find_self fs (IsDistinct-from_sorted (slice_cmp nat_cmp) (keys_of fs) also))
 
 -- ---- keys that come in rising order come last
 
