@@ -140,11 +140,12 @@ fn list_of<'a>(
 ) -> Result<(Value, u32, &'a [u8]), ReadError>
     ensures { Gives (λ x. (view x.0, x.1, x.2.now)) result (seq_at false (value_at table.now depth ty) left bytes.now) }
 {
-    let (count, rest) = unsigned_of(bytes)?;
-    let (items, left, rest) = items_of(alloc, table, ty, depth, left, count, rest)?;
+    let counted = unsigned_of(bytes)?;
+    let (items, left, rest) = items_of(alloc, table, ty, depth, left, counted)?;
     Ok((Value::of_items(items), left, rest))
 }
 
+// The values of a `vec`, as many as the count says that was read with the bytes after it.
 #[cycle(reader)]
 fn items_of<'a>(
     alloc: Global,
@@ -152,15 +153,14 @@ fn items_of<'a>(
     ty: TyRef,
     depth: u32,
     left: u32,
-    count: u128,
-    bytes: &'a [u8],
+    counted: (u128, &'a [u8]),
 ) -> Result<(Vec<Value>, u32, &'a [u8]), ReadError>
-    ensures { Gives (λ x. (views x.0.items, x.1, x.2.now)) result (items_at (value_at table.now depth ty) count left bytes.now) }
+    ensures { Gives (λ x. (views x.0.items, x.1, x.2.now)) result (items_at (value_at table.now depth ty) counted.entry.0 left counted.entry.1.now) }
 {
-    let mut items = Vec::with_capacity(alloc, room_claimed(count, bytes))?;
+    let mut items = Vec::with_capacity(alloc, room_claimed(counted.0, counted.1))?;
     let mut unread = left;
-    let mut rest = bytes;
-    for _ in 0..count {
+    let mut rest = counted.1;
+    for _ in 0..counted.0 {
         let (value, left, after) = value_of(alloc, table, ty, depth, unread, rest)?;
         items.push(value)?;
         unread = left;

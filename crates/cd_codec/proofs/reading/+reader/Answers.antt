@@ -13,15 +13,15 @@ use Rattle.cd_codec.proofs.reading.+reader.Goals as goal
 pub items_of-returns-in_err-value : goal.items_of-returns-in_err-value
 items_of-returns-in_err-value t c =
     let p = err_from_is_err_and c.from_residual-in_err-value.result c.from_residual-in_err-value.ensures.1 in
-    rw (p.1, p.2) (item_refused c.in_err-value.field-0.0 (value_at c.args.table.now c.args.depth c.args.ty) (views c.loop.items.items) c.args.count c.loop.counter c.loop.unread c.loop.rest.now _ c.loop-test.true c.in_err-value.ensures c.loop.invariant)
+    rw (p.1, p.2) (item_refused c.in_err-value.field-0.0 (value_at c.args.table.now c.args.depth c.args.ty) (views c.loop.items.items) c.args.counted.0 c.loop.counter c.loop.unread c.loop.rest.now _ c.loop-test.true c.in_err-value.ensures c.loop.invariant)
 
 pub items_of-loop-preserved : goal.items_of-loop-preserved
 items_of-loop-preserved t c =
     let more : views c.push.new.self.items ≡ views c.loop.items.items ++ view c.in_ok-value.value ∷ [] = rw c.in_ok-push.ensures.items (map_push _ c.loop.items.items c.in_ok-value.value) in
-    rw more (item_read (value_at c.args.table.now c.args.depth c.args.ty) (views c.loop.items.items) c.args.count c.loop.counter c.loop.unread c.loop.rest.now (view c.in_ok-value.value) c.in_ok-value.left c.in_ok-value.after.now _ c.loop-test.true c.in_ok-value.ensures c.loop.invariant)
+    rw more (item_read (value_at c.args.table.now c.args.depth c.args.ty) (views c.loop.items.items) c.args.counted.0 c.loop.counter c.loop.unread c.loop.rest.now (view c.in_ok-value.value) c.in_ok-value.left c.in_ok-value.after.now _ c.loop-test.true c.in_ok-value.ensures c.loop.invariant)
 
 pub items_of-returns : goal.items_of-returns
-items_of-returns t c = items_done (value_at c.args.table.now c.args.depth c.args.ty) (views c.loop.items.items) c.args.count c.loop.counter c.loop.unread c.loop.rest.now _ c.loop-test.false c.loop.invariant
+items_of-returns t c = items_done (value_at c.args.table.now c.args.depth c.args.ty) (views c.loop.items.items) c.args.counted.0 c.loop.counter c.loop.unread c.loop.rest.now _ c.loop-test.false c.loop.invariant
 
 pub parts_of-returns-in_err-value : goal.parts_of-returns-in_err-value
 parts_of-returns-in_err-value t c =

@@ -31,7 +31,7 @@ decreases-parts_of l = 4 * l.depth + 1
 
 -- what was read and what is still read are what is to be read
 abbrev pub invariant-items_of-loop : goal.invariant-items_of-loop
-invariant-items_of-loop l = with_front (views l.items.items) (items_at (value_at l.table l.depth l.ty) (l.count - l.counter) l.unread l.rest) ≡ items_at (value_at l.table l.depth l.ty) l.count l.fn.left l.bytes
+invariant-items_of-loop l = with_front (views l.items.items) (items_at (value_at l.table l.depth l.ty) (l.counted.0 - l.counter) l.unread l.rest) ≡ items_at (value_at l.table l.depth l.ty) l.counted.0 l.fn.left l.counted.1.now
 
 abbrev pub invariant-parts_of-loop-id : goal.invariant-parts_of-loop-id
 invariant-parts_of-loop-id l = with_front (views_of_fields l.parts.items) (each_at (field_at (value_at l.table l.depth)) (drop l.id-index l.fields) l.unread l.rest) ≡ each_at (field_at (value_at l.table l.depth)) l.fields l.fn.left l.bytes
