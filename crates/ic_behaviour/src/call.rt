@@ -79,6 +79,17 @@ pub enum Message {
     },
 }
 
+/// A call without its callee: what the one who gets it is told.
+#[derive(Drop)]
+pub struct IncomingCall {
+    pub origin: Origin,
+    pub sender: Principal,
+    pub method: Text,
+    pub arg: Bytes,
+    /// The cycles that are transferred with it.
+    pub cycles: u128,
+}
+
 impl Message {
     /// Whether it goes to this canister: a call to its callee, an answer to the caller.
     pub fn is_to(&self, canister: &Principal) -> bool

@@ -2,7 +2,7 @@ ghost use Rattle.std.specs.Prelude.{◌≡◌, ◌≤◌};
 ghost use Rattle.ic_behaviour.specs.declared.limit.TheConstants.{MOST_INSTRUCTIONS};
 
 use crate::env::Env;
-use crate::limit::{BoundedEnv, InstructionLimit};
+use crate::limit::BoundedEnv;
 
 /// What the instructions of executions may come to, and what they cost.
 #[derive(Clone, Copy, Debug)]
@@ -15,13 +15,6 @@ pub struct Charge {
 }
 
 impl Charge {
-    /// The limit alone, for what is not charged.
-    pub fn limit(self) -> InstructionLimit
-        ensures { result ≡ self.limit }
-    {
-        InstructionLimit::of(self.limit)
-    }
-
     /// With the time that an execution has.
     pub fn at(self, time: u64) -> BoundedEnv
         ensures { result ≡ record { time = time; limit = self.limit; price = self.price } }

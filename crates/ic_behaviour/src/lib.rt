@@ -22,14 +22,14 @@ mod phase;
 mod request;
 mod runs;
 
-pub use call::{Answered, CallId, Callback, Message, Origin, Response};
+pub use call::{Answered, CallId, Callback, IncomingCall, Message, Origin, Response};
 pub use charge::Charge;
 pub use context::Context;
 pub use env::{Admitted, Env, Refusal};
 pub use execution::{Effects, EntryKind, OutCall, OutCalls, View};
 pub use install::{InstallFault, Mode};
 pub use laws::{changes_keep_counts, changes_keep_sound, sound_by_totals};
-pub use limit::{BoundedEnv, InstructionLimit, MOST_INSTRUCTIONS};
+pub use limit::{BoundedEnv, MOST_INSTRUCTIONS};
 pub use phase::{Controllers, Phase, Waiter, Waiters};
 pub use request::Request;
 pub use runs::{any_order, rounds_are_steps};

@@ -6,55 +6,6 @@ use std::marker::Model;
 /// No limit of instructions is above it.
 pub const MOST_INSTRUCTIONS: u64 = 1_000_000_000_000;
 
-/// The most instructions that one execution may use, of at most `MOST_INSTRUCTIONS`. Contracts see the
-/// number.
-#[derive(Clone, Copy, Debug)]
-pub struct InstructionLimit {
-    instructions: u64,
-}
-
-impl Model for InstructionLimit {
-    ghost use Rattle.std.specs.Prelude.{ℕ, ◌≤◌};
-    ghost use Rattle.ic_behaviour.specs.declared.limit.TheConstants.{MOST_INSTRUCTIONS};
-
-    ghost Value = { ℕ };
-
-    ghost view = { λ l. l.instructions };
-
-    ghost invariant = { λ l. l.instructions ≤ MOST_INSTRUCTIONS };
-
-    ghost inverse = { λ n. record { instructions = n } };
-}
-
-impl InstructionLimit {
-    pub fn of(instructions: u64) -> InstructionLimit
-        requires { instructions ≤ MOST_INSTRUCTIONS }
-        ensures { result ≡ instructions }
-    {
-        InstructionLimit { instructions }
-    }
-
-    pub fn get(self) -> u64
-        ensures value { result ≡ self }
-        ensures bounded { result ≤ MOST_INSTRUCTIONS }
-    {
-        self.instructions
-    }
-
-    /// With the time and the price that an execution has.
-    pub fn at(self, time: u64, price: u64) -> BoundedEnv
-        ensures { result ≡ record { time = time; limit = self; price = price } }
-    {
-        BoundedEnv {
-            env: Env {
-                time,
-                limit: self.instructions,
-                price,
-            },
-        }
-    }
-}
-
 /// An `Env` with a limit of at most `MOST_INSTRUCTIONS`. Contracts see the `Env`.
 #[derive(Clone, Copy, Debug)]
 pub struct BoundedEnv {

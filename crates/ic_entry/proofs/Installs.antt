@@ -11,7 +11,6 @@ use Rattle.ic_behaviour.specs.declared.install.InstallFault.{InstallFault}
 use Rattle.ic_behaviour.specs.State.{Code}
 use Rattle.ic_behaviour.specs.Installing.{enters_after, Staged, Goes, Refused, steps, first_stage, installation_by, installed}
 use Rattle.ic_behaviour.proofs.Weights.{each-map}
-use Rattle.std.specs.declared.alloc.AllocError.{AllocError}
 use Rattle.ic_state.specs.declared.canister.Canister.{Canister}
 use Rattle.ic_state.specs.declared.canister.Code.{Code as StoredCode}
 use Rattle.ic_api.specs.System.{system_api}
@@ -68,17 +67,3 @@ pub installed_keeps : (c d : Canister) (code : StoredCode) (ended : Result Draft
 installed_keeps c d code (Ok draft) keeps rest same fits idle =
     subst (λ (x : Canister). IsCanister (with_draft x code (Ok draft))) (sym rest) (keeps_installed c code draft.store draft.certified keeps fits idle)
 installed_keeps c d code (Err e) keeps rest same fits idle = subst IsCanister (sym same) keeps
-
--- without memory nothing was put into the canister
-pub unsettled : (c d : Canister) (code : StoredCode) (ended : Result Draft Stop) (e : AllocError) → Err e ≡ refusal_of ended → OnErr ended (d ≡ c) → with_draft d code ended ≡ c
-unsettled c d code (Ok draft) e is same = absurd cc
-unsettled c d code (Err (stop.Refused cause)) e is same = absurd cc
-unsettled c d code (Err stop.NoMemory) e is same = same
-
-pub on_err : {A E P : Type 0} (r : Result A E) → P → OnErr r P
-on_err (Ok a) p = tt
-on_err (Err e) p = p
-
--- the rest of a canister that is another in nothing
-pub rest_of : (c d : Canister) → d ≡ c → d ≡ record c { code = d.code; store = d.store; certified = d.certified }
-rest_of c d is = subst (λ (x : Canister). x ≡ record c { code = x.code; store = x.store; certified = x.certified }) (sym is) refl

@@ -80,7 +80,7 @@ fn query_of(canister: &Canister, method: &str) -> Result<u32, Refusal>
     }
 }
 
-// Enters the function as what a user asks without a call, who sees this. Nothing is kept.
+// Enters the function for a user who asks without a call, with this view. Nothing that it does is kept.
 fn ask(
     alloc: Global,
     canister: &mut Canister,

@@ -16,7 +16,7 @@ use wm_run::invoke;
 use wm_semantics::{Ended, Meter, Target, Trap};
 use wm_store::Store;
 
-/// Code is entered there, as that, and sees this.
+/// Where code is entered, as what kind of entry point, and what it sees.
 #[derive(Drop)]
 pub struct Entry {
     pub target: Target,

@@ -7,14 +7,16 @@ ghost use Rattle.ic_state.specs.IsCanister.{IsCanister};
 ghost use Rattle.ic_api.specs.System.{system_api};
 ghost use Rattle.ic_entry.specs.Installed.{installation_of, asked_of, is_upgrade, with_draft, refusal_of, Drafts};
 
-use crate::staging::{Asked, Draft, Stop, install_steps};
+use crate::staging::{Asked, Draft, Stop, Told, new_store, start};
 use crate::upgrading::upgrade;
+use crate::views::no_bytes;
 use ic_base::NoMemory;
 use ic_behaviour::{InstallFault, Mode};
 use ic_principal::{Bytes, Principal};
 use ic_state::{Canister, Code, CodePlace, Env};
 use std::alloc::{AllocError, Global};
 use wm_semantics::Meter;
+use wm_valid::EntryName;
 
 /// What is installed, and how.
 #[derive(Debug, Drop)]
@@ -37,7 +39,8 @@ pub struct Installed {
     pub used: u64,
 }
 
-// The steps of an installation, up to the last one.
+// The steps of an installation, up to the last one. Without an upgrade the canister's store and certified
+// data go.
 fn steps(
     alloc: Global,
     canister: &mut Canister,
@@ -59,7 +62,19 @@ fn steps(
     ensures limit { meter.new.limit ≡ meter.old.limit }
 {
     match mode {
-        Mode::Install | Mode::Reinstall => install_steps(alloc, canister, code, asked, meter),
+        Mode::Install | Mode::Reinstall => {
+            let store = new_store(alloc, &code.valid, 0, &[])?;
+            let mut draft = Draft {
+                store,
+                certified: no_bytes(alloc),
+            };
+            let told = Told {
+                name: EntryName::Init,
+                asked,
+            };
+            start(alloc, canister, code, told, &mut draft, meter)?;
+            Ok(draft)
+        }
         Mode::Upgrade { skip_pre_upgrade } => {
             upgrade(alloc, canister, code, skip_pre_upgrade, asked, meter)
         }

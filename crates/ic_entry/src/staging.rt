@@ -2,10 +2,10 @@ ghost use Rattle.std.specs.Prelude.{◌≡◌, ◌+◌, ◌*◌, ◌<◌, ◌≤
 ghost use Rattle.wm_store.specs.Fits.{Fits};
 ghost use Rattle.wm_semantics.specs.Instance.{instance};
 ghost use Rattle.wm_semantics.specs.Begin.{IsTarget};
-ghost use Rattle.ic_behaviour.specs.Installing.{enters_after, entered, made, with_stable, install_view, started, install_steps, upgrade_steps};
+ghost use Rattle.ic_behaviour.specs.Installing.{enters_after, entered, with_stable, install_view, started};
 ghost use Rattle.ic_state.specs.Seen.{seen, code_of};
 ghost use Rattle.ic_api.specs.System.{system_api};
-ghost use Rattle.ic_entry.specs.Installed.{asked_of, stage_of, Steps, Drafts, Leaves, Makes};
+ghost use Rattle.ic_entry.specs.Installed.{asked_of, stage_of, Steps, Leaves, Makes};
 
 use crate::asking::user_view;
 use crate::entering::{Entry, enter_after};
@@ -192,34 +192,4 @@ pub fn start(
     let view = install_view(alloc, env, canister, sender, arg, &draft.certified)?;
     draft.certified = run(alloc, code, point, view, &mut draft.store, meter)?;
     Ok(())
-}
-
-/// The steps of an installation on a canister whose store and certified data go, up to the last one.
-pub fn install_steps(
-    alloc: Global,
-    canister: &Canister,
-    code: &Code,
-    asked: Asked,
-    meter: &mut Meter,
-) -> Result<Draft, Stop>
-    requires cycles { canister.now.balance < 2 ^ 127 }
-    requires outstanding { canister.now.outstanding ≤ 500 }
-    requires limit { meter.old.limit ≡ asked.env.limit }
-    ensures steps { Drafts result meter.new.used
-        (install_steps (asked_of asked.env canister.now asked.sender) (code_of code.now) asked.arg (stage_of canister.now.store.lists canister.now.certified meter.old.used)) }
-    ensures fits { IfOk result (λ d. Fits code.now.valid.«module» d.store.lists) }
-    ensures begun { IfOk result (λ d. d.store.begun ≡ None) }
-    ensures limit { meter.new.limit ≡ meter.old.limit }
-{
-    let store = new_store(alloc, &code.valid, 0, &[])?;
-    let mut draft = Draft {
-        store,
-        certified: no_bytes(alloc),
-    };
-    let told = Told {
-        name: EntryName::Init,
-        asked,
-    };
-    start(alloc, canister, code, told, &mut draft, meter)?;
-    Ok(draft)
 }

@@ -13,20 +13,10 @@ use crate::effects::{answer_alone, returned};
 use crate::work::{Work, silent};
 use ic_base::NoMemory;
 use ic_entry::{Entered, Entry, attempt, copies_of, view_in, with_call};
-use ic_principal::{Bytes, Principal, Text};
-use ic_state::{Admitted, Canister, Context, EntryKind, Env, Origin};
+use ic_principal::{Bytes, Text};
+use ic_state::{Admitted, Canister, Context, EntryKind, Env};
 use std::alloc::Global;
 use wm_semantics::Target;
-
-/// A call that the canister takes.
-#[derive(Drop)]
-pub struct TakenCall {
-    pub origin: Origin,
-    pub sender: Principal,
-    pub method: Text,
-    pub arg: Bytes,
-    pub cycles: u128,
-}
 
 /// The method that a call reaches, and what it is told.
 #[derive(Drop)]

@@ -14,7 +14,7 @@ ghost use Rattle.ic_api.specs.System.{system_api};
 ghost use Rattle.ic_exec.specs.Executed.{handled_of, done_of, work_of, message_cycles, executed_cycles};
 
 use crate::answers::{AwaitedAnswer, run_callback};
-use crate::calls::{PublicMethod, TakenCall, run_call};
+use crate::calls::{PublicMethod, run_call};
 use crate::executed::Executed;
 use crate::work::{Done, Work, silent};
 use ic_api::entries_are_lawful;
@@ -26,7 +26,7 @@ use ic_calls::{
 use ic_entry::discard;
 use ic_principal::Principal;
 use ic_state::{
-    Admitted, Answered, AnsweredList, BoundedEnv, CallId, Canister, Context, Env,
+    Admitted, Answered, AnsweredList, BoundedEnv, CallId, Canister, Context, Env, IncomingCall,
     MOST_INSTRUCTIONS, Message, Messages, Origin, Response,
 };
 use std::alloc::Global;
@@ -116,7 +116,7 @@ fn context_of(origin: &Origin, sender: &Principal, cycles: u128) -> Context
 fn begin_call(
     alloc: Global,
     canister: &mut Canister,
-    call: TakenCall,
+    call: IncomingCall,
     entry: Admitted,
     env: Env,
 ) -> Result<Done, NoMemory>
@@ -128,7 +128,7 @@ fn begin_call(
         → done_of canister.new d ≡ begin_call (enters_by system_api) env (seen canister.old) (context_of call.origin call.sender call.cycles) call.method call.arg (code, entry)) }
     ensures keeps { IsCanister canister.new }
 {
-    let TakenCall {
+    let IncomingCall {
         origin,
         sender,
         method,
@@ -150,7 +150,7 @@ fn begin_call(
 fn handle_call(
     alloc: Global,
     canister: &mut Canister,
-    call: TakenCall,
+    call: IncomingCall,
     env: Env,
 ) -> Result<Done, NoMemory>
     requires keeps { IsCanister canister.old }
@@ -235,7 +235,7 @@ pub fn handle(
         } => handle_call(
             alloc,
             canister,
-            TakenCall {
+            IncomingCall {
                 origin,
                 sender,
                 method,

@@ -45,7 +45,8 @@ use Rattle.ic_mgmt_candid.specs.Checks.{◌>>=◌, or_else, ordered}
 use Rattle.ic_mgmt_candid.specs.Denials.{denies}
 use Rattle.ic_mgmt_candid.specs.Modules.{code_of}
 use Rattle.ic_mgmt_candid.specs.Replies.{canister_reply, status_reply}
-use Rattle.ic_mgmt_laws.specs.Moves.{Incoming, with_call, awaiting, waiter_of, deleted, emptied, to_context, to_waiter}
+use Rattle.ic_mgmt_laws.specs.Moves.{with_call, awaiting, waiter_of, deleted, emptied, to_context, to_waiter}
+use Rattle.ic_behaviour.specs.declared.call.IncomingCall.{IncomingCall}
 use Rattle.ic_mgmt_laws.specs.Manage.{controllers_in, ended, manage}
 use Rattle.ic_mgmt_laws.specs.Rows.{controllers_or, unless_full, unless_above, next_canister, amount_or, unless_unsuited, installation_on, unless_refused, unless_stopped, at_canister, row, stops_in}
 use Rattle.ic_calls.specs.Texts.{uninstalled, restarted}
@@ -99,7 +100,7 @@ deleted_owe : (id : CallId) (xs : List CallContext) → total (λ (x : CallConte
 deleted_owe id [] = refl
 deleted_owe id (x ∷ xs) = omega (arith, deleted_owe id xs)
 
-module _ (enters : EntersAfter) (limit : ℕ) (now s : State) (call : Incoming) (k : ℕ) (apart : one (is_id (call_id.Ingress k) call.origin) ≡ 0)
+module _ (enters : EntersAfter) (limit : ℕ) (now s : State) (call : IncomingCall) (k : ℕ) (apart : one (is_id (call_id.Ingress k) call.origin) ≡ 0)
     (free : (key : List ℕ) (c : Canister) → lookup (at key) s.canisters ≡ Some c → owed (call_id.Ingress k) c ≡ 0) where
   abbrev id : CallId
   id = call_id.Ingress k
@@ -216,7 +217,7 @@ module _ (options : Options) (s : State) (sound : Sound s) (k : ℕ) (r : Reques
     by : (b : Bool)
         → slice_get (cond b (rules.outside rules.limit (without s place) (Call from sender callee method arg cycles)) (sent_back from callee cycles (without s place))).requests k ≡ slice_get s.requests k
     by true =
-        let call : Incoming = record { origin = from; sender = sender; method = method; arg = arg; cycles = cycles } in
+        let call : IncomingCall = record { origin = from; sender = sender; method = method; arg = arg; cycles = cycles } in
         handled_stays (enters_after system_api) rules.limit (with_call call (without s place)) (without s place) call k apart not_owed
     by false = untold_one k from (no_canister callee) s.requests apart
   delivery_stays place (Answer from sender response refund) is_m None there = refl

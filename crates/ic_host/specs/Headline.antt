@@ -27,7 +27,8 @@ use Rattle.ic_run_laws.specs.RulesKeep.{AnswersCall}
 use Rattle.ic_mgmt_candid.specs.declared.denial.Denial.{Denial}
 use Rattle.ic_mgmt_candid.specs.Checks.{◌>>=◌, ordered}
 use Rattle.ic_mgmt_candid.specs.Denials.{denies}
-use Rattle.ic_mgmt_laws.specs.Moves.{Incoming, message_of, with_call, replied}
+use Rattle.ic_mgmt_laws.specs.Moves.{message_of, with_call, replied}
+use Rattle.ic_behaviour.specs.declared.call.IncomingCall.{IncomingCall}
 use Rattle.ic_mgmt_laws.specs.Rows.{row}
 use Rattle.ic_mgmt_laws.specs.Manage.{controllers_in}
 
@@ -115,7 +116,7 @@ TurnedAwayLeaves rules s place =
 -- ---- refused calls to the management canister
 
 -- the state that a call leads to, or why it is refused
-abbrev pub carried_out : (limit : ℕ) → State → Incoming → Result State Denial
+abbrev pub carried_out : (limit : ℕ) → State → IncomingCall → Result State Denial
 carried_out limit s call = do
   asked ← ordered (controllers_in s) call.origin call.sender call.method call.arg
   row (enters_after system_api) limit (with_call call s) s call asked
@@ -124,5 +125,5 @@ carried_out limit s call = do
 -- stays as it was, but that it is answered and its cycles go back
 abbrev pub RefusalsLeave : Rules → State → (place : ℕ) → Type 0
 RefusalsLeave rules s place =
-    (call : Incoming) (denial : Denial) → slice_get s.messages place ≡ Some (message_of call [])
+    (call : IncomingCall) (denial : Denial) → slice_get s.messages place ≡ Some (message_of call [])
     → carried_out rules.limit (without s place) call ≡ Err denial → step rules s place ≡ replied call (denies denial) (without s place)

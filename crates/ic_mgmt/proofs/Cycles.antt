@@ -14,7 +14,8 @@ use Rattle.ic_state.specs.declared.canister.Canister.{Canister as StoredCanister
 use Rattle.ic_state.specs.declared.world.Parts.{Parts}
 use Rattle.ic_state.specs.Seen.{seen, entry_of, state_of}
 use Rattle.ic_state.specs.IsCanister.{cycles_of}
-use Rattle.ic_mgmt_laws.specs.Moves.{Incoming, message_of}
+use Rattle.ic_mgmt_laws.specs.Moves.{message_of}
+use Rattle.ic_behaviour.specs.declared.call.IncomingCall.{IncomingCall}
 use Rattle.ic_mgmt.specs.Taken.{Taken, HasRoom, HoldsCycles}
 
 -- what stands at one place is within the whole
@@ -35,7 +36,7 @@ held_is e = omega (
   total-map (InWaiter e.0) cycles_in (waiting e.1.phase),
 )
 
-pub holds : (p : Parts) (call : Incoming) → Taken p call → HoldsCycles p call.cycles
+pub holds : (p : Parts) (call : IncomingCall) → Taken p call → HoldsCycles p call.cycles
 holds p call t = record {
   canisters = t.canisters;
   room = each-within (HasRoom p call.cycles) p.canisters.entries (λ e one_of. omega (arith, one_of (λ f. held_at (entry_of f)), held_is e, spent));

@@ -31,7 +31,8 @@ use Rattle.ic_run_laws.proofs.Delivers.{deliver_is, no_answer, answered_advances
 use Rattle.ic_behaviour.specs.Steps.{step}
 use Rattle.ic_behaviour.proofs.Lists.{remove_at}
 use Rattle.ic_mgmt_laws.specs.KeepsCalls.{KeepsCalls}
-use Rattle.ic_mgmt_laws.specs.Moves.{Incoming, message_of, with_call, replied}
+use Rattle.ic_mgmt_laws.specs.Moves.{message_of, with_call, replied}
+use Rattle.ic_behaviour.specs.declared.call.IncomingCall.{IncomingCall}
 use Rattle.ic_mgmt_laws.specs.Manage.{handled, manage}
 use Rattle.ic_mgmt_laws.specs.Managed.{managed_rules}
 use Rattle.ic_mgmt_laws.proofs.Apart.{same_counts, sends_last}
@@ -100,7 +101,7 @@ module _ (limit : ℕ) (kept : List Message) (o : Origin) (from callee method ar
   abbrev m : Message
   m = Call o from callee method arg n
 
-  abbrev call : Incoming
+  abbrev call : IncomingCall
   call = record { origin = o; sender = from; method = method; arg = arg; cycles = n }
 
   abbrev now : State
@@ -172,7 +173,7 @@ answer_delivers limit kept o from response n todo p q is absent =
 abbrev pub Handled : (limit : ℕ) → Message → (p q : Parts) → Type 0
 Handled limit m p q = (kept todo : List Message) → IsWorld (among kept (m ∷ todo) p) → Delivers limit kept m todo p q
 
-pub taken_out : (kept : List Message) (m : Message) (p : Parts) (asked : Incoming) (callee : List ℕ) → m ≡ message_of asked callee → Meets kept m p → Taken p asked
+pub taken_out : (kept : List Message) (m : Message) (p : Parts) (asked : IncomingCall) (callee : List ℕ) → m ≡ message_of asked callee → Meets kept m p → Taken p asked
 taken_out kept m p asked callee is_call next = record {
   whole = state_of (among kept (m ∷ next.0) p);
   place = length kept;

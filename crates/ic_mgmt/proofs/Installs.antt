@@ -1,26 +1,22 @@
 -- What code does to a canister that code is installed on is what the row says.
 use Rattle.std.proofs.Common.{◌≡◌, ℕ, List, Option, Some, None, refl, sym, ap, ◌∙◌, subst}
 use Rattle.std.specs.Prelude.{Result, Ok, Err}
+use Rattle.std.specs.Option.{IsSome}
 use Rattle.ic_behaviour.specs.declared.install.InstallFault.{InstallFault}
 use Rattle.ic_behaviour.specs.State.{Code, Canister, State}
 use Rattle.ic_behaviour.specs.Counted.{CountedCanister, counted, dropped}
 use Rattle.ic_behaviour.specs.Closing.{empty_reply}
 use Rattle.ic_behaviour.specs.Deliver.{env_at}
 use Rattle.ic_behaviour.specs.Installing.{EntersAfter, Installation, installed}
-use Rattle.ic_state.specs.declared.canister.Canister.{Canister as StoredCanister}
-use Rattle.ic_state.specs.Seen.{seen}
-use Rattle.ic_mgmt_candid.specs.declared.denial.Unmet.{Unmet}
-use Rattle.ic_mgmt_candid.specs.declared.denial.Unmet.TheVariants.{Denied, NoMemory}
 use Rattle.ic_mgmt_candid.specs.declared.demand.InstallCode.{InstallCode}
 use Rattle.ic_mgmt_candid.specs.declared.denial.Denial.{Denial}
 use Rattle.ic_mgmt_candid.specs.Checks.{◌>>=◌}
 use Rattle.ic_mgmt_candid.specs.Modules.{code_of}
-use Rattle.ic_mgmt_laws.specs.Moves.{Incoming, with_canister, replied}
+use Rattle.ic_mgmt_laws.specs.Moves.{with_canister, replied}
+use Rattle.ic_behaviour.specs.declared.call.IncomingCall.{IncomingCall}
 use Rattle.ic_mgmt_laws.specs.Rows.{unless_unsuited, installation_on, unless_refused, installs}
-use Rattle.ic_mgmt.specs.Changes.{Stands, DoesAt, IsInstalled}
-use Rattle.ic_mgmt.proofs.Sends.{with_same}
 
-module _ (enters : EntersAfter) (limit : ℕ) (now s : State) (call : Incoming) (asked : InstallCode) (a : Canister) where
+module _ (enters : EntersAfter) (limit : ℕ) (now s : State) (call : IncomingCall) (asked : InstallCode) (a : Canister) where
   abbrev row : Result State Denial
   row = installs enters limit now s call asked a
 
@@ -52,9 +48,12 @@ module _ (enters : EntersAfter) (limit : ℕ) (now s : State) (call : Incoming) 
       pub is_installed : i.refusal ≡ None → row ≡ Ok (replied call empty_reply (with_canister asked.canister_id (dropped i.canister) s))
       is_installed is = reached ∙ ap (λ (r : Option InstallFault). unless_refused r >>= (λ v. Ok (replied call empty_reply (with_canister asked.canister_id (dropped i.canister) s)))) is
 
--- an installation that is refused leaves the canister as it stood
-pub by_installation : (call : Incoming) (id : List ℕ) (c d : StoredCanister) (row : State → State → Canister → Result State Denial) (e : Unmet) (i : Installation) → IsInstalled (Err e) c d i
-    → ((denial : Denial) → unless_refused i.refusal ≡ Err denial → (now s : State) → Stands now s id c → row now s (dropped (seen c)) ≡ Err denial) → DoesAt (Err e) call id c d row
-by_installation call id c d row (Denied denial) i is refuses now s stands =
-    (refuses denial is.0 now s stands, ap (λ (x : StoredCanister). with_canister id (dropped (seen x)) s) is.1 ∙ with_same s id (dropped (seen c)) stands.found)
-by_installation call id c d row NoMemory i is refuses now s stands = tt
+-- ---- what the code tells of a refusal
+
+pub refuses : (refusal : Option InstallFault) (denial : Denial) → Err denial ≡ unless_refused refusal → IsSome refusal
+refuses None denial is = absurd cc
+refuses (Some fault) denial is = refl
+
+pub none_refused : (refusal : Option InstallFault) → Ok tt ≡ unless_refused refusal → refusal ≡ None
+none_refused None is = refl
+none_refused (Some fault) is = absurd cc

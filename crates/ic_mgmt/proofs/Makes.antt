@@ -23,7 +23,8 @@ use Rattle.ic_mgmt_candid.specs.declared.denial.Denial.{Denial}
 use Rattle.ic_mgmt_candid.specs.declared.denial.Denial.TheVariants as D
 use Rattle.ic_mgmt_candid.specs.Checks.{◌>>=◌, unless}
 use Rattle.ic_mgmt_candid.specs.Replies.{canister_reply}
-use Rattle.ic_mgmt_laws.specs.Moves.{Incoming, with_balance, granted, gone, answered, replied, kept_by}
+use Rattle.ic_mgmt_laws.specs.Moves.{with_balance, granted, gone, answered, replied, kept_by}
+use Rattle.ic_behaviour.specs.declared.call.IncomingCall.{IncomingCall}
 use Rattle.ic_mgmt_laws.specs.Rows.{controllers_or, unless_full, unless_above, next_canister, creates, tops_up, unless_stopped, deletes}
 use Rattle.ic_behaviour.specs.Submitted.{added}
 use Rattle.ic_mgmt.specs.declared.ending.Ending.{Ending}
@@ -58,7 +59,7 @@ module _ (p : Parts) (m : BTreeMap (List ℕ) StoredCanister) (c : StoredCaniste
 
 -- ---- the rows
 
-module _ (call : Incoming) (s t : State) (named : Option (List (List ℕ))) (controllers : List (List ℕ)) (set : controllers_or (call.sender ∷ []) named ≡ Ok controllers) (room : unless_full s ≡ Ok tt) where
+module _ (call : IncomingCall) (s t : State) (named : Option (List (List ℕ))) (controllers : List (List ℕ)) (set : controllers_or (call.sender ∷ []) named ≡ Ok controllers) (room : unless_full s ≡ Ok tt) where
   abbrev id : List ℕ
   id = canister_id_of s.next_canister
 
@@ -122,7 +123,7 @@ balance_keeps c n is room = record {
   idle = is.idle;
 }
 
-module _ (call : Incoming) (p : Parts) (id : List ℕ) (c : StoredCanister) (m : BTreeMap (List ℕ) StoredCanister) where
+module _ (call : IncomingCall) (p : Parts) (id : List ℕ) (c : StoredCanister) (m : BTreeMap (List ℕ) StoredCanister) where
   abbrev a : Canister
   a = dropped (seen c)
 

@@ -11,7 +11,8 @@ use Rattle.ic_mgmt_candid.specs.declared.denial.Denial.{Denial}
 use Rattle.ic_mgmt_candid.specs.declared.denial.Unmet.{Unmet}
 use Rattle.ic_mgmt_candid.specs.declared.denial.Unmet.TheVariants.{Denied, NoMemory}
 use Rattle.ic_mgmt_candid.specs.Checks.{◌>>=◌, MeetsBy}
-use Rattle.ic_mgmt_laws.specs.Moves.{Incoming, with_canister}
+use Rattle.ic_mgmt_laws.specs.Moves.{with_canister}
+use Rattle.ic_behaviour.specs.declared.call.IncomingCall.{IncomingCall}
 use Rattle.ic_mgmt.specs.declared.ending.Ending.{Ending}
 use Rattle.ic_mgmt.specs.Taken.{AreCanisters}
 use Rattle.ic_mgmt.specs.Ending.{IfMemory, Does, Keeps}
@@ -43,16 +44,16 @@ keeps_same p all = record { canisters = all; counts = λ now h. h }
 
 -- ---- rows
 
-pub none_does : (e : Unmet) (call : Incoming) (before after : State) (row : Result State Denial) → e ≡ NoMemory → Does (Err e) call before after row
+pub none_does : (e : Unmet) (call : IncomingCall) (before after : State) (row : Result State Denial) → e ≡ NoMemory → Does (Err e) call before after row
 none_does e call before after row is = subst (λ (x : Unmet). Does (Err x) call before after row) (sym is) tt
 
 -- equal states and rows
-pub does_as : (r : Result Ending Unmet) (call : Incoming) (before after other : State) (row others : Result State Denial) → after ≡ other → row ≡ others → Does r call before other others → Does r call before after row
+pub does_as : (r : Result Ending Unmet) (call : IncomingCall) (before after other : State) (row others : Result State Denial) → after ≡ other → row ≡ others → Does r call before other others → Does r call before after row
 does_as r call before after other row others same rows does = subst (λ s. Does r call before s row) (sym same) (subst (Does r call before other) (sym rows) does)
 
 module _ {A B : Type 0} (seen : A → B) (comes : Result B Denial) (next : B → Result State Denial) where
   -- the first check of a row
-  pub refused : (e : Unmet) (call : Incoming) (before after : State) → MeetsBy seen (Err e) comes → after ≡ before → Does (Err e) call before after (comes >>= next)
+  pub refused : (e : Unmet) (call : IncomingCall) (before after : State) → MeetsBy seen (Err e) comes → after ≡ before → Does (Err e) call before after (comes >>= next)
   refused (Denied denial) call before after is same = (ap (λ r. r >>= next) is, same)
   refused NoMemory call before after is same = tt
 
@@ -64,13 +65,13 @@ pub denied : {A B : Type 0} (comes : Result A Denial) (next : A → Result B Den
 denied comes next denial is = ap (λ r. r >>= next) (sym is)
 
 -- a check that fails refuses the row
-pub by_denial : {A B : Type 0} (seen : A → B) (comes : Result B Denial) (e : Unmet) (call : Incoming) (s : State) (row : Result State Denial) → MeetsBy seen (Err e) comes
+pub by_denial : {A B : Type 0} (seen : A → B) (comes : Result B Denial) (e : Unmet) (call : IncomingCall) (s : State) (row : Result State Denial) → MeetsBy seen (Err e) comes
     → ((denial : Denial) → comes ≡ Err denial → row ≡ Err denial) → Does (Err e) call s s row
 by_denial seen comes (Denied denial) call s row is refuses = (refuses denial is, refl)
 by_denial seen comes NoMemory call s row is refuses = tt
 
 -- of one canister
-module _ (call : Incoming) (id : List ℕ) (c : StoredCanister) where
+module _ (call : IncomingCall) (id : List ℕ) (c : StoredCanister) where
   pub none_does_at : (e : Unmet) (d : StoredCanister) (row : State → State → Canister → Result State Denial) → e ≡ NoMemory → DoesAt (Err e) call id c d row
   none_does_at e d row is now s stands = none_does e call s (with_canister id (dropped (seen d)) s) (row now s (dropped (seen c))) is
 

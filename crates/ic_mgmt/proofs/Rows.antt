@@ -17,7 +17,8 @@ use Rattle.ic_state.specs.Seen.{seen, code_of}
 use Rattle.ic_mgmt_candid.specs.Replies.{memory_size, status_told, status_reply}
 use Rattle.ic_calls.specs.Texts.{uninstalled}
 use Rattle.ic_calls.specs.Changes.{awaiting as now_awaiting, rejected, deleted as now_deleted, emptied as now_emptied}
-use Rattle.ic_mgmt_laws.specs.Moves.{Incoming, with_canister, answered, replied, all_answered, awaiting, waiter_of, to_context, deleted, emptied, shut}
+use Rattle.ic_mgmt_laws.specs.Moves.{with_canister, answered, replied, all_answered, awaiting, waiter_of, to_context, deleted, emptied, shut}
+use Rattle.ic_behaviour.specs.declared.call.IncomingCall.{IncomingCall}
 use Rattle.ic_mgmt_laws.specs.Rows.{uninstalls, stops_in, stops}
 use Rattle.ic_mgmt_laws.proofs.Changed.{set_twice}
 use Rattle.ic_mgmt.specs.declared.ending.Ending.{Ending}
@@ -32,7 +33,7 @@ shut_is now s id b is =
     ap (λ k. all_answered id (closing None k) (with_canister id (dropped (closed k)) (with_canister id (dropped b) s))) is
     ∙ ap (λ es. all_answered id (closing None b) (record s { canisters = es })) (set_twice (at id) s.canisters (dropped b) (dropped (closed b)))
 
-module _ (call : Incoming) (id : List ℕ) (c d : StoredCanister) where
+module _ (call : IncomingCall) (id : List ℕ) (c d : StoredCanister) where
   abbrev a : Canister
   a = dropped (seen c)
 

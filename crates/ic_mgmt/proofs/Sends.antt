@@ -8,7 +8,8 @@ use Rattle.ic_behaviour.specs.declared.call.Answered.{Answered}
 use Rattle.ic_behaviour.specs.declared.request.Request.{Request}
 use Rattle.ic_behaviour.specs.State.{at, Canister, State}
 use Rattle.ic_behaviour.specs.Deliver.{filled, routed}
-use Rattle.ic_mgmt_laws.specs.Moves.{Incoming, with_canister, answered, all_answered}
+use Rattle.ic_mgmt_laws.specs.Moves.{with_canister, answered, all_answered}
+use Rattle.ic_behaviour.specs.declared.call.IncomingCall.{IncomingCall}
 use Rattle.ic_mgmt.specs.declared.ending.Ending.{Ending}
 use Rattle.ic_mgmt.specs.Ending.{ended_by}
 
@@ -27,7 +28,7 @@ both_answered sender front back s =
     (both_filled front back s.requests)
 
 -- the call is answered and no other
-pub only_answered : (call : Incoming) (response : Response) (refund : ℕ) (s : State)
+pub only_answered : (call : IncomingCall) (response : Response) (refund : ℕ) (s : State)
     → ended_by call (record { reply = Some (response, refund); sender = []; answers = [] }) s ≡ answered call response refund s
 only_answered call response refund s = ap (λ l. record (answered call response refund s) { messages = l }) (append-nil (answered call response refund s).messages)
 
@@ -39,5 +40,5 @@ abbrev pub only : Response → ℕ → Ending
 only response refund = record { reply = Some (response, refund); sender = []; answers = [] }
 
 -- an answer to the call and to no other
-pub answers_only : (call : Incoming) (e : Ending) (response : Response) (refund : ℕ) → e ≡ only response refund → (s : State) → answered call response refund s ≡ ended_by call e s
+pub answers_only : (call : IncomingCall) (e : Ending) (response : Response) (refund : ℕ) → e ≡ only response refund → (s : State) → answered call response refund s ≡ ended_by call e s
 answers_only call e response refund is s = sym (ap (λ x. ended_by call x s) is ∙ only_answered call response refund s)

@@ -15,7 +15,8 @@ use Rattle.ic_mgmt_candid.specs.declared.denial.Denial.{Denial}
 use Rattle.ic_mgmt_candid.specs.declared.denial.Denial.TheVariants as D
 use Rattle.ic_mgmt_candid.specs.declared.denial.Unmet.{Unmet}
 use Rattle.ic_mgmt_candid.specs.Checks.{◌>>=◌, or_else}
-use Rattle.ic_mgmt_laws.specs.Moves.{Incoming, with_canister}
+use Rattle.ic_mgmt_laws.specs.Moves.{with_canister}
+use Rattle.ic_behaviour.specs.declared.call.IncomingCall.{IncomingCall}
 use Rattle.ic_mgmt_laws.specs.Rows.{at_canister}
 use Rattle.ic_mgmt.specs.declared.ending.Ending.{Ending}
 use Rattle.ic_mgmt.specs.Taken.{AreCanisters, HaveCounts, HasRoom, HoldsCycles}
@@ -61,7 +62,7 @@ module _ (p : Parts) (id : List ℕ) where
         pub state_set : state_of q ≡ with_canister id (dropped (seen d)) (state_of p)
         state_set = ap (λ es. record (state_of p) { canisters = es }) (ap (map entry_of) set ∙ seen_set id p.canisters.entries d)
 
-        pub does_set : (r : Result Ending Unmet) (call : Incoming) (row : State → State → Canister → Result State Denial) → DoesAt r call id c d row → (now : State) → HaveCounts now p
+        pub does_set : (r : Result Ending Unmet) (call : IncomingCall) (row : State → State → Canister → Result State Denial) → DoesAt r call id c d row → (now : State) → HaveCounts now p
             → Does r call (state_of p) (state_of q) (at_canister (state_of p) id (row now (state_of p)))
         does_set r call row does now h =
             does_as r call (state_of p) (state_of q) (with_canister id (dropped (seen d)) (state_of p)) _ _ state_set (at_some (row now (state_of p)))

@@ -9,11 +9,8 @@ use Rattle.ic_state.specs.declared.world.Parts.{Parts}
 use Rattle.ic_state.specs.Seen.{state_of}
 use Rattle.ic_state.specs.IsCanister.{IsCanister, cycles_of}
 use Rattle.ic_state.specs.IsWorld.{HasCounts}
-use Rattle.ic_mgmt_laws.specs.Moves.{Incoming, message_of}
-use Rattle.ic_mgmt.specs.declared.incoming.Incoming.{Incoming as StoredIncoming}
-
-abbrev pub incoming_of : StoredIncoming → Incoming
-incoming_of call = record { origin = call.origin; sender = call.sender; method = call.method; arg = call.arg; cycles = call.cycles }
+use Rattle.ic_mgmt_laws.specs.Moves.{message_of}
+use Rattle.ic_behaviour.specs.declared.call.IncomingCall.{IncomingCall}
 
 abbrev pub AreCanisters : Parts → Type 0
 AreCanisters p = AllByRecursion (λ (e : List ℕ × Canister). IsCanister e.1) p.canisters.entries
@@ -23,7 +20,7 @@ abbrev pub HaveCounts : State → Parts → Type 0
 HaveCounts now p = AllByRecursion (HasCounts now) p.canisters.entries
 
 -- with messages that stand elsewhere, and the call among them, the parts are a sound state
-pub record Taken (p : Parts) (call : Incoming) : Type 0 where
+pub record Taken (p : Parts) (call : IncomingCall) : Type 0 where
   pub whole : State
   pub place : ℕ
   pub callee : List ℕ

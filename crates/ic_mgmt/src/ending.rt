@@ -1,14 +1,12 @@
 ghost use Rattle.std.specs.Prelude.{◌≡◌, [], Some, IfOk};
 ghost use Rattle.ic_behaviour.specs.Closing.{empty_reply};
 ghost use Rattle.ic_state.specs.Seen.{state_of};
-ghost use Rattle.ic_mgmt.specs.Taken.{incoming_of};
 ghost use Rattle.ic_mgmt.specs.Ending.{reply_by, ended_by};
 
-use crate::incoming::Incoming;
 use ic_base::NoMemory;
 use ic_calls::{answer, empty_reply, route};
 use ic_principal::Principal;
-use ic_state::{Answered, AnsweredList, Messages, Parts, Response};
+use ic_state::{Answered, AnsweredList, IncomingCall, Messages, Parts, Response};
 use std::alloc::Global;
 
 /// What is sent once a method has changed the canisters.
@@ -54,8 +52,12 @@ pub fn done(alloc: Global, refund: u128) -> Result<Ending, NoMemory>
 }
 
 // Answers the call, if it does not wait.
-fn reply(parts: Parts, call: &Incoming, reply: Option<(Response, u128)>) -> Result<Parts, NoMemory>
-    ensures state { IfOk result (λ p. state_of p ≡ reply_by (incoming_of call.now) reply (state_of parts)) }
+fn reply(
+    parts: Parts,
+    call: &IncomingCall,
+    reply: Option<(Response, u128)>,
+) -> Result<Parts, NoMemory>
+    ensures state { IfOk result (λ p. state_of p ≡ reply_by call.now reply (state_of parts)) }
     ensures canisters { IfOk result (λ p. p.canisters ≡ parts.canisters) }
 {
     match reply {
@@ -73,8 +75,13 @@ fn reply(parts: Parts, call: &Incoming, reply: Option<(Response, u128)>) -> Resu
 }
 
 /// Sends it.
-pub fn send(alloc: Global, parts: Parts, call: &Incoming, ending: Ending) -> Result<Parts, NoMemory>
-    ensures state { IfOk result (λ p. state_of p ≡ ended_by (incoming_of call.now) ending (state_of parts)) }
+pub fn send(
+    alloc: Global,
+    parts: Parts,
+    call: &IncomingCall,
+    ending: Ending,
+) -> Result<Parts, NoMemory>
+    ensures state { IfOk result (λ p. state_of p ≡ ended_by call.now ending (state_of parts)) }
     ensures canisters { IfOk result (λ p. p.canisters ≡ parts.canisters) }
 {
     let Ending {

@@ -11,10 +11,8 @@
 //! is proved. The laws of every run with such calls are those of `ic_mgmt_laws`, which this crate gives too.
 #![tactic(auto)]
 
-mod change;
 mod changing;
 mod ending;
-mod incoming;
 mod installing;
 mod making;
 mod managed;

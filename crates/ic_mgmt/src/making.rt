@@ -8,16 +8,15 @@ ghost use Rattle.ic_state.specs.Seen.{state_of};
 ghost use Rattle.ic_mgmt_candid.specs.declared.denial.Denial.TheVariants as denial;
 ghost use Rattle.ic_mgmt_candid.specs.Checks.{Meets, unless};
 ghost use Rattle.ic_mgmt_laws.specs.Rows.{controllers_or, unless_full, next_canister, creates, provisional_creates};
-ghost use Rattle.ic_mgmt.specs.Taken.{incoming_of, AreCanisters, HoldsCycles};
+ghost use Rattle.ic_mgmt.specs.Taken.{AreCanisters, HoldsCycles};
 ghost use Rattle.ic_mgmt.specs.Ending.{IfMemory, Does, Keeps};
 
 use crate::ending::{Ending, replied};
-use crate::incoming::Incoming;
 use crate::settings::listed;
 use ic_base::NoMemory;
 use ic_mgmt_candid::{Denial, Unmet, canister_reply, unless};
 use ic_principal::Principal;
-use ic_state::{Canister, CanisterPlace, Controllers, Parts, Response};
+use ic_state::{Canister, CanisterPlace, Controllers, IncomingCall, Parts, Response};
 use std::alloc::Global;
 
 const MOST_CANISTERS: usize = 64;
@@ -91,12 +90,12 @@ fn add(
 pub fn create(
     alloc: Global,
     parts: &mut Parts,
-    call: &Incoming,
+    call: &IncomingCall,
     named: Option<Controllers>,
 ) -> Result<Ending, Unmet>
     requires holds { HoldsCycles parts.old call.now.cycles }
-    ensures does { Does result (incoming_of call.now) (state_of parts.old) (state_of parts.new)
-        (creates (state_of parts.old) (incoming_of call.now) named) }
+    ensures does { Does result call.now (state_of parts.old) (state_of parts.new)
+        (creates (state_of parts.old) call.now named) }
     ensures keeps { IfMemory result (Keeps parts.old parts.new) }
 {
     let controllers = first_controllers(alloc, call.sender, named)?;
@@ -111,13 +110,13 @@ pub fn create(
 pub fn provisional_create(
     alloc: Global,
     parts: &mut Parts,
-    call: &Incoming,
+    call: &IncomingCall,
     amount: u128,
     named: Option<Controllers>,
 ) -> Result<Ending, Unmet>
     requires holds { HoldsCycles parts.old call.now.cycles }
-    ensures does { Does result (incoming_of call.now) (state_of parts.old) (state_of parts.new)
-        (provisional_creates (state_of parts.old) (incoming_of call.now) amount named) }
+    ensures does { Does result call.now (state_of parts.old) (state_of parts.new)
+        (provisional_creates (state_of parts.old) call.now amount named) }
     ensures keeps { IfMemory result (Keeps parts.old parts.new) }
 {
     let controllers = first_controllers(alloc, call.sender, named)?;

@@ -3,15 +3,14 @@ ghost use Rattle.std.specs.Map.{lookup, set_value};
 ghost use Rattle.ic_behaviour.specs.State.{at};
 ghost use Rattle.ic_state.specs.Seen.{state_of};
 ghost use Rattle.ic_mgmt_laws.specs.Rows.{tops_up, unless_stopped, deletes, at_canister};
-ghost use Rattle.ic_mgmt.specs.Taken.{incoming_of, HoldsCycles};
+ghost use Rattle.ic_mgmt.specs.Taken.{HoldsCycles};
 ghost use Rattle.ic_mgmt.specs.Ending.{IfMemory, Does, Keeps};
 
 use crate::ending::{Ending, done};
-use crate::incoming::Incoming;
 use crate::making::unless_above;
 use ic_mgmt_candid::{Denial, Unmet};
 use ic_principal::Principal;
-use ic_state::{CanisterPlace, Parts, Phase};
+use ic_state::{CanisterPlace, IncomingCall, Parts, Phase};
 use std::alloc::Global;
 use std::collections::BTreeMap;
 
@@ -30,13 +29,13 @@ fn grant(canisters: &mut BTreeMap<Principal, CanisterPlace>, id: &Principal, amo
 pub fn top_up(
     alloc: Global,
     parts: &mut Parts,
-    call: &Incoming,
+    call: &IncomingCall,
     id: Principal,
     amount: u128,
 ) -> Result<Ending, Unmet>
     requires holds { HoldsCycles parts.old call.now.cycles }
-    ensures does { Does result (incoming_of call.now) (state_of parts.old) (state_of parts.new)
-        (at_canister (state_of parts.old) id (tops_up (state_of parts.old) (incoming_of call.now) id amount)) }
+    ensures does { Does result call.now (state_of parts.old) (state_of parts.new)
+        (at_canister (state_of parts.old) id (tops_up (state_of parts.old) call.now id amount)) }
     ensures keeps { IfMemory result (Keeps parts.old parts.new) }
 {
     if !parts.canisters.contains_key(&id) {
@@ -62,12 +61,12 @@ fn unless_stopped(phase: &Phase) -> Result<(), Denial>
 pub fn delete(
     alloc: Global,
     parts: &mut Parts,
-    call: &Incoming,
+    call: &IncomingCall,
     id: Principal,
 ) -> Result<Ending, Unmet>
     requires holds { HoldsCycles parts.old call.now.cycles }
-    ensures does { Does result (incoming_of call.now) (state_of parts.old) (state_of parts.new)
-        (at_canister (state_of parts.old) id (deletes (state_of parts.old) (incoming_of call.now) id)) }
+    ensures does { Does result call.now (state_of parts.old) (state_of parts.new)
+        (at_canister (state_of parts.old) id (deletes (state_of parts.old) call.now id)) }
     ensures keeps { IfMemory result (Keeps parts.old parts.new) }
 {
     let Some(place) = parts.canisters.get(&id) else {

@@ -5,12 +5,11 @@ ghost use Rattle.ic_behaviour.specs.State.{at, callee_of};
 ghost use Rattle.ic_state.specs.IsWorld.{IsWorld};
 ghost use Rattle.ic_mgmt.specs.Sweeping.{among, Meets, Delivers};
 
-use crate::incoming::Incoming;
 use crate::managing::manage;
 use ic_base::NoMemory;
 use ic_calls::is_management;
 use ic_deliver::send_back;
-use ic_state::{Message, Parts};
+use ic_state::{IncomingCall, Message, Parts};
 use std::alloc::Global;
 
 /// Handles a message to no canister that has left the list: a call to the management canister is
@@ -32,7 +31,7 @@ pub fn handle(alloc: Global, parts: Parts, message: Message, limit: u64) -> Resu
             cycles,
         } => {
             if is_management(&callee) {
-                let call = Incoming {
+                let call = IncomingCall {
                     origin,
                     sender,
                     method,

@@ -1,16 +1,14 @@
 ghost use Rattle.std.specs.Prelude.{◌≡◌, ◌+◌, ◌-◌, ◌≤◌, ◌^◌, Ok};
 ghost use Rattle.ic_state.specs.IsCanister.{IsCanister, cycles_of};
 ghost use Rattle.ic_mgmt_laws.specs.Rows.{starts, stops};
-ghost use Rattle.ic_mgmt.specs.Taken.{incoming_of};
 ghost use Rattle.ic_mgmt.specs.Ending.{IfMemory};
 ghost use Rattle.ic_mgmt.specs.Changes.{waits, DoesAt, KeepsCounts};
 
 use crate::ending::{Ending, done};
-use crate::incoming::Incoming;
 use ic_calls::{await_stop, close, empty_reply, restart};
 use ic_mgmt_candid::Unmet;
 use ic_principal::Principal;
-use ic_state::{Canister, Phase, Waiter};
+use ic_state::{Canister, IncomingCall, Phase, Waiter};
 use std::alloc::Global;
 
 /// The canister runs (IC Interface Specification, "IC method start_canister").
@@ -18,11 +16,11 @@ pub fn start(
     alloc: Global,
     canister: &mut Canister,
     id: Principal,
-    call: &Incoming,
+    call: &IncomingCall,
 ) -> Result<Ending, Unmet>
     requires keeps { IsCanister canister.old }
-    ensures does { DoesAt result (incoming_of call.now) id canister.old canister.new
-        (λ now s c. Ok (starts s (incoming_of call.now) id c)) }
+    ensures does { DoesAt result call.now id canister.old canister.new
+        (λ now s c. Ok (starts s call.now id c)) }
     ensures counts { IfMemory result (KeepsCounts id canister.old canister.new) }
     ensures keeps { IfMemory result (IsCanister canister.new) }
 {
@@ -40,12 +38,12 @@ fn wait(
     alloc: Global,
     canister: &mut Canister,
     id: Principal,
-    call: &Incoming,
+    call: &IncomingCall,
 ) -> Result<Ending, Unmet>
     requires keeps { IsCanister canister.old }
     requires room { cycles_of canister.old + call.now.cycles ≤ 2 ^ 127 - 1 }
-    ensures does { DoesAt result (incoming_of call.now) id canister.old canister.new
-        (λ now s c. Ok (waits now s (incoming_of call.now) id c)) }
+    ensures does { DoesAt result call.now id canister.old canister.new
+        (λ now s c. Ok (waits now s call.now id c)) }
     ensures counts { IfMemory result (KeepsCounts id canister.old canister.new) }
     ensures keeps { IfMemory result (IsCanister canister.new) }
 {
@@ -68,12 +66,12 @@ pub fn stop(
     alloc: Global,
     canister: &mut Canister,
     id: Principal,
-    call: &Incoming,
+    call: &IncomingCall,
 ) -> Result<Ending, Unmet>
     requires keeps { IsCanister canister.old }
     requires room { cycles_of canister.old + call.now.cycles ≤ 2 ^ 127 - 1 }
-    ensures does { DoesAt result (incoming_of call.now) id canister.old canister.new
-        (λ now s c. Ok (stops now s (incoming_of call.now) id c)) }
+    ensures does { DoesAt result call.now id canister.old canister.new
+        (λ now s c. Ok (stops now s call.now id c)) }
     ensures counts { IfMemory result (KeepsCounts id canister.old canister.new) }
     ensures keeps { IfMemory result (IsCanister canister.new) }
 {

@@ -9,16 +9,14 @@ ghost use Rattle.ic_state.specs.IsCanister.{IsCanister, cycles_of};
 ghost use Rattle.ic_mgmt_candid.specs.Checks.{Meets, MeetsBy};
 ghost use Rattle.ic_mgmt_candid.specs.Replies.{memory_size};
 ghost use Rattle.ic_mgmt_laws.specs.Rows.{controllers_or, deposits, updates, tells};
-ghost use Rattle.ic_mgmt.specs.Taken.{incoming_of};
 ghost use Rattle.ic_mgmt.specs.Ending.{IfMemory};
 ghost use Rattle.ic_mgmt.specs.Changes.{DoesAt, KeepsCounts};
 
 use crate::ending::{Ending, done, replied};
-use crate::incoming::Incoming;
 use ic_base::NoMemory;
 use ic_mgmt_candid::{Denial, Unmet, status_reply, unless};
 use ic_principal::Principal;
-use ic_state::{Canister, Controllers, Response, StorePlace};
+use ic_state::{Canister, Controllers, IncomingCall, Response, StorePlace};
 use std::alloc::Global;
 use std::collections::BTreeSet;
 
@@ -88,12 +86,12 @@ pub fn update_settings(
     alloc: Global,
     canister: &mut Canister,
     id: Principal,
-    call: &Incoming,
+    call: &IncomingCall,
     named: Option<Controllers>,
 ) -> Result<Ending, Unmet>
     requires keeps { IsCanister canister.old }
-    ensures does { DoesAt result (incoming_of call.now) id canister.old canister.new
-        (λ now s. updates s (incoming_of call.now) id named) }
+    ensures does { DoesAt result call.now id canister.old canister.new
+        (λ now s. updates s call.now id named) }
     ensures counts { IfMemory result (KeepsCounts id canister.old canister.new) }
     ensures keeps { IfMemory result (IsCanister canister.new) }
 {
@@ -106,12 +104,12 @@ pub fn deposit(
     alloc: Global,
     canister: &mut Canister,
     id: Principal,
-    call: &Incoming,
+    call: &IncomingCall,
 ) -> Result<Ending, Unmet>
     requires keeps { IsCanister canister.old }
     requires room { cycles_of canister.old + call.now.cycles ≤ 2 ^ 127 - 1 }
-    ensures does { DoesAt result (incoming_of call.now) id canister.old canister.new
-        (λ now s c. Ok (deposits s (incoming_of call.now) id c)) }
+    ensures does { DoesAt result call.now id canister.old canister.new
+        (λ now s c. Ok (deposits s call.now id c)) }
     ensures counts { IfMemory result (KeepsCounts id canister.old canister.new) }
     ensures keeps { IfMemory result (IsCanister canister.new) }
 {
@@ -143,11 +141,11 @@ pub fn status(
     alloc: Global,
     canister: &mut Canister,
     id: Principal,
-    call: &Incoming,
+    call: &IncomingCall,
 ) -> Result<Ending, Unmet>
     requires keeps { IsCanister canister.old }
-    ensures does { DoesAt result (incoming_of call.now) id canister.old canister.new
-        (λ now s c. Ok (tells s (incoming_of call.now) c)) }
+    ensures does { DoesAt result call.now id canister.old canister.new
+        (λ now s c. Ok (tells s call.now c)) }
     ensures counts { IfMemory result (KeepsCounts id canister.old canister.new) }
     ensures keeps { IfMemory result (IsCanister canister.new) }
 {

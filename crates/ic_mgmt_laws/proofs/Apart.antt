@@ -26,7 +26,8 @@ use Rattle.ic_mgmt_candid.specs.Checks.{◌>>=◌, or_else, ordered}
 use Rattle.ic_mgmt_candid.specs.Denials.{denies}
 use Rattle.ic_mgmt_candid.specs.Modules.{code_of}
 use Rattle.ic_mgmt_candid.specs.Replies.{canister_reply, status_reply}
-use Rattle.ic_mgmt_laws.specs.Moves.{Incoming, with_canister, granted, gone, answered, replied, kept_by, all_answered, awaiting, running, to_waiter, to_context, emptied, shut}
+use Rattle.ic_mgmt_laws.specs.Moves.{with_canister, granted, gone, answered, replied, kept_by, all_answered, awaiting, running, to_waiter, to_context, emptied, shut}
+use Rattle.ic_behaviour.specs.declared.call.IncomingCall.{IncomingCall}
 use Rattle.ic_mgmt_laws.specs.Rows.{controllers_or, unless_full, unless_above, next_canister, creates, amount_or, provisional_creates, tops_up, deposits, updates, tells, unless_unsuited, installation_on, unless_refused, installs, uninstalls, starts, stops_in, stops, unless_stopped, deletes, at_canister, row}
 use Rattle.ic_calls.specs.Texts.{uninstalled, restarted}
 use Rattle.ic_mgmt_laws.specs.Manage.{controllers_in, ended, handled}
@@ -37,7 +38,7 @@ bound (Err denial) f g same = refl
 
 -- ---- the counts
 
-module _ (enters : EntersAfter) (limit : ℕ) (now other s : State) (call : Incoming) (time : other.time ≡ now.time) (counts : (key : List ℕ) (id : CallId) → outstanding other key id ≡ outstanding now key id) where
+module _ (enters : EntersAfter) (limit : ℕ) (now other s : State) (call : IncomingCall) (time : other.time ≡ now.time) (counts : (key : List ℕ) (id : CallId) → outstanding other key id ≡ outstanding now key id) where
   shut_counts : (id : List ℕ) (c : Canister) (t : State) → shut other id c t ≡ shut now id c t
   shut_counts id c t = ap (λ k. all_answered id (closing None k) (with_canister id (dropped (closed k)) t)) (counted_same now other id (counts id) c)
 
@@ -75,7 +76,7 @@ module _ (enters : EntersAfter) (limit : ℕ) (now other s : State) (call : Inco
 
 -- ---- messages that stand before
 
-module _ (enters : EntersAfter) (limit : ℕ) (now s : State) (call : Incoming) (front : List Message) where
+module _ (enters : EntersAfter) (limit : ℕ) (now s : State) (call : IncomingCall) (front : List Message) where
   abbrev behind : State → State
   behind t = record t { messages = front ++ t.messages }
 

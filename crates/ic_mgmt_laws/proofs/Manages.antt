@@ -12,7 +12,8 @@ use Rattle.ic_mgmt_candid.specs.declared.denial.Denial.{Denial}
 use Rattle.ic_mgmt_candid.specs.Checks.{ordered}
 use Rattle.ic_mgmt_candid.specs.Denials.{denies}
 use Rattle.ic_mgmt_laws.specs.KeepsCalls.{KeepsCalls}
-use Rattle.ic_mgmt_laws.specs.Moves.{Incoming, with_call}
+use Rattle.ic_mgmt_laws.specs.Moves.{with_call}
+use Rattle.ic_behaviour.specs.declared.call.IncomingCall.{IncomingCall}
 use Rattle.ic_mgmt_laws.specs.Rows.{row}
 use Rattle.ic_mgmt_laws.specs.Manage.{controllers_in, ended, manage}
 use Rattle.ic_mgmt_laws.proofs.Arrives.{advances}
@@ -20,7 +21,7 @@ use Rattle.ic_mgmt_laws.proofs.Rows.{Keeps, keeps_bound, row_keeps}
 use Rattle.ic_mgmt_laws.proofs.Steps.{call, replied_keeps}
 
 module _ (enters : EntersAfter) (limit : ℕ) (s : State) (place : ℕ) (o : Origin) (from callee method arg : List ℕ) (n : ℕ) (is_m : slice_get s.messages place ≡ Some (Call o from callee method arg n)) (sound : Sound s) where
-  abbrev asking : Incoming
+  abbrev asking : IncomingCall
   asking = call s place o from callee method arg n is_m (tallied s sound)
 
   ended_keeps : (r : Result State Denial) → Keeps s r → KeepsCalls s (ended (without s place) asking r)

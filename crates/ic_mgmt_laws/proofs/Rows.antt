@@ -36,7 +36,8 @@ use Rattle.ic_mgmt_candid.specs.Checks.{◌>>=◌, or_else, unless}
 use Rattle.ic_mgmt_candid.specs.Modules.{code_of}
 use Rattle.ic_mgmt_candid.specs.Replies.{canister_reply, status_reply}
 use Rattle.ic_mgmt_laws.specs.KeepsCalls.{KeepsCalls}
-use Rattle.ic_mgmt_laws.specs.Moves.{Incoming, with_call, with_canister, with_balance, granted, gone, replied, kept_by, awaiting, waiter_of, shut, emptied, running}
+use Rattle.ic_mgmt_laws.specs.Moves.{with_call, with_canister, with_balance, granted, gone, replied, kept_by, awaiting, waiter_of, shut, emptied, running}
+use Rattle.ic_behaviour.specs.declared.call.IncomingCall.{IncomingCall}
 use Rattle.ic_calls.specs.Texts.{uninstalled, restarted}
 use Rattle.ic_mgmt_laws.specs.Rows.{controllers_or, unless_full, unless_above, next_canister, creates, amount_or, provisional_creates, tops_up, deposits, updates, tells, unless_unsuited, installation_on, unless_refused, installs, uninstalls, starts, stops_in, stops, unless_stopped, deletes, at_canister, row}
 use Rattle.ic_mgmt_laws.proofs.Changed.{Restands, as_before, found_entry, set_found, set_twice, set_items, set_balances, set_restands}
@@ -83,7 +84,7 @@ stopped_is Stopped u is = refl
 -- ---- the methods
 
 module _ (enters : EntersAfter) (limit : ℕ) (s : State) (place : ℕ) (o : Origin) (from callee method arg : List ℕ) (n : ℕ) (is_m : slice_get s.messages place ≡ Some (Call o from callee method arg n)) (sound : Tallied s) where
-  abbrev asking : Incoming
+  abbrev asking : IncomingCall
   asking = record { origin = o; sender = from; method = method; arg = arg; cycles = n }
 
   -- the call is answered after a move that left the messages

@@ -18,7 +18,8 @@ use Rattle.ic_behaviour.specs.Tallied.{Tallied}
 use Rattle.ic_behaviour.proofs.Weights.{total-append}
 use Rattle.ic_behaviour.proofs.Ties.{tallied}
 use Rattle.ic_mgmt_laws.specs.KeepsCalls.{KeepsCalls}
-use Rattle.ic_mgmt_laws.specs.Moves.{Incoming, with_call, with_canister, with_balance, granted, replied, kept_by, awaiting, waiter_of, shut}
+use Rattle.ic_mgmt_laws.specs.Moves.{with_call, with_canister, with_balance, granted, replied, kept_by, awaiting, waiter_of, shut}
+use Rattle.ic_behaviour.specs.declared.call.IncomingCall.{IncomingCall}
 use Rattle.ic_mgmt_laws.proofs.Changed.{as_before, found_entry, set_found, set_twice, set_items, set_balances, set_restands}
 use Rattle.ic_mgmt_laws.proofs.Arrives.{along, with, steady}
 use Rattle.ic_mgmt_laws.proofs.Exchanges.{waits}
@@ -76,7 +77,7 @@ module _ (s : State) (sound : Tallied s) (id : List ℕ) (c : Canister) (found :
 -- ---- the call is answered
 
 module _ (s : State) (place : ℕ) (o : Origin) (from callee method arg : List ℕ) (n : ℕ) (is_m : slice_get s.messages place ≡ Some (Call o from callee method arg n)) (sound : Tallied s) where
-  abbrev pub call : Incoming
+  abbrev pub call : IncomingCall
   call = record { origin = o; sender = from; method = method; arg = arg; cycles = n }
 
   -- the counts are those of the state before

@@ -9,24 +9,25 @@ use Rattle.ic_behaviour.specs.Installing.{EntersAfter}
 use Rattle.ic_mgmt_candid.specs.declared.denial.Denial.{Denial}
 use Rattle.ic_mgmt_candid.specs.Checks.{◌>>=◌, ordered}
 use Rattle.ic_mgmt_candid.specs.Denials.{denies}
-use Rattle.ic_mgmt_laws.specs.Moves.{Incoming, with_call, replied}
+use Rattle.ic_mgmt_laws.specs.Moves.{with_call, replied}
+use Rattle.ic_behaviour.specs.declared.call.IncomingCall.{IncomingCall}
 use Rattle.ic_mgmt_laws.specs.Rows.{row}
 
 abbrev pub controllers_in : State → (id : List ℕ) → Option (List (List ℕ))
 controllers_in s id = option_map (λ (c : Canister). c.controllers) (lookup (at id) s.canisters)
 
 -- a refused call changes nothing, and all its cycles go back
-abbrev pub ended : State → Incoming → Result State Denial → State
+abbrev pub ended : State → IncomingCall → Result State Denial → State
 ended s call (Ok after) = after
 ended s call (Err denial) = replied call (denies denial) s
 
 -- the refusals that every method has come first, and then the method's own
-abbrev pub handled : EntersAfter → (limit : ℕ) → (now : State) → State → Incoming → State
+abbrev pub handled : EntersAfter → (limit : ℕ) → (now : State) → State → IncomingCall → State
 handled enters limit now s call = ended s call (do
   asked ← ordered (controllers_in s) call.origin call.sender call.method call.arg
   row enters limit now s call asked)
 
-abbrev pub at_call : EntersAfter → (limit : ℕ) → State → Incoming → State
+abbrev pub at_call : EntersAfter → (limit : ℕ) → State → IncomingCall → State
 at_call enters limit s call = handled enters limit (with_call call s) s call
 
 -- code that is installed runs with what is spent on one meter; the state is without the call, and no answer comes here

@@ -2,11 +2,11 @@
 use Rattle.std.specs.Prelude.{ℕ, ◌+◌, true, false, List, [], ◌∷◌, ◌++◌, None, map, cond}
 use Rattle.std.specs.List.{flat_map, fold}
 use Rattle.std.specs.Map.{set_value, remove_entry}
-use Rattle.ic_behaviour.specs.declared.call.Origin.{Origin}
 use Rattle.ic_behaviour.specs.declared.call.Response.{Response}
 use Rattle.ic_behaviour.specs.declared.call.Message.{Message}
 use Rattle.ic_behaviour.specs.declared.call.Message.TheVariants.{Call}
 use Rattle.ic_behaviour.specs.declared.call.Answered.{Answered}
+use Rattle.ic_behaviour.specs.declared.call.IncomingCall.{IncomingCall}
 use Rattle.ic_behaviour.specs.declared.phase.Waiter.{Waiter}
 use Rattle.ic_behaviour.specs.declared.phase.Phase.TheVariants.{Running, Stopping}
 use Rattle.ic_behaviour.specs.State.{at, CallContext, Canister, waiting, State}
@@ -15,20 +15,12 @@ use Rattle.ic_behaviour.specs.Closing.{closed, closing}
 use Rattle.ic_behaviour.specs.Deliver.{filled, routed, answered_by}
 use Rattle.ic_state.specs.IsCanister.{no_lists}
 
--- a call to the management canister
-pub record Incoming : Type 0 where
-  pub origin : Origin
-  pub sender : List ℕ
-  pub method : List ℕ
-  pub arg : List ℕ
-  pub cycles : ℕ
-
 -- as a message, to the management canister by whatever principal stands for it
-abbrev pub message_of : Incoming → (callee : List ℕ) → Message
+abbrev pub message_of : IncomingCall → (callee : List ℕ) → Message
 message_of call callee = Call call.origin call.sender callee call.method call.arg call.cycles
 
 -- the state that still has the call; the numbers that canisters store are those of this state
-abbrev pub with_call : Incoming → State → State
+abbrev pub with_call : IncomingCall → State → State
 with_call call s = record s { messages = message_of call [] ∷ s.messages }
 
 -- ---- canisters
@@ -51,15 +43,15 @@ gone id c s = record s { canisters = remove_entry (at id) s.canisters; burned = 
 -- ---- answers
 
 -- the call is answered by the management canister, which has no bytes, and so many of its cycles go back
-abbrev pub answered : Incoming → Response → (refund : ℕ) → State → State
+abbrev pub answered : IncomingCall → Response → (refund : ℕ) → State → State
 answered call response refund s = answered_by [] (record { origin = call.origin; response = response; refund = refund }) s
 
 -- all its cycles go back
-abbrev pub replied : Incoming → Response → State → State
+abbrev pub replied : IncomingCall → Response → State → State
 replied call response s = answered call response call.cycles s
 
 -- its cycles go to the balance of a canister
-abbrev pub kept_by : (id : List ℕ) → Canister → Incoming → Response → State → State
+abbrev pub kept_by : (id : List ℕ) → Canister → IncomingCall → Response → State → State
 kept_by id c call response s = answered call response 0 (with_canister id (with_balance (c.balance + call.cycles) c) s)
 
 -- a canister answers, in this order
@@ -68,11 +60,11 @@ all_answered sender answers s = record s { messages = s.messages ++ flat_map (ro
 
 -- ---- calls that wait for a canister to stop
 
-abbrev pub waiter_of : Incoming → Waiter
+abbrev pub waiter_of : IncomingCall → Waiter
 waiter_of call = record { origin = call.origin; cycles = call.cycles }
 
 -- the call waits after those that wait already
-abbrev pub awaiting : Incoming → Canister → Canister
+abbrev pub awaiting : IncomingCall → Canister → Canister
 awaiting call c = record c { phase = Stopping (waiting c.phase ++ waiter_of call ∷ []) }
 
 abbrev pub running : Canister → Canister

@@ -27,7 +27,8 @@ use Rattle.ic_mgmt_candid.specs.declared.denial.Denial.TheVariants as D
 use Rattle.ic_mgmt_candid.specs.Checks.{◌>>=◌, or_else, unless}
 use Rattle.ic_mgmt_candid.specs.Modules.{code_of}
 use Rattle.ic_mgmt_candid.specs.Replies.{canister_reply, status_reply}
-use Rattle.ic_mgmt_laws.specs.Moves.{Incoming, with_canister, granted, gone, replied, kept_by, all_answered, awaiting, running, to_waiter, to_context, emptied, shut}
+use Rattle.ic_mgmt_laws.specs.Moves.{with_canister, granted, gone, replied, kept_by, all_answered, awaiting, running, to_waiter, to_context, emptied, shut}
+use Rattle.ic_behaviour.specs.declared.call.IncomingCall.{IncomingCall}
 use Rattle.ic_calls.specs.Texts.{uninstalled, restarted}
 
 -- ---- canisters are made
@@ -52,7 +53,7 @@ abbrev pub next_canister : State → (controllers : List (List ℕ)) → (balanc
 next_canister s controllers balance = dropped (created (canister_id_of s.next_canister) controllers balance)
 
 -- create_canister: the call's cycles become the balance
-abbrev pub creates : State → Incoming → Option (List (List ℕ)) → Result State Denial
+abbrev pub creates : State → IncomingCall → Option (List (List ℕ)) → Result State Denial
 creates s call named = do
   controllers ← controllers_or (call.sender ∷ []) named
   _ ← unless_full s
@@ -63,7 +64,7 @@ amount_or None = 100000000000000
 amount_or (Some amount) = amount
 
 -- provisional_create_canister_with_cycles: the balance is created
-abbrev pub provisional_creates : State → Incoming → (amount : ℕ) → Option (List (List ℕ)) → Result State Denial
+abbrev pub provisional_creates : State → IncomingCall → (amount : ℕ) → Option (List (List ℕ)) → Result State Denial
 provisional_creates s call amount named = do
   controllers ← controllers_or (call.sender ∷ []) named
   _ ← unless_full s
@@ -73,23 +74,23 @@ provisional_creates s call amount named = do
 -- ---- cycles and settings
 
 -- provisional_top_up_canister
-abbrev pub tops_up : State → Incoming → (id : List ℕ) → (amount : ℕ) → Canister → Result State Denial
+abbrev pub tops_up : State → IncomingCall → (id : List ℕ) → (amount : ℕ) → Canister → Result State Denial
 tops_up s call id amount c = do
   _ ← unless_above s amount
   Ok (replied call empty_reply (granted id c amount s))
 
 -- deposit_cycles
-abbrev pub deposits : State → Incoming → (id : List ℕ) → Canister → State
+abbrev pub deposits : State → IncomingCall → (id : List ℕ) → Canister → State
 deposits s call id c = kept_by id c call empty_reply s
 
 -- update_settings
-abbrev pub updates : State → Incoming → (id : List ℕ) → Option (List (List ℕ)) → Canister → Result State Denial
+abbrev pub updates : State → IncomingCall → (id : List ℕ) → Option (List (List ℕ)) → Canister → Result State Denial
 updates s call id named c = do
   controllers ← controllers_or c.controllers named
   Ok (replied call empty_reply (with_canister id (record c { controllers = controllers }) s))
 
 -- canister_status
-abbrev pub tells : State → Incoming → Canister → State
+abbrev pub tells : State → IncomingCall → Canister → State
 tells s call c = replied call (Reply (status_reply c)) s
 
 -- ---- code
@@ -100,7 +101,7 @@ unless_unsuited mode.Install (Some code) = Err D.HasModule
 unless_unsuited (mode.Upgrade skips) None = Err D.NoModule
 unless_unsuited asked code = Ok tt
 
-abbrev pub installation_on : EntersAfter → (limit : ℕ) → (now : State) → Incoming → InstallCode → Canister → Code → Installation
+abbrev pub installation_on : EntersAfter → (limit : ℕ) → (now : State) → IncomingCall → InstallCode → Canister → Code → Installation
 installation_on enters limit now call asked c code =
     installed enters (env_at now.time limit 0) (counted now asked.canister_id c) asked.mode code asked.arg call.sender
 
@@ -109,7 +110,7 @@ unless_refused None = Ok tt
 unless_refused (Some fault) = Err (D.NotInstalled fault)
 
 -- install_code
-abbrev pub installs : EntersAfter → (limit : ℕ) → (now : State) → State → Incoming → InstallCode → Canister → Result State Denial
+abbrev pub installs : EntersAfter → (limit : ℕ) → (now : State) → State → IncomingCall → InstallCode → Canister → Result State Denial
 installs enters limit now s call asked c = do
   code ← code_of asked.wasm_module
   _ ← unless_unsuited asked.mode c.code
@@ -118,7 +119,7 @@ installs enters limit now s call asked c = do
     Ok (replied call empty_reply (with_canister asked.canister_id (dropped after.canister) s))
 
 -- uninstall_code: contexts that must respond are rejected, and no callback runs in any context
-abbrev pub uninstalls : (now : State) → State → Incoming → (id : List ℕ) → Canister → State
+abbrev pub uninstalls : (now : State) → State → IncomingCall → (id : List ℕ) → Canister → State
 uninstalls now s call id c =
     shut now id (emptied c)
     (with_canister id (emptied c)
@@ -128,19 +129,19 @@ uninstalls now s call id c =
 -- ---- the phase
 
 -- start_canister: who waits for the canister to stop is rejected
-abbrev pub starts : State → Incoming → (id : List ℕ) → Canister → State
+abbrev pub starts : State → IncomingCall → (id : List ℕ) → Canister → State
 starts s call id c =
     with_canister id (running c)
     (all_answered id (map (to_waiter restarted) (waiting c.phase))
     (replied call empty_reply s))
 
 -- the call waits, unless the canister is stopped
-abbrev pub stops_in : Phase → (now : State) → State → Incoming → (id : List ℕ) → Canister → State
+abbrev pub stops_in : Phase → (now : State) → State → IncomingCall → (id : List ℕ) → Canister → State
 stops_in Stopped now s call id c = replied call empty_reply s
 stops_in phase now s call id c = shut now id (awaiting call c) (with_canister id (awaiting call c) s)
 
 -- stop_canister
-abbrev pub stops : (now : State) → State → Incoming → (id : List ℕ) → Canister → State
+abbrev pub stops : (now : State) → State → IncomingCall → (id : List ℕ) → Canister → State
 stops now s call id c = stops_in c.phase now s call id c
 
 abbrev pub unless_stopped : Phase → Result (Unit {0}) Denial
@@ -148,7 +149,7 @@ unless_stopped Stopped = Ok tt
 unless_stopped phase = Err D.NotStopped
 
 -- delete_canister
-abbrev pub deletes : State → Incoming → (id : List ℕ) → Canister → Result State Denial
+abbrev pub deletes : State → IncomingCall → (id : List ℕ) → Canister → Result State Denial
 deletes s call id c = do
   _ ← unless_stopped c.phase
   Ok (replied call empty_reply (gone id c s))
@@ -160,7 +161,7 @@ abbrev pub at_canister : State → (id : List ℕ) → (Canister → Result Stat
 at_canister s id next = or_else (lookup (at id) s.canisters) (D.NoCanister id) >>= next
 
 -- what a method does, or its own refusal
-abbrev pub row : EntersAfter → (limit : ℕ) → (now : State) → State → Incoming → Demand → Result State Denial
+abbrev pub row : EntersAfter → (limit : ℕ) → (now : State) → State → IncomingCall → Demand → Result State Denial
 row enters limit now s call (demand.CreateCanister named) = creates s call named
 row enters limit now s call (demand.ProvisionalCreateCanisterWithCycles amount named) = provisional_creates s call (amount_or amount) named
 row enters limit now s call (demand.ProvisionalTopUpCanister id amount) = at_canister s id (tops_up s call id amount)

@@ -15,25 +15,26 @@ ghost use Rattle.ic_mgmt_laws.specs.KeepsCalls.{KeepsCalls};
 ghost use Rattle.ic_behaviour.specs.Installing.{EntersAfter};
 ghost use Rattle.ic_run_laws.specs.Advances.{OutsideKeeps};
 ghost use Rattle.ic_mgmt_laws.specs.Manage.{handled, manage};
-ghost use Rattle.ic_mgmt_laws.specs.Moves.{Incoming, message_of, with_call, with_canister, granted, gone, replied, kept_by, all_answered, awaiting, running, to_waiter, to_context, emptied, shut};
+ghost use Rattle.ic_mgmt_laws.specs.Moves.{message_of, with_call, with_canister, granted, gone, replied, kept_by, all_answered, awaiting, running, to_waiter, to_context, emptied, shut};
+ghost use Rattle.ic_behaviour.specs.declared.call.IncomingCall.{IncomingCall};
 
 /// The moves of a call to the management canister: it is answered, or waits. Each keeps a state sound,
 /// and every call in its place.
 pub fn calls_keep_calls()
-    ensures replied { (s : State) (place : ℕ) (call : Incoming) (callee : List ℕ) (response : AResponse)
+    ensures replied { (s : State) (place : ℕ) (call : IncomingCall) (callee : List ℕ) (response : AResponse)
         → Sound s → slice_get s.messages place ≡ Some (message_of call callee)
         → KeepsCalls s (replied call response (without s place)) }
     // its cycles go to a canister
-    ensures kept { (s : State) (place : ℕ) (call : Incoming) (callee id : List ℕ) (c : Canister) (response : AResponse)
+    ensures kept { (s : State) (place : ℕ) (call : IncomingCall) (callee id : List ℕ) (c : Canister) (response : AResponse)
         → Sound s → slice_get s.messages place ≡ Some (message_of call callee) → lookup (at id) s.canisters ≡ Some c
         → KeepsCalls s (kept_by id c call response (without s place)) }
     // it waits for a canister with contexts to stop,
-    ensures waits { (s : State) (place : ℕ) (call : Incoming) (callee id : List ℕ) (c : Canister)
+    ensures waits { (s : State) (place : ℕ) (call : IncomingCall) (callee id : List ℕ) (c : Canister)
         → Sound s → slice_get s.messages place ≡ Some (message_of call callee) → lookup (at id) s.canisters ≡ Some c
         → 0 < length c.contexts
         → KeepsCalls s (with_canister id (awaiting call c) (without s place)) }
     // and one without stops at once
-    ensures stops { (s : State) (place : ℕ) (call : Incoming) (callee id : List ℕ) (c : Canister)
+    ensures stops { (s : State) (place : ℕ) (call : IncomingCall) (callee id : List ℕ) (c : Canister)
         → Sound s → slice_get s.messages place ≡ Some (message_of call callee) → lookup (at id) s.canisters ≡ Some c
         → c.contexts ≡ [] → c.phase ≡ Running
         → KeepsCalls s (shut (with_call call (without s place)) id (awaiting call c) (with_canister id (awaiting call c) (without s place))) }
@@ -78,7 +79,7 @@ pub fn chains_keep_calls()
 /// is lost or answered twice, cycles are neither made nor lost beside those that it creates and burns,
 /// and no canister has more calls without answer or fewer.
 pub fn management_keeps()
-    ensures calls { (enters : EntersAfter) (limit : ℕ) (s : State) (place : ℕ) (call : Incoming) (callee : List ℕ)
+    ensures calls { (enters : EntersAfter) (limit : ℕ) (s : State) (place : ℕ) (call : IncomingCall) (callee : List ℕ)
         → Sound s → slice_get s.messages place ≡ Some (message_of call callee)
         → KeepsCalls s (manage enters limit (without s place) (message_of call callee)) }
     // so it may stand in every run
@@ -88,10 +89,10 @@ pub fn management_keeps()
 /// The management canister looks at no message. Of the others it takes the counts alone, so that those
 /// that a canister stores serve; and what it sends comes last.
 pub fn management_is_apart()
-    ensures counts { (enters : EntersAfter) (limit : ℕ) (now other s : State) (call : Incoming)
+    ensures counts { (enters : EntersAfter) (limit : ℕ) (now other s : State) (call : IncomingCall)
         → other.time ≡ now.time → ((key : List ℕ) (id : AnId) → outstanding other key id ≡ outstanding now key id)
         → handled enters limit other s call ≡ handled enters limit now s call }
-    ensures last { (enters : EntersAfter) (limit : ℕ) (now s : State) (call : Incoming) (front : List AMessage)
+    ensures last { (enters : EntersAfter) (limit : ℕ) (now s : State) (call : IncomingCall) (front : List AMessage)
         → handled enters limit now (record s { messages = front ++ s.messages }) call
         ≡ record (handled enters limit now s call) { messages = front ++ (handled enters limit now s call).messages } }
 {}

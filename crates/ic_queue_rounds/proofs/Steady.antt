@@ -27,7 +27,8 @@ use Rattle.ic_mgmt_candid.specs.Checks.{◌>>=◌, or_else, unless, is_canisters
 use Rattle.ic_mgmt_candid.specs.Methods.{method_of, is_only_for_canisters}
 use Rattle.ic_mgmt_candid.specs.Demands.{demand_of}
 use Rattle.ic_mgmt_candid.specs.Modules.{code_of}
-use Rattle.ic_mgmt_laws.specs.Moves.{Incoming, with_call, with_canister, with_balance, granted, replied, awaiting, running, emptied}
+use Rattle.ic_mgmt_laws.specs.Moves.{with_call, with_canister, with_balance, granted, replied, awaiting, running, emptied}
+use Rattle.ic_behaviour.specs.declared.call.IncomingCall.{IncomingCall}
 use Rattle.ic_mgmt_laws.specs.Rows.{controllers_or, unless_above, tops_up, deposits, updates, tells, unless_unsuited, installation_on, unless_refused, installs, uninstalls, starts, stops_in, at_canister, row}
 use Rattle.ic_mgmt_laws.specs.Manage.{controllers_in, ended, manage}
 use Rattle.ic_mgmt_laws.specs.Managed.{managed_rules}
@@ -79,7 +80,7 @@ ids_demanded : (s : State) (r : Result Demand Denial) (f : Demand → Result Sta
 ids_demanded s (Ok d) f is all = all d is
 ids_demanded s (Err denial) f is all = tt
 
-module _ (enters : EntersAfter) (limit : ℕ) (now s : State) (call : Incoming) where
+module _ (enters : EntersAfter) (limit : ℕ) (now s : State) (call : IncomingCall) where
   module _ (id : List ℕ) (c : Canister) where
     set_ids : (b : Canister) → keys_of (set_value (at id) s.canisters b) ≡ keys_of s.canisters
     set_ids b = keys-set_value (at id) s.canisters b
@@ -147,7 +148,7 @@ module _ (enters : EntersAfter) (limit : ℕ) (now s : State) (call : Incoming) 
   row_ids (demand.DeleteCanister id) is = absurd (false≢true is)
   row_ids (demand.CanisterStatus id) is = at_ids id _ (λ c. tells_ids id c)
 
-ended_ids : (s : State) (call : Incoming) (r : Result State Denial) → SameIds s r → keys_of (ended s call r).canisters ≡ keys_of s.canisters
+ended_ids : (s : State) (call : IncomingCall) (r : Result State Denial) → SameIds s r → keys_of (ended s call r).canisters ≡ keys_of s.canisters
 ended_ids s call (Ok t) same = same
 ended_ids s call (Err denial) same = refl
 
@@ -155,7 +156,7 @@ manage_ids : (enters : EntersAfter) (limit : ℕ) (s : State) (from : Origin) (s
     → keys_of (manage enters limit s (Call from sender callee method arg cycles)).canisters ≡ keys_of s.canisters
 unfolding manage
 manage_ids enters limit s from sender callee method arg cycles none =
-    let call : Incoming = record { origin = from; sender = sender; method = method; arg = arg; cycles = cycles } in
+    let call : IncomingCall = record { origin = from; sender = sender; method = method; arg = arg; cycles = cycles } in
     ended_ids s call (ordered (controllers_in s) from sender method arg >>= row enters limit (with_call call s) s call)
     (ids_demanded s (ordered (controllers_in s) from sender method arg) (row enters limit (with_call call s) s call) (ordered_steady (controllers_in s) from sender method arg none)
     (λ d is. row_ids enters limit (with_call call s) s call d is))

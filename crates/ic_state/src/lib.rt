@@ -13,7 +13,7 @@ mod world;
 pub use canister::{Canister, CanisterPlace, Code, CodePlace, StorePlace};
 pub use ic_behaviour::{
     Admitted, Answered, BoundedEnv, CallId, Callback, Charge, Context, Controllers, Effects,
-    EntryKind, Env, InstructionLimit, MOST_INSTRUCTIONS, Message, Origin, OutCall, OutCalls, Phase,
+    EntryKind, Env, IncomingCall, MOST_INSTRUCTIONS, Message, Origin, OutCall, OutCalls, Phase,
     Refusal, Request, Response, View, Waiter, Waiters,
 };
 pub use lists::{AnsweredList, Contexts, MessagePlace, Messages, Requests};

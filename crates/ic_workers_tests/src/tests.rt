@@ -5,7 +5,7 @@ use crate::gates::Holding;
 use crate::worlds::{busy, slots};
 use ic_outside::Gate;
 use ic_queue_rounds::round;
-use ic_state::InstructionLimit;
+use ic_state::Charge;
 use std::alloc::Global;
 use std::test::*;
 use std::thread::Threads;
@@ -87,8 +87,11 @@ fn handled_in_chunks<R: Threads + Sync, G: Gate + Sync>(
     requires { canisters ≤ 64 }
 {
     let slots = slots(alloc, canisters)?;
-    let env = InstructionLimit::of(5_000_000).at(0, 0);
-    match turns_of(alloc, rt, slots, 2, env, gate) {
+    let charge = Charge {
+        limit: 5_000_000,
+        price: 0,
+    };
+    match turns_of(alloc, rt, slots, 2, charge.at(0), gate) {
         Ok(turns) => Some(turns.len()),
         Err(_) => None,
     }

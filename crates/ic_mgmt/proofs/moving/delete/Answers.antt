@@ -3,7 +3,6 @@ use Rattle.std.proofs.lemmas.Result.{err_from_is_err_and}
 use Rattle.ic_state.specs.declared.canister.Canister.{Canister}
 use Rattle.ic_state.specs.Seen.{state_of}
 use Rattle.ic_mgmt_laws.specs.Rows.{deletes}
-use Rattle.ic_mgmt.specs.Taken.{incoming_of}
 use Rattle.ic_mgmt.proofs.Refusals.{denied}
 use Rattle.ic_mgmt.proofs.Worlds.{at_none, at_some}
 use Rattle.ic_mgmt.proofs.Makes.{burned_fits, gone_is, deletes_is, keeps_gone}
@@ -11,11 +10,11 @@ use Rattle.ic_mgmt.proofs.moving.delete.Goals as goal
 
 pub returns-in_default-clause-does : goal.returns-in_default-clause-does
 returns-in_default-clause-does c =
-    (at_none c.args.parts.now c.args.id (deletes (state_of c.args.parts.now) (incoming_of c.args.call.now) c.args.id) (sym c.in_default.ensures.value), refl)
+    (at_none c.args.parts.now c.args.id (deletes (state_of c.args.parts.now) c.args.call.now c.args.id) (sym c.in_default.ensures.value), refl)
 
 pub returns-in_err-unless_stopped-clause-does : goal.returns-in_err-unless_stopped-clause-does
 returns-in_err-unless_stopped-clause-does c =
-    let call = incoming_of c.args.call.now in
+    let call = c.args.call.now in
     let s = state_of c.args.parts.now in
     let p = err_from_is_err_and c.from_residual.result c.from_residual.ensures.1 in
     let stands = sym c.in-Some.ensures.value ∙ ap (λ (d : Canister). Some d) (sym c.get-canister.ensures) in
@@ -28,7 +27,7 @@ overflow_add-parts c =
 
 pub returns-clause-does : goal.returns-clause-does
 returns-clause-does c =
-    let call = incoming_of c.args.call.now in
+    let call = c.args.call.now in
     let d = c.get-canister.result.now in
     let stands = sym c.in-Some.ensures.value ∙ ap (λ (d : Canister). Some d) (sym c.get-canister.ensures) in
     at_some c.args.parts.now c.args.id d stands (deletes (state_of c.args.parts.now) call c.args.id)

@@ -6,7 +6,6 @@ use Rattle.ic_behaviour.specs.State.{at}
 use Rattle.ic_state.specs.declared.canister.Canister.{Canister}
 use Rattle.ic_state.specs.Seen.{state_of}
 use Rattle.ic_mgmt_laws.specs.Rows.{tops_up}
-use Rattle.ic_mgmt.specs.Taken.{incoming_of}
 use Rattle.ic_mgmt.proofs.Refusals.{denied}
 use Rattle.ic_mgmt.proofs.Worlds.{at_none, at_some}
 use Rattle.ic_mgmt.proofs.Makes.{absent, present, few_is, balance_fits, granted_is, tops_up_is, keeps_granted}
@@ -14,11 +13,11 @@ use Rattle.ic_mgmt.proofs.moving.top_up.Goals as goal
 
 pub returns-then-not-contains_key-clause-does : goal.returns-then-not-contains_key-clause-does
 returns-then-not-contains_key-clause-does c =
-    (at_none c.args.parts.now c.args.id (tops_up (state_of c.args.parts.now) (incoming_of c.args.call.now) c.args.id c.args.amount) (absent _ (sym c.contains_key.ensures ∙ c.if-not-contains_key.true)), refl)
+    (at_none c.args.parts.now c.args.id (tops_up (state_of c.args.parts.now) c.args.call.now c.args.id c.args.amount) (absent _ (sym c.contains_key.ensures ∙ c.if-not-contains_key.true)), refl)
 
 pub returns-in_err-unless_above-clause-does : goal.returns-in_err-unless_above-clause-does
 returns-in_err-unless_above-clause-does c =
-    let call = incoming_of c.args.call.now in
+    let call = c.args.call.now in
     let s = state_of c.args.parts.now in
     let there = present _ (sym c.contains_key.ensures ∙ c.if-not-contains_key.false) in
     let p = err_from_is_err_and c.from_residual.result c.from_residual.ensures.1 in
@@ -34,7 +33,7 @@ grant-requires c =
 
 pub returns-clause-does : goal.returns-clause-does
 returns-clause-does c =
-    let call = incoming_of c.args.call.now in
+    let call = c.args.call.now in
     let s = state_of c.args.parts.now in
     let es = c.args.parts.now.canisters.entries in
     let there = present _ (sym c.contains_key.ensures ∙ c.if-not-contains_key.false) in
