@@ -82,7 +82,7 @@ fn steps(
 }
 
 // The canister gets the code with what was made for it, or stays as it is.
-fn settle(
+fn put_draft(
     canister: &mut Canister,
     code: CodePlace,
     ended: Result<Draft, Stop>,
@@ -134,7 +134,7 @@ pub fn install_in(
     let code = CodePlace::new(alloc, code)?;
     let asked = Asked { arg, sender, env };
     let ended = steps(alloc, canister, mode, code.get(), asked, &mut meter);
-    let refusal = settle(canister, code, ended)?;
+    let refusal = put_draft(canister, code, ended)?;
     Ok((refusal, meter.used()))
 }
 

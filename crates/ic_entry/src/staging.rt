@@ -102,8 +102,8 @@ pub struct Point {
     pub kind: EntryKind,
 }
 
-// Runs that, if the code has it, and gives the certified data that are left.
-pub fn run(
+// Runs the point, if the code has it, and gives the certified data that are left.
+pub fn run_point(
     alloc: Global,
     code: &Code,
     point: Point,
@@ -184,12 +184,12 @@ pub fn start(
         no_bytes(alloc),
         &draft.certified,
     )?;
-    draft.certified = run(alloc, code, point, view, &mut draft.store, meter)?;
+    draft.certified = run_point(alloc, code, point, view, &mut draft.store, meter)?;
     let point = Point {
         target: entry_target(&code.valid, name, ""),
         kind: EntryKind::Init,
     };
     let view = install_view(alloc, env, canister, sender, arg, &draft.certified)?;
-    draft.certified = run(alloc, code, point, view, &mut draft.store, meter)?;
+    draft.certified = run_point(alloc, code, point, view, &mut draft.store, meter)?;
     Ok(())
 }

@@ -7,7 +7,7 @@ ghost use Rattle.ic_state.specs.Seen.{seen, code_of};
 ghost use Rattle.ic_state.specs.IsCanister.{FitsCode, IsCanister};
 ghost use Rattle.ic_entry.specs.Installed.{asked_of, stage_of, Steps, Drafts};
 
-use crate::staging::{Asked, Draft, Point, Stop, Told, install_view, new_store, run, start};
+use crate::staging::{Asked, Draft, Point, Stop, Told, install_view, new_store, run_point, start};
 use crate::views::no_bytes;
 use ic_principal::Bytes;
 use ic_state::{Canister, Code, EntryKind};
@@ -16,8 +16,8 @@ use wm_run::entry_target;
 use wm_semantics::Meter;
 use wm_valid::EntryName;
 
-// The old code is told, on its own store, unless that is skipped.
-fn leave(
+// Runs `canister_pre_upgrade` of the old code on its own store, unless that is skipped.
+fn run_pre_upgrade(
     alloc: Global,
     canister: &mut Canister,
     skips: bool,
@@ -56,7 +56,7 @@ fn leave(
         target: entry_target(&code.valid, EntryName::PreUpgrade, ""),
         kind: EntryKind::PreUpgrade,
     };
-    *certified = run(alloc, code, point, view, canister.store.get_mut(), meter)?;
+    *certified = run_point(alloc, code, point, view, canister.store.get_mut(), meter)?;
     Ok(())
 }
 
@@ -84,7 +84,7 @@ fn upgrade_steps(
     ensures limit { meter.new.limit ≡ meter.old.limit }
 {
     let mut certified = canister.certified.copy()?;
-    leave(alloc, canister, skips, &mut certified, &asked, meter)?;
+    run_pre_upgrade(alloc, canister, skips, &mut certified, &asked, meter)?;
     let store = new_store(
         alloc,
         &code.valid,

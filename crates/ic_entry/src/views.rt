@@ -125,7 +125,7 @@ pub fn view_in(
     view_for(alloc, env, canister, copies, call)
 }
 
-/// The same, with a call.
+/// The view, with a call.
 pub fn with_call(view: View, method: Text, arg: Bytes) -> View
     ensures { result ≡ call_view view method arg }
 {
@@ -135,7 +135,7 @@ pub fn with_call(view: View, method: Text, arg: Bytes) -> View
     view
 }
 
-/// The same, with an answer.
+/// The view, with an answer.
 pub fn with_answer(view: View, response: Response, refund: u128) -> View
     ensures { result ≡ answer_view view response refund }
 {

@@ -10,13 +10,13 @@ use Rattle.ic_entry.proofs.upgrading.upgrade_steps.Goals as goal
 pub returns-in_err-start-clause-steps : goal.returns-in_err-start-clause-steps
 returns-in_err-start-clause-steps c =
     let r = c.from_residual-in_err-start.result in
-    let now = stage_of c.leave.new.canister.store.lists c.leave.new.certified c.leave.new.meter.used in
-    let starts : Drafts r c.start.new.meter.used (started (asked_of c.args.asked.env c.leave.new.canister c.args.asked.sender) (code_of c.args.code.now) entry.PostUpgrade c.args.asked.arg (stage_of c.in_ok-store.store.lists now.certified now.used)) = search rules in
-    λ old e. upgrades c.args.asked.env c.args.canister.now c.leave.new.canister c.args.asked.sender c.args.asked.arg old (code_of c.args.code.now) c.args.skips c.in_ok-certified.certified c.stable.result.now c.in_ok-store.store c.args.meter.now.used now
-    c.leave.ensures.rest c.in_ok-certified.ensures (c.stable.ensures ∙ ap (λ (s : Held). s.lists.stable) c.get-2.ensures) (c.in_ok-leave.ensures.steps old e) c.in_ok-store.ensures.made r c.start.new.meter.used starts
+    let now = stage_of c.run_pre_upgrade.new.canister.store.lists c.run_pre_upgrade.new.certified c.run_pre_upgrade.new.meter.used in
+    let starts : Drafts r c.start.new.meter.used (started (asked_of c.args.asked.env c.run_pre_upgrade.new.canister c.args.asked.sender) (code_of c.args.code.now) entry.PostUpgrade c.args.asked.arg (stage_of c.in_ok-store.store.lists now.certified now.used)) = search rules in
+    λ old e. upgrades c.args.asked.env c.args.canister.now c.run_pre_upgrade.new.canister c.args.asked.sender c.args.asked.arg old (code_of c.args.code.now) c.args.skips c.in_ok-certified.certified c.stable.result.now c.in_ok-store.store c.args.meter.now.used now
+    c.run_pre_upgrade.ensures.rest c.in_ok-certified.ensures (c.stable.ensures ∙ ap (λ (s : Held). s.lists.stable) c.get-2.ensures) (c.in_ok-run_pre_upgrade.ensures.steps old e) c.in_ok-store.ensures.made r c.start.new.meter.used starts
 
 pub returns-clause-steps : goal.returns-clause-steps
 returns-clause-steps c =
-    let now = stage_of c.leave.new.canister.store.lists c.leave.new.certified c.leave.new.meter.used in
-    λ old e. upgrades c.args.asked.env c.args.canister.now c.leave.new.canister c.args.asked.sender c.args.asked.arg old (code_of c.args.code.now) c.args.skips c.in_ok-certified.certified c.stable.result.now c.in_ok-store.store c.args.meter.now.used now
-    c.leave.ensures.rest c.in_ok-certified.ensures (c.stable.ensures ∙ ap (λ (s : Held). s.lists.stable) c.get-2.ensures) (c.in_ok-leave.ensures.steps old e) c.in_ok-store.ensures.made (Ok c.start.new.draft) c.start.new.meter.used c.in_ok-start.ensures.steps
+    let now = stage_of c.run_pre_upgrade.new.canister.store.lists c.run_pre_upgrade.new.certified c.run_pre_upgrade.new.meter.used in
+    λ old e. upgrades c.args.asked.env c.args.canister.now c.run_pre_upgrade.new.canister c.args.asked.sender c.args.asked.arg old (code_of c.args.code.now) c.args.skips c.in_ok-certified.certified c.stable.result.now c.in_ok-store.store c.args.meter.now.used now
+    c.run_pre_upgrade.ensures.rest c.in_ok-certified.ensures (c.stable.ensures ∙ ap (λ (s : Held). s.lists.stable) c.get-2.ensures) (c.in_ok-run_pre_upgrade.ensures.steps old e) c.in_ok-store.ensures.made (Ok c.start.new.draft) c.start.new.meter.used c.in_ok-start.ensures.steps
