@@ -1,6 +1,7 @@
 -- What a parse gives for an option that takes a number.
 use Rattle.std.proofs.Common.{◌≡◌, ◌∙◌, ◌<◌, ◌≤◌, ◌^◌, ap, subst, sym, refl, arith, ℕ, true, false, zero, suc, List, [], ◌∷◌, length, map, Option, Some, None, Result, Ok, Err, inl, inr, option_map, true≢false}
-use Rattle.std.specs.Prelude.{codes, slice_get, unwrap_or, IfSome}
+use Rattle.std.specs.Prelude.{Bool, ◌==◌, if◌then◌else◌, codes, slice_get, unwrap_or, IfSome}
+use Rattle.std.proofs.lemmas.Bool.{eqb-true}
 use Rattle.std.specs.Borrow.{Bor}
 use Rattle.std.specs.List.{All, slice_index_or, list_all}
 use Rattle.std.specs.Str.{bytes_eq}
@@ -169,61 +170,38 @@ given G bits low high f id o only fits passes absent present = go (one_text f id
               (subst (λ v. low ≤ v) same read.1, subst (λ v. v ≤ high) same read.2),
         )
 
+-- where a rule of the command has the id of this one, it has its place
+abbrev Apart : ℕ → Rule → ℕ → Rule → Type 0
+Apart k r j s = (if bytes_eq s.id r.id then j == k else true) ≡ true
+
+same_place : (j k : ℕ) (same : Bool) → (if same then j == k else true) ≡ true → same ≡ true → j ≡ k
+same_place j k true is same = eqb-true j k is
+same_place j k false is same = absurd cc
+
+unique_at : (k : ℕ) (r : Rule) → Apart k r 0 workers_rule → Apart k r 1 limit_rule → Apart k r 2 rounds_rule → Apart k r 3 generate_rule → Apart k r 4 price_rule
+    → (j : ℕ) (e : Rule) → j < 5 → bytes_eq (slice_index_or command.top.rules j e).id r.id ≡ true → j ≡ k
+unique_at k r workers limit rounds generate price zero e lt h = same_place 0 k _ workers h
+unique_at k r workers limit rounds generate price (suc zero) e lt h = same_place 1 k _ limit h
+unique_at k r workers limit rounds generate price (suc (suc zero)) e lt h = same_place 2 k _ rounds h
+unique_at k r workers limit rounds generate price (suc (suc (suc zero))) e lt h = same_place 3 k _ generate h
+unique_at k r workers limit rounds generate price (suc (suc (suc (suc zero)))) e lt h = same_place 4 k _ price h
+unique_at k r workers limit rounds generate price (suc (suc (suc (suc (suc j))))) e lt h = absurd (omega arith)
+
 -- the five options
 pub workers_option : IsNumber workers_rule 0 1 64
-workers_option = record { place = omega arith; rule = λ e. refl; parser = refl; named = refl; not_help = refl; not_version = refl; unique = unique }
-  where
-    unique : (j : ℕ) (e : Rule) → j < 5 → bytes_eq (slice_index_or command.top.rules j e).id (codes "workers") ≡ true → j ≡ 0
-    unique zero e lt h = refl
-    unique (suc zero) e lt h = cc
-    unique (suc (suc zero)) e lt h = cc
-    unique (suc (suc (suc zero))) e lt h = cc
-    unique (suc (suc (suc (suc zero)))) e lt h = cc
-    unique (suc (suc (suc (suc (suc j))))) e lt h = absurd (omega arith)
+workers_option = record { place = omega arith; rule = λ e. refl; parser = refl; named = refl; not_help = refl; not_version = refl; unique = unique_at 0 workers_rule refl refl refl refl refl }
 
 pub limit_option : IsNumber limit_rule 1 1 1000000000000
-limit_option = record { place = omega arith; rule = λ e. refl; parser = refl; named = refl; not_help = refl; not_version = refl; unique = unique }
-  where
-    unique : (j : ℕ) (e : Rule) → j < 5 → bytes_eq (slice_index_or command.top.rules j e).id (codes "limit") ≡ true → j ≡ 1
-    unique zero e lt h = cc
-    unique (suc zero) e lt h = refl
-    unique (suc (suc zero)) e lt h = cc
-    unique (suc (suc (suc zero))) e lt h = cc
-    unique (suc (suc (suc (suc zero)))) e lt h = cc
-    unique (suc (suc (suc (suc (suc j))))) e lt h = absurd (omega arith)
+limit_option = record { place = omega arith; rule = λ e. refl; parser = refl; named = refl; not_help = refl; not_version = refl; unique = unique_at 1 limit_rule refl refl refl refl refl }
 
 pub rounds_option : IsNumber rounds_rule 2 1 1000000
-rounds_option = record { place = omega arith; rule = λ e. refl; parser = refl; named = refl; not_help = refl; not_version = refl; unique = unique }
-  where
-    unique : (j : ℕ) (e : Rule) → j < 5 → bytes_eq (slice_index_or command.top.rules j e).id (codes "rounds") ≡ true → j ≡ 2
-    unique zero e lt h = cc
-    unique (suc zero) e lt h = cc
-    unique (suc (suc zero)) e lt h = refl
-    unique (suc (suc (suc zero))) e lt h = cc
-    unique (suc (suc (suc (suc zero)))) e lt h = cc
-    unique (suc (suc (suc (suc (suc j))))) e lt h = absurd (omega arith)
+rounds_option = record { place = omega arith; rule = λ e. refl; parser = refl; named = refl; not_help = refl; not_version = refl; unique = unique_at 2 rounds_rule refl refl refl refl refl }
 
 pub generate_option : IsNumber generate_rule 3 0 10000
-generate_option = record { place = omega arith; rule = λ e. refl; parser = refl; named = refl; not_help = refl; not_version = refl; unique = unique }
-  where
-    unique : (j : ℕ) (e : Rule) → j < 5 → bytes_eq (slice_index_or command.top.rules j e).id (codes "generate") ≡ true → j ≡ 3
-    unique zero e lt h = cc
-    unique (suc zero) e lt h = cc
-    unique (suc (suc zero)) e lt h = cc
-    unique (suc (suc (suc zero))) e lt h = refl
-    unique (suc (suc (suc (suc zero)))) e lt h = cc
-    unique (suc (suc (suc (suc (suc j))))) e lt h = absurd (omega arith)
+generate_option = record { place = omega arith; rule = λ e. refl; parser = refl; named = refl; not_help = refl; not_version = refl; unique = unique_at 3 generate_rule refl refl refl refl refl }
 
 pub price_option : IsNumber price_rule 4 0 1000000
-price_option = record { place = omega arith; rule = λ e. refl; parser = refl; named = refl; not_help = refl; not_version = refl; unique = unique }
-  where
-    unique : (j : ℕ) (e : Rule) → j < 5 → bytes_eq (slice_index_or command.top.rules j e).id (codes "price") ≡ true → j ≡ 4
-    unique zero e lt h = cc
-    unique (suc zero) e lt h = cc
-    unique (suc (suc zero)) e lt h = cc
-    unique (suc (suc (suc zero))) e lt h = cc
-    unique (suc (suc (suc (suc zero)))) e lt h = refl
-    unique (suc (suc (suc (suc (suc j))))) e lt h = absurd (omega arith)
+price_option = record { place = omega arith; rule = λ e. refl; parser = refl; named = refl; not_help = refl; not_version = refl; unique = unique_at 4 price_rule refl refl refl refl refl }
 
 -- an option is within its bounds where it was given, or its default is
 pub bounded : (o : Option ℕ) (default low high : ℕ) → low ≤ default → default ≤ high → ((n : ℕ) → o ≡ Some n → (low ≤ n) × (n ≤ high))
