@@ -8,7 +8,7 @@ ghost use Rattle.ic_exec.specs.Executed.{done_of};
 ghost use Rattle.ic_deliver.specs.Giving.{CanHandle};
 
 use ic_base::NoMemory;
-use ic_exec::{Done, handle};
+use ic_exec::{Done, execute_in};
 use ic_state::{BoundedEnv, CanisterPlace, Message};
 use std::alloc::Global;
 
@@ -24,5 +24,5 @@ pub fn give(
     ensures done { IfOk result (λ d. done_of place.new d ≡ local (enters_by system_api) env (seen place.old) message) }
     ensures keeps { IsCanister place.new }
 {
-    handle(alloc, place.get_mut(), message, env)
+    execute_in(alloc, place.get_mut(), message, env)
 }

@@ -64,7 +64,7 @@ fn number_all(
     Ok(messages)
 }
 
-// The same. Most messages send nothing, which is seen where this is called; the id is lent on as a copy, so
+// As `number_all`. Most messages send nothing, which is seen where this is called; the id is lent on as a copy, so
 // that else it need not stand in memory.
 #[inline(always)]
 fn numbered(

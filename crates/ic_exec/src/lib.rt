@@ -1,6 +1,6 @@
 //! The execution of messages: what a canister does when it gets a call or an answer.
 //!
-//! `execute` does what `ic_behaviour` says of the handling of one message (`specs/Local`). Code is
+//! `execute_in` does what `ic_behaviour` says of the handling of one message (`specs/Local`). Code is
 //! entered by `ic_entry`, which also has what users ask without a call, and installations.
 #![tactic(auto)]
 
@@ -8,11 +8,11 @@ mod answers;
 mod calls;
 mod effects;
 mod executed;
-mod handling;
+mod executing;
 mod work;
 
 pub use executed::Executed;
-pub use handling::{execute, handle};
+pub use executing::{execute, execute_in};
 pub use ic_entry::{
     InstallFault, Installed, Mode, Order, inspect, inspects, install, install_in, place_code, query,
 };

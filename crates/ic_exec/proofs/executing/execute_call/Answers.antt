@@ -7,7 +7,7 @@ use Rattle.ic_state.specs.declared.canister.Canister.{Canister}
 use Rattle.ic_state.specs.Seen.{seen, code_of}
 use Rattle.ic_api.specs.System.{system_api}
 use Rattle.ic_exec.proofs.Handles.{admitted_is, taken_call, done_with}
-use Rattle.ic_exec.proofs.handling.handle_call.Goals as goal
+use Rattle.ic_exec.proofs.executing.execute_call.Goals as goal
 
 pub returns-else-canister-env-clause-done : goal.returns-else-canister-env-clause-done
 returns-else-canister-env-clause-done c =

@@ -147,7 +147,7 @@ fn begin_call(
 }
 
 // A call that the canister takes, or refuses.
-fn handle_call(
+fn execute_call(
     alloc: Global,
     canister: &mut Canister,
     call: IncomingCall,
@@ -184,7 +184,7 @@ fn runs_callback(canister: &Canister, context: &Context) -> bool
 }
 
 // An answer to the call of a context that is there.
-fn handle_answer(
+fn execute_answer(
     alloc: Global,
     canister: &mut Canister,
     own: CallId,
@@ -212,7 +212,7 @@ fn handle_answer(
 
 /// Executes a message on a canister that is lent, as `execute`. After `NoMemory` a part of the message may be
 /// done.
-pub fn handle(
+pub fn execute_in(
     alloc: Global,
     canister: &mut Canister,
     message: Message,
@@ -232,7 +232,7 @@ pub fn handle(
             arg,
             cycles,
             ..
-        } => handle_call(
+        } => execute_call(
             alloc,
             canister,
             IncomingCall {
@@ -260,7 +260,7 @@ pub fn handle(
                     response,
                     refund,
                 };
-                handle_answer(alloc, canister, context, answer, env)
+                execute_answer(alloc, canister, context, answer, env)
             }
             Origin::Ingress(_) => unreachable!(),
         },
@@ -269,7 +269,8 @@ pub fn handle(
 
 /// Executes a message (IC Interface Specification, "Message execution" and "Callback invocation").
 /// Calls take the numbers from `next_call` on in the order in which they were performed. The
-/// argument of a call is moved and not copied. After `NoMemory` the canister is dropped.
+/// argument of a call is moved and not copied. After `NoMemory` the canister is dropped. This is for those who own
+/// the canister: the program's rounds lend it to `execute_in`.
 pub fn execute(
     alloc: Global,
     canister: Canister,
@@ -291,7 +292,7 @@ pub fn execute(
 {
     entries_are_lawful();
     let mut canister = canister;
-    match handle(alloc, &mut canister, message, BoundedEnv::of(env)) {
+    match execute_in(alloc, &mut canister, message, BoundedEnv::of(env)) {
         Ok(done) => {
             let Done {
                 calls,

@@ -11,7 +11,7 @@ use Rattle.ic_run_laws.proofs.Trapped.{trap_keeps}
 use Rattle.ic_api.specs.System.{system_api}
 use Rattle.ic_exec.proofs.Conserves.{Settled, handled_cycles, conserves}
 use Rattle.ic_exec.proofs.Burned.{Burns, burns}
-use Rattle.ic_exec.proofs.handling.execute.Goals as goal
+use Rattle.ic_exec.proofs.executing.execute.Goals as goal
 
 pub returns-in-Ok-clause-conserved : goal.returns-in-Ok-clause-conserved
 returns-in-Ok-clause-conserved c =

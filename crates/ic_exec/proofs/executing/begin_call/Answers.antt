@@ -8,7 +8,7 @@ use Rattle.ic_state.specs.Seen.{seen, code_of}
 use Rattle.ic_api.specs.System.{system_api}
 use Rattle.ic_exec.specs.Executed.{work_of}
 use Rattle.ic_exec.proofs.Handles.{taken_place, taken_there, begun, done_for}
-use Rattle.ic_exec.proofs.handling.begin_call.Goals as goal
+use Rattle.ic_exec.proofs.executing.begin_call.Goals as goal
 
 pub run_call-requires-clause-place : goal.run_call-requires-clause-place
 run_call-requires-clause-place c =

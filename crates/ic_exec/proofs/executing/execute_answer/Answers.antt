@@ -7,7 +7,7 @@ use Rattle.ic_state.specs.Seen.{seen}
 use Rattle.ic_api.specs.System.{system_api}
 use Rattle.ic_exec.specs.Executed.{work_of}
 use Rattle.ic_exec.proofs.Handles.{own_place, done_is, nothing_runs, callback_runs}
-use Rattle.ic_exec.proofs.handling.handle_answer.Goals as goal
+use Rattle.ic_exec.proofs.executing.execute_answer.Goals as goal
 
 pub run_callback-requires-clause-place : goal.run_callback-requires-clause-place
 run_callback-requires-clause-place c =
