@@ -22,7 +22,7 @@ use Rattle.ic_rounds.proofs.Slots.{without_first as passed_first}
 use Rattle.ic_rounds.proofs.Batches.{AreDistinct, apart}
 use Rattle.ic_rounds.proofs.PutBacks.{Rises}
 use Rattle.ic_rounds.proofs.Takes.{lookup-inserted, rest_same, agree_all, left_by, rest_keys, sorted_out}
-use Rattle.ic_rounds.proofs.MadeMaps.{same_entries}
+use Rattle.ic_rounds.proofs.CanisterMaps.{same_entries}
 use Rattle.ic_queues.specs.Queued.{Queued, has_queue, first_to, without_first, without_first_to}
 use Rattle.ic_queue_rounds.specs.Drawing.{Drawing, none_drawn, with_first, draw}
 

@@ -19,7 +19,7 @@ use Rattle.ic_run_laws.specs.System.{system_rules}
 use Rattle.ic_behaviour.specs.Steps.{step, along}
 use Rattle.ic_behaviour.specs.Round.{first_phase}
 use Rattle.ic_rounds.specs.Dealing.{slots_of, AreFirsts}
-use Rattle.ic_rounds.specs.Settling.{Stored, Slot, stored_of, slot_of, ran, put_in, settle_in, AreReady, AreCanisters, entering}
+use Rattle.ic_rounds.specs.Slots.{Stored, Slot, stored_of, slot_of, ran, put_in, after_slot_in_place, AreReady, AreCanisters, entering}
 use Rattle.ic_rounds.proofs.PutBacks.{Rises}
 use Rattle.ic_rounds.proofs.FirstPhases.{T, Passed, passed_few, passed_firsts, passed_ready, code_ends}
 use Rattle.ic_queues.specs.Queued.{Queued}
@@ -30,14 +30,14 @@ use Rattle.ic_queue_rounds.proofs.Draws.{same_firsts, same_left, same_canisters}
 -- ---- messages that stand before all others stay there
 
 settle_behind : (env : Env) (front : List Message) (w : Stored) (slots : List Slot)
-    → fold (settle_in env) (record w { messages = front ++ w.messages }) slots ≡ record (fold (settle_in env) w slots) { messages = front ++ (fold (settle_in env) w slots).messages }
+    → fold (after_slot_in_place env) (record w { messages = front ++ w.messages }) slots ≡ record (fold (after_slot_in_place env) w slots) { messages = front ++ (fold (after_slot_in_place env) w slots).messages }
 settle_behind env front w [] = refl
 settle_behind env front w (slot ∷ slots) =
     let h = ran env slot in
     let answers = flat_map (routed slot.key) h.answers in
     let sent : (front ++ w.messages) ++ h.calls ++ answers ≡ front ++ (w.messages ++ h.calls ++ answers) =
     ap (λ l. l ++ answers) (append_assoc front w.messages h.calls) ∙ append_assoc front (w.messages ++ h.calls) answers in
-    ap (λ l. fold (settle_in env) (record (put_in w slot.key h) { messages = l }) slots) sent ∙ settle_behind env front (put_in w slot.key h) slots
+    ap (λ l. fold (after_slot_in_place env) (record (put_in w slot.key h) { messages = l }) slots) sent ∙ settle_behind env front (put_in w slot.key h) slots
 
 -- ---- no canister comes or goes in a first phase
 
@@ -111,17 +111,17 @@ module _ (rest : Parts) (w : Queued) (is : IsInQueues rest w) where
       pub state : (outside : Outside) → state_of (with_messages rest' w'.messages) ≡ along (system_rules outside limit price) (state_of whole) (first_phase (system_rules outside limit price) (state_of whole))
 
     pub sealed : (after rest' : Parts) (w' : Queued) (sent : List Message) → AreCanisters after
-        → stored_of after ≡ fold (settle_in (env_at rest.time limit price)) (stored_of rest) (map slot_of (slots_of rest.canisters.entries firsts))
+        → stored_of after ≡ fold (after_slot_in_place (env_at rest.time limit price)) (stored_of rest) (map slot_of (slots_of rest.canisters.entries firsts))
         → rest' ≡ record after { messages = [] } → sent ≡ after.messages → w'.messages ≡ left.messages ++ sent → w'.canisters ≡ left.canisters → Sealed rest' w'
     sealed after rest' w' sent keep stored is_rest is_sent is_messages is_canisters =
         let env = env_at rest.time limit price in
         let slots = map slot_of (slots_of rest.canisters.entries firsts) in
         let a : Parts = with_messages after (front ++ after.messages) in
         let none : front ++ rest.messages ≡ front = ap (λ l. front ++ l) is.none ∙ append-nil front in
-        let there : stored_of a ≡ fold (settle_in env) (record (stored_of whole) { messages = front }) slots =
+        let there : stored_of a ≡ fold (after_slot_in_place env) (record (stored_of whole) { messages = front }) slots =
         ap (λ (v : Stored). record v { messages = front ++ v.messages }) stored
         ∙ sym (settle_behind env front (stored_of rest) slots)
-        ∙ ap (λ l. fold (settle_in env) (record (stored_of whole) { messages = l }) slots) none in
+        ∙ ap (λ l. fold (after_slot_in_place env) (record (stored_of whole) { messages = l }) slots) none in
         let world = code_ends whole is.keeps front firsts began.passed limit price a keep there in
         let same : with_messages rest' w'.messages ≡ a =
         ap₂ (λ (p : Parts) l. with_messages p l) is_rest (is_messages ∙ ap₂ (λ x y. x ++ y) began.messages is_sent) in

@@ -9,7 +9,7 @@ use crate::queued::{QueuedWorld, ids};
 use ic_base::NoMemory;
 use ic_mgmt::taken_apart;
 use ic_outside::Gate;
-use ic_rounds::{Crew, all_turns};
+use ic_rounds::{Crew, handle_firsts};
 use ic_state::Charge;
 use std::alloc::Global;
 use std::thread::Threads;
@@ -30,7 +30,7 @@ pub fn canister_turns<R: Threads + Sync, G: Gate + Sync>(
     let keys = ids(alloc, &rest.canisters)?;
     let (firsts, queues) = draw_all(alloc, keys, queues)?.open();
     let env = charge.at(rest.time);
-    let parts = all_turns(alloc, rest, firsts, crew, env)?;
+    let parts = handle_firsts(alloc, rest, firsts, crew, env)?;
     let (rest, sent) = taken_apart(alloc, parts);
     let queues = queues.append(alloc, sent)?;
     Ok(QueuedWorld::seal(rest, queues))

@@ -23,8 +23,8 @@ use Rattle.ic_behaviour.proofs.Lists.{First, first, first_place, first_found, fi
 use Rattle.ic_run_laws.proofs.Delivers.{deliver_is, deliver_sound, as_absent_keeps}
 use Rattle.ic_run_laws.proofs.Counts.{counts_others, counts_own}
 use Rattle.ic_run_laws.specs.System.{system_rules}
-use Rattle.ic_rounds.specs.Settling.{entering}
-use Rattle.ic_rounds.specs.Settling.{Stored, Slot, ran, put_in, settle_in}
+use Rattle.ic_rounds.specs.Slots.{entering}
+use Rattle.ic_rounds.specs.Slots.{Stored, Slot, ran, put_in, after_slot_in_place}
 use Rattle.ic_rounds.proofs.Slots.{without_first, left, IsSlot}
 use Rattle.ic_run_laws.proofs.Systems.{entries_keep}
 
@@ -255,7 +255,7 @@ module _ (limit price : ℕ) (s : State) (sound : Sound s) (slot : Slot) (is : I
 
 pub batch : (outside : Outside) (limit price : ℕ) (s : State) (slots : List Slot) → Sound s → AreDistinct (keys_of_slots slots) → AllByRecursion (IsSlot s) slots
     → counted_state (along (system_rules outside limit price) s (turns (system_rules outside limit price) s (keys_of_slots slots)))
-    ≡ fold (settle_in (env_at s.time limit price)) (record (counted_state s) { messages = left slots s.messages }) slots
+    ≡ fold (after_slot_in_place (env_at s.time limit price)) (record (counted_state s) { messages = left slots s.messages }) slots
 batch outside limit price s [] sound distinct all = refl
 batch outside limit price s (slot ∷ slots) sound distinct all =
     let rules = system_rules outside limit price in
@@ -269,6 +269,6 @@ batch outside limit price s (slot ∷ slots) sound distinct all =
     let firsts = all_without slot.key s.messages slots apart_from (have_first s slots all.1) in
     ap (λ u. counted_state (along rules u (turns rules u (keys_of_slots slots)))) (same_turn limit price s sound slot all.0 outside)
     ∙ batch outside limit price t slots (next_sound limit price s sound slot all.0) rest (slots_stay limit price s sound slot all.0 slots apart_from all.1)
-    ∙ ap (λ (v : Stored). fold (settle_in (env_at v.time limit price)) (record v { messages = left slots v.messages }) slots) (next_is limit price s sound slot all.0)
-    ∙ ap (λ l. fold (settle_in (env_at s.time limit price)) (record w { messages = l }) slots)
+    ∙ ap (λ (v : Stored). fold (after_slot_in_place (env_at v.time limit price)) (record v { messages = left slots v.messages }) slots) (next_is limit price s sound slot all.0)
+    ∙ ap (λ l. fold (after_slot_in_place (env_at s.time limit price)) (record w { messages = l }) slots)
     (ap (left slots) (append_assoc W R.calls (flat_map (routed slot.key) R.answers)) ∙ left-append slots W sent rest firsts ∙ sym (append_assoc (left slots W) R.calls (flat_map (routed slot.key) R.answers)))

@@ -13,7 +13,7 @@ use Rattle.ic_state.specs.declared.canister.Canister.{Canister as StoredCanister
 use Rattle.ic_state.specs.IsCanister.{IsCanister}
 use Rattle.ic_rounds.specs.declared.slot.Slot.{Slot as StoredSlot}
 use Rattle.ic_rounds.specs.Dealing.{Dealing, deal, none_dealt, AreFirsts, pairs_of, IsTheirs}
-use Rattle.ic_rounds.specs.Settling.{Stored, Slot, seen_entry, slot_of, settle, settle_in}
+use Rattle.ic_rounds.specs.Slots.{Stored, Slot, seen_entry, slot_of, after_slot, after_slot_in_place}
 use Rattle.ic_rounds.proofs.Batches.{AreDistinct, keys_of_slots}
 use Rattle.ic_rounds.proofs.PutBacks.{Rises, minus, put_back}
 use Rattle.ic_rounds.proofs.Deals.{Deals, deals, each-minus}
@@ -66,10 +66,10 @@ module _ (es : List (List ℕ × StoredCanister)) (firsts : List (List ℕ × Me
 
   -- taken out and put back, they are changed in their places
   pub in_their_places : (env : Env) (w : Stored) → w.canisters ≡ map seen_entry es
-      → fold (settle env) (record w { canisters = map seen_entry D.canisters }) (map slot_of D.slots) ≡ fold (settle_in env) w (map slot_of D.slots)
+      → fold (after_slot env) (record w { canisters = map seen_entry D.canisters }) (map slot_of D.slots) ≡ fold (after_slot_in_place env) w (map slot_of D.slots)
   in_their_places env w same =
       let keys = keys_of (map seen_entry es) in
       let idle : map seen_entry D.canisters ≡ minus (keys_of_slots (map slot_of D.slots)) w.canisters =
       ap (map seen_entry) dealt.others ∙ seen-minus (keys_of firsts) es ∙ ap (λ ks. minus ks (map seen_entry es)) (sym keys_are) ∙ ap (minus (keys_of_slots (map slot_of D.slots))) (sym same) in
-      ap (λ l. fold (settle env) (record w { canisters = l }) (map slot_of D.slots)) idle
+      ap (λ l. fold (after_slot env) (record w { canisters = l }) (map slot_of D.slots)) idle
       ∙ put_back env keys w (map slot_of D.slots) (ap keys_of same) (subst Rises (keys_seen es) are.rising) distinct (known es D.slots theirs)

@@ -26,11 +26,11 @@ use Rattle.ic_state.specs.Seen.{seen, state_of}
 use Rattle.ic_state.specs.IsCanister.{IsCanister}
 use Rattle.ic_state.specs.IsWorld.{HasCounts, IsWorld}
 use Rattle.ic_run_laws.specs.System.{system_rules}
-use Rattle.ic_rounds.specs.Settling.{entering}
+use Rattle.ic_rounds.specs.Slots.{entering}
 use Rattle.ic_rounds.specs.declared.slot.Slot.{Slot as StoredSlot}
 use Rattle.ic_rounds.specs.Taking.{Taking, is_key, sort_out, none_taken}
 use Rattle.ic_rounds.specs.Dealing.{AreFirsts, slots_of, pairs_of, IsTheirs}
-use Rattle.ic_rounds.specs.Settling.{Stored, Slot, stored_of, slot_of, settle_in, IsReady, AreReady, AreCanisters}
+use Rattle.ic_rounds.specs.Slots.{Stored, Slot, stored_of, slot_of, after_slot_in_place, IsReady, AreReady, AreCanisters}
 use Rattle.ic_run_laws.proofs.Systems.{entries_keep}
 use Rattle.ic_rounds.proofs.Slots.{left, IsSlot}
 use Rattle.ic_rounds.proofs.Batches.{AreDistinct, counted_state, batch}
@@ -160,11 +160,11 @@ module _ (p : Parts) (is : IsWorld p) where
   begins_at = let stored = stored_is p is in let messages = left_is_left in λ i. record (stored i) { messages = messages i }
 
   phase_is : (outside : Outside) (limit price : ℕ)
-      → fold (settle_in (env_at p.time limit price)) (record (stored_of p) { messages = T.left }) slots
+      → fold (after_slot_in_place (env_at p.time limit price)) (record (stored_of p) { messages = T.left }) slots
       ≡ counted_state (along (system_rules outside limit price) s (first_phase (system_rules outside limit price) s))
   unfolding first_phase
   phase_is outside limit price =
-      ap (λ w. fold (settle_in (env_at p.time limit price)) w slots) begins_at
+      ap (λ w. fold (after_slot_in_place (env_at p.time limit price)) w slots) begins_at
       ∙ sym (batch outside limit price s slots is.sound (distinct es T.firsts are_firsts) all_slots)
       ∙ ap (λ ks. counted_state (along (system_rules outside limit price) s (turns (system_rules outside limit price) s ks))) (keys_are es T.firsts are_firsts ∙ busy_is)
 
@@ -186,7 +186,7 @@ module _ (p : Parts) (is : IsWorld p) where
 
   -- what the slots come to is a world, and the state after the first phase
   pub phase_ends : (limit price : ℕ) (after : Parts) → AreCanisters after
-      → stored_of after ≡ fold (settle_in (env_at p.time limit price)) (record (stored_of p) { messages = T.left }) slots
+      → stored_of after ≡ fold (after_slot_in_place (env_at p.time limit price)) (record (stored_of p) { messages = T.left }) slots
       → IsWorld after × ((outside : Outside) → state_of after ≡ along (system_rules outside limit price) s (first_phase (system_rules outside limit price) s))
   phase_ends limit price after keep stored =
       let end = λ (outside : Outside). along (system_rules outside limit price) s (first_phase (system_rules outside limit price) s) in
@@ -218,9 +218,9 @@ module _ (p : Parts) (is : IsWorld p) where
     passed_ready limit price w same = subst (λ fs. AreReady (env_at p.time limit price) w (slots_of es fs)) (sym values.firsts_are) (all_ready limit price w same)
 
     pub code_ends : (limit price : ℕ) (after : Parts) → AreCanisters after
-        → stored_of after ≡ fold (settle_in (env_at p.time limit price)) (record (stored_of p) { messages = left }) (map slot_of (slots_of es firsts))
+        → stored_of after ≡ fold (after_slot_in_place (env_at p.time limit price)) (record (stored_of p) { messages = left }) (map slot_of (slots_of es firsts))
         → IsWorld after × ((outside : Outside) → state_of after ≡ along (system_rules outside limit price) s (first_phase (system_rules outside limit price) s))
     code_ends limit price after keep stored =
         let left_are = values.left_are in
         let firsts_are = values.firsts_are in
-        phase_ends limit price after keep (stored ∙ (λ i. fold (settle_in (env_at p.time limit price)) (record (stored_of p) { messages = left_are i }) (map slot_of (slots_of es (firsts_are i)))))
+        phase_ends limit price after keep (stored ∙ (λ i. fold (after_slot_in_place (env_at p.time limit price)) (record (stored_of p) { messages = left_are i }) (map slot_of (slots_of es (firsts_are i)))))

@@ -15,7 +15,7 @@ use Rattle.ic_behaviour.specs.declared.call.Message.{Message}
 use Rattle.ic_behaviour.specs.State.{State, at, callee_of}
 use Rattle.ic_behaviour.proofs.Weights.{laws, at-is, at-self}
 use Rattle.ic_behaviour.specs.Round.{busy, has_message}
-use Rattle.ic_rounds.specs.Settling.{Slot}
+use Rattle.ic_rounds.specs.Slots.{Slot}
 use Rattle.ic_rounds.specs.Taking.{Taking, is_key, sort_out, none_taken}
 use Rattle.ic_rounds.proofs.Slots.{left, without_first}
 use Rattle.ic_rounds.proofs.Batches.{keys_of_slots}

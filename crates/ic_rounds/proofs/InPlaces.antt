@@ -1,6 +1,8 @@
 -- First messages that are handled where their canisters stand.
 use Rattle.std.proofs.Common.{◌≡◌, ℕ, ◌+◌, false, List, [], ◌∷◌, map, Some, refl, sym, ap, ◌∙◌, subst, inl, inr, arith}
-use Rattle.std.specs.List.{AllByRecursion, fold}
+use Rattle.std.specs.List.{AllByRecursion, IsDistinct, fold}
+use Rattle.std.specs.Ordering.{nat_cmp, eq_by_cmp}
+use Rattle.std.specs.Cmp.Lexicographic.{slice_cmp}
 use Rattle.std.specs.Map.{lookup, keys_of, set_value}
 use Rattle.std.proofs.lemmas.Bool.{cases_Bool, cond-false}
 use Rattle.std.proofs.lemmas.Map.{lookup-set_value}
@@ -18,8 +20,8 @@ use Rattle.ic_deliver.specs.Giving.{CanTake}
 use Rattle.ic_deliver.specs.Delivered.{HasHandled}
 use Rattle.ic_rounds.specs.declared.slot.Slot.{Slot}
 use Rattle.ic_rounds.specs.Dealing.{AreFirsts, slots_of, pairs_of, IsTheirs}
-use Rattle.ic_rounds.specs.Settling.{Stored, seen_entry, stored_of, slot_of, ran, settle, put_in, settle_in, AreReady, AreCanisters}
-use Rattle.ic_rounds.specs.InPlace.{slot_at, IsNext, HasGone, AreLeft}
+use Rattle.ic_rounds.specs.Slots.{Stored, seen_entry, stored_of, slot_of, ran, after_slot, put_in, after_slot_in_place, AreReady, AreCanisters}
+use Rattle.ic_rounds.specs.InPlace.{slot_at, IsNext, HasGone}
 use Rattle.ic_rounds.proofs.Dealings.{pairs, theirs}
 
 -- ---- the map of canisters
@@ -42,7 +44,7 @@ module _ (env : Env) (before after : Parts) (key : List ℕ) (m : Message) (next
       subst (λ (x : Canister). CanTake env before.burned x m) same (record { handles = next.ready; room = next.room })
 
   module _ (went : HasHandled env key next.canister m before after) where
-    stored : stored_of after ≡ settle_in env (stored_of before) (slot_of (slot_at key next.canister m))
+    stored : stored_of after ≡ after_slot_in_place env (stored_of before) (slot_of (slot_at key next.canister m))
     stored =
         let there : map seen_entry after.canisters.entries ≡ set_value (at key) (map seen_entry before.canisters.entries) (seen went.after) =
         ap (map seen_entry) went.entries ∙ seen-set key before.canisters.entries went.after in
@@ -62,17 +64,27 @@ module _ (env : Env) (before after : Parts) (key : List ℕ) (m : Message) (next
 
 -- ---- one after another
 
+-- some first messages are still to be handled, and lead to this end
+pub record AreLeft (env : Env) (end : Stored) (p : Parts) (firsts : List (List ℕ × Message)) : Type 0 where
+  pub slots : List Slot
+  pub pairs : pairs_of slots ≡ firsts
+  pub theirs : AllByRecursion (IsTheirs p.canisters.entries) slots
+  pub distinct : IsDistinct (eq_by_cmp (slice_cmp nat_cmp)) (keys_of firsts)
+  pub ready : AreReady env (stored_of p) slots
+  pub keep : AreCanisters p
+  pub ends : fold (after_slot_in_place env) (stored_of p) (map slot_of slots) ≡ end
+
 -- whether they are ready rests on what was burned alone
 pub ready_too : (env : Env) (v w : Stored) (slots : List Slot) → w.burned ≡ v.burned → AreReady env v slots → AreReady env w slots
 ready_too env v w [] same ready = tt
 ready_too env v w (slot ∷ slots) same ready = (
   ready.0,
   omega (arith, ready.1, same),
-  ready_too env (settle env v (slot_of slot)) (settle env w (slot_of slot)) slots (ap (λ n. n + (ran env (slot_of slot)).burned) same) ready.2,
+  ready_too env (after_slot env v (slot_of slot)) (after_slot env w (slot_of slot)) slots (ap (λ n. n + (ran env (slot_of slot)).burned) same) ready.2,
 )
 
 pub begin : (env : Env) (p : Parts) (firsts : List (List ℕ × Message)) → AreFirsts p.canisters.entries firsts → AreReady env (stored_of p) (slots_of p.canisters.entries firsts) → AreCanisters p
-    → AreLeft env (fold (settle_in env) (stored_of p) (map slot_of (slots_of p.canisters.entries firsts))) p firsts
+    → AreLeft env (fold (after_slot_in_place env) (stored_of p) (map slot_of (slots_of p.canisters.entries firsts))) p firsts
 begin env p firsts are ready keep = record {
   slots = slots_of p.canisters.entries firsts;
   pairs = pairs p.canisters.entries firsts are;
@@ -100,7 +112,7 @@ stay p q key (slot ∷ slots) same apart all = (same slot.key apart.0 ∙ all.0,
 pub more : (env : Env) (end : Stored) (p q : Parts) (f : List ℕ × Message) (firsts : List (List ℕ × Message)) → AreLeft env end p (f ∷ firsts) → HasGone env p f.0 f.1 q → AreCanisters q → AreLeft env end q firsts
 more env end p q f firsts l went keep = by l.slots l.pairs l.theirs l.ready l.ends where
   by : (slots : List Slot) → pairs_of slots ≡ f ∷ firsts → AllByRecursion (IsTheirs p.canisters.entries) slots → AreReady env (stored_of p) slots
-      → fold (settle_in env) (stored_of p) (map slot_of slots) ≡ end → AreLeft env end q firsts
+      → fold (after_slot_in_place env) (stored_of p) (map slot_of slots) ≡ end → AreLeft env end q firsts
   by [] pairs theirs ready ends = cc
   by (slot ∷ slots) pairs theirs ready ends =
       let first : (slot.key, slot.message) ≡ f = cc in
@@ -108,7 +120,7 @@ more env end p q f firsts l went keep = by l.slots l.pairs l.theirs l.ready l.en
       let its : HasGone env p slot.key slot.message q = subst (λ (e : List ℕ × Message). HasGone env p e.0 e.1 q) (sym first) went in
       let same : Some its.canister ≡ Some slot.canister = sym its.there ∙ theirs.0 in
       let canister : its.canister ≡ slot.canister = cc in
-      let stored : stored_of q ≡ settle_in env (stored_of p) (slot_of slot) = its.stored ∙ ap (λ (c : Canister). settle_in env (stored_of p) (slot_of (slot_at slot.key c slot.message))) canister in
+      let stored : stored_of q ≡ after_slot_in_place env (stored_of p) (slot_of slot) = its.stored ∙ ap (λ (c : Canister). after_slot_in_place env (stored_of p) (slot_of (slot_at slot.key c slot.message))) canister in
       let apart = IsDistinct-head _ f.0 (keys_of firsts) l.distinct in
       record {
         slots = slots;
@@ -117,13 +129,13 @@ more env end p q f firsts l went keep = by l.slots l.pairs l.theirs l.ready l.en
             (subst (λ (k : List ℕ). AllByRecursion (λ y. at k y ≡ false) (keys_of (pairs_of slots))) (sym (ap (λ (e : List ℕ × Message). e.0) first))
             (subst (λ (fs : List (List ℕ × Message)). AllByRecursion (λ y. at f.0 y ≡ false) (keys_of fs)) (sym rest) apart)) theirs.1;
         distinct = IsDistinct-tail _ f.0 (keys_of firsts) l.distinct;
-        ready = subst (λ (w : Stored). AreReady env w slots) (sym stored) (ready_too env (settle env (stored_of p) (slot_of slot)) (settle_in env (stored_of p) (slot_of slot)) slots refl ready.2);
+        ready = subst (λ (w : Stored). AreReady env w slots) (sym stored) (ready_too env (after_slot env (stored_of p) (slot_of slot)) (after_slot_in_place env (stored_of p) (slot_of slot)) slots refl ready.2);
         keep = keep;
-        ends = ap (λ (w : Stored). fold (settle_in env) w (map slot_of slots)) stored ∙ ends;
+        ends = ap (λ (w : Stored). fold (after_slot_in_place env) w (map slot_of slots)) stored ∙ ends;
       }
 
 pub at_end : (env : Env) (end : Stored) (p : Parts) (firsts : List (List ℕ × Message)) → firsts ≡ [] → AreLeft env end p firsts → stored_of p ≡ end
 at_end env end p firsts none l = by l.slots (l.pairs ∙ none) l.ends where
-  by : (slots : List Slot) → pairs_of slots ≡ [] → fold (settle_in env) (stored_of p) (map slot_of slots) ≡ end → stored_of p ≡ end
+  by : (slots : List Slot) → pairs_of slots ≡ [] → fold (after_slot_in_place env) (stored_of p) (map slot_of slots) ≡ end → stored_of p ≡ end
   by [] pairs ends = ends
   by (slot ∷ slots) pairs ends = cc

@@ -4,9 +4,9 @@ pub mod Gathers
 pub mod Elements
 pub mod Crossings
 pub mod Works
-pub mod Files
-pub mod MadeMaps
-pub mod Settles
+pub mod OutboxPlaces
+pub mod CanisterMaps
+pub mod HandledSlots
 pub mod Batches
 pub mod PutBacks
 pub mod Deals

@@ -14,7 +14,7 @@ use Rattle.std.proofs.lemmas.Map.Keys.{IsDistinct-tail, IsDistinct-head}
 use Rattle.ic_behaviour.specs.declared.env.Env.{Env}
 use Rattle.ic_behaviour.specs.State.{at}
 use Rattle.ic_behaviour.proofs.Weights.{laws, at-is}
-use Rattle.ic_rounds.specs.Settling.{Stored, Slot, ran, settle, put_in, settle_in}
+use Rattle.ic_rounds.specs.Slots.{Stored, Slot, ran, after_slot, put_in, after_slot_in_place}
 use Rattle.ic_rounds.proofs.Batches.{AreDistinct, keys_of_slots}
 
 abbrev pub cmp : List ℕ → List ℕ → Ordering
@@ -110,7 +110,7 @@ module _ {X : Type 0} where
 -- taken out and put back, one after another
 pub put_back : (env : Env) (keys : List (List ℕ)) (w : Stored) (slots : List Slot) → keys_of w.canisters ≡ keys → Rises keys → AreDistinct (keys_of_slots slots)
     → AllByRecursion (λ (slot : Slot). list_any (at slot.key) keys ≡ true) slots
-    → fold (settle env) (record w { canisters = minus (keys_of_slots slots) w.canisters }) slots ≡ fold (settle_in env) w slots
+    → fold (after_slot env) (record w { canisters = minus (keys_of_slots slots) w.canisters }) slots ≡ fold (after_slot_in_place env) w slots
 put_back env keys w [] same sorted distinct there = refl
 put_back env keys w (slot ∷ slots) same sorted distinct there =
     let h = ran env slot in
@@ -120,5 +120,5 @@ put_back env keys w (slot ∷ slots) same sorted distinct there =
     let back : insert_entry (slice_cmp nat_cmp) (minus (keys_of_slots slots) (remove_entry (at slot.key) es)) slot.key h.canister ≡ minus (keys_of_slots slots) (set_value (at slot.key) es h.canister) =
     insert-minus (keys_of_slots slots) slot.key h.canister (remove_entry (at slot.key) es) (sorted-remove slot.key es rises) (IsDistinct-head _ slot.key (keys_of_slots slots) distinct)
     ∙ ap (minus (keys_of_slots slots)) (insert-back slot.key h.canister es rises some) in
-    ap (λ l. fold (settle env) (record (put_in w slot.key h) { canisters = l }) slots) back
+    ap (λ l. fold (after_slot env) (record (put_in w slot.key h) { canisters = l }) slots) back
     ∙ put_back env keys (put_in w slot.key h) slots (keys-set_value (at slot.key) es h.canister ∙ same) sorted (IsDistinct-tail _ slot.key (keys_of_slots slots) distinct) there.1

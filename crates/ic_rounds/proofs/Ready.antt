@@ -12,7 +12,7 @@ use Rattle.ic_state.specs.Seen.{seen}
 use Rattle.ic_state.specs.IsCanister.{IsCanister}
 use Rattle.ic_deliver.proofs.Ready.{can_handle, burned_fits}
 use Rattle.ic_rounds.specs.declared.slot.Slot.{Slot as StoredSlot}
-use Rattle.ic_rounds.specs.Settling.{Stored, slot_of, ran, settle, IsReady, AreReady}
+use Rattle.ic_rounds.specs.Slots.{Stored, slot_of, ran, after_slot, IsReady, AreReady}
 use Rattle.ic_rounds.proofs.Slots.{IsSlot}
 use Rattle.ic_rounds.proofs.Batches.{AreDistinct, keys_of_slots, callee_is, place_at, next_sound, next_is, slots_stay, next}
 
@@ -36,10 +36,10 @@ ready_all limit price s w (slot ∷ slots) sound distinct all ready same =
     let burned : t.burned ≡ s.burned + (ran env (slot_of slot)).burned = ap (λ (v : Stored). v.burned) after in
     let time : t.time ≡ s.time = ap (λ (v : Stored). v.time) after in
     let sound_next = next_sound limit price s sound (slot_of slot) all.0 in
-    let rest = ready_all limit price t (settle env w (slot_of slot)) slots sound_next (IsDistinct-tail _ slot.key (keys_of_slots (map slot_of slots)) distinct)
+    let rest = ready_all limit price t (after_slot env w (slot_of slot)) slots sound_next (IsDistinct-tail _ slot.key (keys_of_slots (map slot_of slots)) distinct)
     (slots_stay limit price s sound (slot_of slot) all.0 (map slot_of slots) (IsDistinct-head _ slot.key (keys_of_slots (map slot_of slots)) distinct) all.1) ready.1
     (ap (λ n. n + (ran env (slot_of slot)).burned) same ∙ sym burned) in (
       ready.0,
       omega (arith, burned_fits t sound_next, burned, same),
-      subst (λ (n : ℕ). AreReady (env_at n limit price) (settle env w (slot_of slot)) slots) time rest,
+      subst (λ (n : ℕ). AreReady (env_at n limit price) (after_slot env w (slot_of slot)) slots) time rest,
     )

@@ -5,7 +5,7 @@ use Rattle.std.specs.Map.{lookup}
 use Rattle.ic_behaviour.specs.declared.call.Message.{Message}
 use Rattle.ic_behaviour.specs.State.{at, callee_of, State}
 use Rattle.ic_behaviour.specs.Counted.{counted, dropped}
-use Rattle.ic_rounds.specs.Settling.{Slot}
+use Rattle.ic_rounds.specs.Slots.{Slot}
 
 -- the list without the first message to a canister
 abbrev pub without_first : List ℕ → List Message → List Message

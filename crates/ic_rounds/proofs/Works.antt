@@ -9,8 +9,8 @@ use Rattle.ic_tickets.specs.declared.rule.Tickets.{Tickets}
 use Rattle.ic_tickets.specs.Tickets.{items_of, numbers_of, HasEnded, IsOpen, IsOf, Draws}
 use Rattle.ic_rounds.specs.declared.slot.Slot.{Slot}
 use Rattle.ic_rounds.specs.declared.worker.Worker.{Worker}
-use Rattle.ic_rounds.specs.Settling.{IsReady}
-use Rattle.ic_rounds.specs.Turns.{Entry, entry}
+use Rattle.ic_rounds.specs.Slots.{IsReady}
+use Rattle.ic_rounds.specs.HandledSlots.{Entry, entry}
 use Rattle.ic_rounds.specs.Workers.{entry_numbers, IsAt, IsBy, IsIdle, IsDone, AreNumbered}
 use Rattle.ic_rounds.proofs.Elements.{each-at, each-snoc}
 
@@ -45,17 +45,6 @@ pub record Works (t : Tickets Slot) (env : Env) (worker : ℕ) (pass : Pass Slot
   pub within : after_last (numbers_of pass) ≤ length (items_of t)
 
 module _ (t : Tickets Slot) (env : Env) where
-  pub Works-first : (w : Worker) → IsIdle t env w → Works t env w.number w.pass w.outbox.items
-  Works-first w idle = record {
-    own = idle.own;
-    is_open = idle.fresh.1;
-    numbers = ap entry_numbers idle.outbox ∙ sym idle.fresh.0;
-    entries_are = subst (AllByRecursion (IsAt (items_of t) env)) (sym idle.outbox) tt;
-    by = subst (AllByRecursion (IsBy w.number)) (sym idle.outbox) tt;
-    few = omega (arith, ap (λ (l : List Entry). length l) idle.outbox);
-    within = omega (arith, ap after_last idle.fresh.0);
-  }
-
   module _ (worker : ℕ) (pass new : Pass Slot) (entries : List Entry) (so_far : Works t env worker pass entries) (k : ℕ) (item : Slot) (draws : Draws (items_of t) pass k item new) where
     below : after_last (numbers_of pass) ≤ k
     below = after-below (numbers_of pass) k draws.rises
@@ -82,12 +71,3 @@ module _ (t : Tickets Slot) (env : Env) where
           few = omega (arith, length-append entries (e ∷ []), so_far.few, below, ap after_last draws.numbers, after-snoc (numbers_of pass) k);
           within = omega (arith, draws.below, ap after_last draws.numbers, after-snoc (numbers_of pass) k);
         })
-
-  pub Works-last : (pass : Pass Slot) (w : Worker) → Works t env w.number pass w.outbox.items → IsOf t w.pass → HasEnded w.pass → numbers_of w.pass ≡ numbers_of pass → IsDone t env w
-  Works-last pass w so_far own ended same = record {
-    own = own;
-    ended = ended;
-    numbers = so_far.numbers ∙ sym same;
-    entries = so_far.entries_are;
-    by = so_far.by;
-  }

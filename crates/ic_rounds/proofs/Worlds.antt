@@ -8,7 +8,7 @@ use Rattle.ic_state.specs.declared.canister.Canister.{Canister as StoredCanister
 use Rattle.ic_state.specs.declared.world.Parts.{Parts}
 use Rattle.ic_state.specs.Seen.{entry_of, state_of}
 use Rattle.ic_state.specs.IsWorld.{HasCounts, IsWorld}
-use Rattle.ic_rounds.specs.Settling.{Stored, seen_entry, stored_of, AreCanisters}
+use Rattle.ic_rounds.specs.Slots.{Stored, seen_entry, stored_of, AreCanisters}
 use Rattle.ic_rounds.proofs.Batches.{counted_entry, counted_state}
 
 abbrev bare_entry : List ℕ × CountedCanister → List ℕ × Canister

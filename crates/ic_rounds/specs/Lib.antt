@@ -1,6 +1,6 @@
 pub mod Taking
 pub mod Dealing
-pub mod Settling
-pub mod Turns
+pub mod Slots
+pub mod HandledSlots
 pub mod InPlace
 pub mod Workers

@@ -5,10 +5,10 @@ use Rattle.ic_behaviour.specs.declared.env.Env.{Env}
 use Rattle.ic_tickets.specs.declared.rule.Tickets.{Tickets}
 use Rattle.ic_tickets.specs.Tickets.{items_of, numbers_of, HasEnded, IsOf, IsFresh}
 use Rattle.ic_rounds.specs.declared.slot.Slot.{Slot}
-use Rattle.ic_rounds.specs.declared.turn.Turn.{Turn}
+use Rattle.ic_rounds.specs.declared.handled_slot.HandledSlot.{HandledSlot}
 use Rattle.ic_rounds.specs.declared.worker.Worker.{Worker}
-use Rattle.ic_rounds.specs.Settling.{IsReady}
-use Rattle.ic_rounds.specs.Turns.{IsTurn, Entry}
+use Rattle.ic_rounds.specs.Slots.{IsReady}
+use Rattle.ic_rounds.specs.HandledSlots.{IsHandled, Entry}
 
 abbrev pub entry_numbers : List Entry → List ℕ
 entry_numbers entries = map (λ (e : Entry). e.number) entries
@@ -43,9 +43,9 @@ pub record IsDone (t : Tickets Slot) (env : Env) (w : Worker) : Type 0 where
   pub by : AllByRecursion (IsBy w.number) w.outbox.items
 
 -- what came of slot k is in its place
-pub record IsFilled (slots : List Slot) (env : Env) (places : List (Option Turn)) (k : ℕ) : Type 0 where
+pub record IsFilled (slots : List Slot) (env : Env) (places : List (Option HandledSlot)) (k : ℕ) : Type 0 where
   pub slot : Slot
-  pub turn : Turn
+  pub handled : HandledSlot
   pub is_slot : slice_get slots k ≡ Some slot
-  pub is_there : slice_get places k ≡ Some (Some turn)
-  pub is_turn : IsTurn env slot turn
+  pub is_there : slice_get places k ≡ Some (Some handled)
+  pub is_handled : IsHandled env slot handled

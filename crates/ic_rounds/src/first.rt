@@ -5,8 +5,8 @@ ghost use Rattle.ic_behaviour.specs.Round.{first_phase};
 ghost use Rattle.ic_run_laws.specs.System.{system_rules};
 
 use crate::crew::{Crew, MOST_WORKERS};
+use crate::first_messages::handle_firsts;
 use crate::taken::taken_out;
-use crate::turns::all_turns;
 use ic_base::NoMemory;
 use ic_outside::Gate;
 use ic_state::{Charge, MOST_INSTRUCTIONS, Parts, World};
@@ -58,6 +58,6 @@ pub fn canister_turns<R: Threads + Sync, G: Gate + Sync>(
     };
     let crew = Crew { rt, workers, gate };
     let env = Charge { limit, price }.at(time);
-    let parts = all_turns(alloc, parts, firsts, &crew, env)?;
+    let parts = handle_firsts(alloc, parts, firsts, &crew, env)?;
     Ok((World::seal(parts), handled))
 }

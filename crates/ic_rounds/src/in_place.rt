@@ -1,7 +1,7 @@
 ghost use Rattle.std.specs.Prelude.{◌≡◌, ◌+◌, ◌-◌, ◌<◌, ◌≤◌, ◌^◌, length, map, IfOk, OnOk, IfSome, vec_len};
 ghost use Rattle.std.specs.List.{fold};
 ghost use Rattle.ic_rounds.specs.Dealing.{slots_of, AreFirsts};
-ghost use Rattle.ic_rounds.specs.Settling.{stored_of, slot_of, settle_in, AreReady, AreCanisters};
+ghost use Rattle.ic_rounds.specs.Slots.{stored_of, slot_of, after_slot_in_place, AreReady, AreCanisters};
 ghost use Rattle.ic_rounds.specs.InPlace.{IsNext, HasGone};
 
 use crate::permit::Permit;
@@ -15,7 +15,7 @@ use std::collections::VecDeque;
 
 // Its canister handles the first message for which worker 0 passed the gate, and what it sends goes on. Gives the
 // number of the next one.
-fn take_turn(
+fn deliver_first(
     alloc: Global,
     parts: &mut Parts,
     key: &Principal,
@@ -27,7 +27,7 @@ fn take_turn(
     requires alone { permit.worker ≡ 0 }
     requires few { permit.number < 64 }
     requires keep { AreCanisters parts.old }
-    ensures turn { OnOk result (HasGone env parts.old key.now message parts.new) }
+    ensures handled { OnOk result (HasGone env parts.old key.now message parts.new) }
     ensures keep { OnOk result (AreCanisters parts.new) }
     ensures number { IfOk result (λ number. number ≡ permit.number + 1) }
 {
@@ -37,7 +37,7 @@ fn take_turn(
 
 /// Handles the first messages to canisters one after another, each where its canister stands. Before each
 /// message worker 0 passes the gate, with the message's place among them.
-pub fn in_turn<G: Gate>(
+pub fn handle_in_place<G: Gate>(
     alloc: Global,
     parts: Parts,
     firsts: Vec<(Principal, MessagePlace)>,
@@ -49,7 +49,7 @@ pub fn in_turn<G: Gate>(
     requires ready { AreReady env (stored_of parts) (slots_of parts.canisters.entries firsts.items) }
     requires keep { AreCanisters parts }
     ensures stored { IfOk result (λ p. stored_of p
-        ≡ fold (settle_in env) (stored_of parts) (map slot_of (slots_of parts.canisters.entries firsts.items))) }
+        ≡ fold (after_slot_in_place env) (stored_of parts) (map slot_of (slots_of parts.canisters.entries firsts.items))) }
     ensures keep { IfOk result AreCanisters }
 {
     let mut parts = parts;
@@ -57,7 +57,7 @@ pub fn in_turn<G: Gate>(
     let mut number = 0;
     while let Some((key, message)) = firsts.pop_front() {
         let permit = Permit::pass(gate, 0, number);
-        number = take_turn(alloc, &mut parts, &key, message, env, permit)?;
+        number = deliver_first(alloc, &mut parts, &key, message, env, permit)?;
     }
     Ok(parts)
 }

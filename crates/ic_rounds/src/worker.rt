@@ -1,4 +1,4 @@
-use crate::filed::Filed;
+use crate::outbox_entry::OutboxEntry;
 use crate::slot::Slot;
 use ic_outside::Gate;
 use ic_state::BoundedEnv;
@@ -18,5 +18,5 @@ pub struct Shop<'a, G: Gate> {
 pub struct Worker {
     pub number: u32,
     pub pass: Pass<Slot>,
-    pub outbox: Vec<Filed>,
+    pub outbox: Vec<OutboxEntry>,
 }

@@ -1,15 +1,15 @@
 // A first phase that deals a fixed chunk of the slots to each worker, in place of tickets that they draw. It meets
-// the contract of `ic_rounds::turns_of`, with the fields of its crew as parameters.
+// the contract of `ic_rounds::handle_slots`, with the fields of its crew as parameters.
 ghost use Rattle.std.specs.Prelude.{◌≡◌, ◌+◌, ◌++◌, ◌<◌, ◌≤◌, IfOk, vec_len};
 ghost use Rattle.std.specs.List.{AllByRecursion, AllZip};
 ghost use Rattle.std.specs.Thread.{IsSync};
-ghost use Rattle.ic_rounds.specs.Settling.{IsReady};
-ghost use Rattle.ic_rounds.specs.Turns.{IsTurn};
+ghost use Rattle.ic_rounds.specs.Slots.{IsReady};
+ghost use Rattle.ic_rounds.specs.HandledSlots.{IsHandled};
 
 use ic_base::NoMemory;
 use ic_deliver::give;
 use ic_outside::Gate;
-use ic_rounds::{Slot, Turn};
+use ic_rounds::{HandledSlot, Slot};
 use ic_state::BoundedEnv;
 use std::alloc::Global;
 use std::thread::{Threads, join};
@@ -54,9 +54,9 @@ fn cut_off(share: Share) -> Result<(Share, Share), NoMemory>
     Ok((chunk, others))
 }
 
-fn handled(alloc: Global, slot: Slot, env: BoundedEnv) -> Result<Turn, NoMemory>
+fn handled(alloc: Global, slot: Slot, env: BoundedEnv) -> Result<HandledSlot, NoMemory>
     requires ready { IsReady slot }
-    ensures { IfOk result (IsTurn env slot) }
+    ensures { IfOk result (IsHandled env slot) }
 {
     let Slot {
         key,
@@ -65,7 +65,7 @@ fn handled(alloc: Global, slot: Slot, env: BoundedEnv) -> Result<Turn, NoMemory>
     } = slot;
     let mut canister = canister;
     let done = give(alloc, &mut canister, message.take(), env)?;
-    Ok(Turn {
+    Ok(HandledSlot {
         key,
         canister,
         done,
@@ -78,9 +78,9 @@ fn handled_by_one<G: Gate>(
     share: Share,
     env: BoundedEnv,
     gate: &G,
-) -> Result<Vec<Turn>, NoMemory>
+) -> Result<Vec<HandledSlot>, NoMemory>
     requires ready { AllByRecursion IsReady share.slots.items }
-    ensures { IfOk result (λ v. AllZip (IsTurn env) share.slots.items v.items) }
+    ensures { IfOk result (λ v. AllZip (IsHandled env) share.slots.items v.items) }
 {
     let Share {
         slots,
@@ -106,43 +106,43 @@ fn handled_by_all<R: Threads + Sync, G: Gate + Sync>(
     share: Share,
     env: BoundedEnv,
     gate: &G,
-) -> Result<Vec<Turn>, NoMemory>
+) -> Result<Vec<HandledSlot>, NoMemory>
     requires workers { 0 < share.workers }
     requires few { vec_len share.slots ≤ 64 }
     requires ready { AllByRecursion IsReady share.slots.items }
-    ensures { IfOk result (λ v. AllZip (IsTurn env) share.slots.items v.items) }
+    ensures { IfOk result (λ v. AllZip (IsHandled env) share.slots.items v.items) }
 {
     if share.workers == 1 {
         return handled_by_one(alloc, share, env, gate);
     }
     let (chunk, others) = cut_off(share)?;
-    side_by_side(alloc, rt, chunk, others, env, gate)
+    handle_in_slots(alloc, rt, chunk, others, env, gate)
 }
 
 // A function of its own, so that what the closures require is what it is given.
 #[cycle(sides)]
-fn side_by_side<R: Threads + Sync, G: Gate + Sync>(
+fn handle_in_slots<R: Threads + Sync, G: Gate + Sync>(
     alloc: Global,
     rt: &R,
     chunk: Share,
     others: Share,
     env: BoundedEnv,
     gate: &G,
-) -> Result<Vec<Turn>, NoMemory>
+) -> Result<Vec<HandledSlot>, NoMemory>
     requires workers { 0 < others.workers }
     requires few { vec_len others.slots ≤ 64 }
     requires ready { AllByRecursion IsReady chunk.slots.items × AllByRecursion IsReady others.slots.items }
-    ensures { IfOk result (λ v. AllZip (IsTurn env) (chunk.slots.items ++ others.slots.items) v.items) }
+    ensures { IfOk result (λ v. AllZip (IsHandled env) (chunk.slots.items ++ others.slots.items) v.items) }
 {
     let (first, more) = join(
         rt,
-        || -> Result<Vec<Turn>, NoMemory>
+        || -> Result<Vec<HandledSlot>, NoMemory>
             requires { IsSync G.row × AllByRecursion IsReady chunk.slots.items }
-            ensures { IfOk result (λ v. AllZip (IsTurn env) chunk.slots.items v.items) }
+            ensures { IfOk result (λ v. AllZip (IsHandled env) chunk.slots.items v.items) }
         { handled_by_one(alloc, chunk, env, gate) },
-        || -> Result<Vec<Turn>, NoMemory>
+        || -> Result<Vec<HandledSlot>, NoMemory>
             requires { IsSync R.row × IsSync G.row × (0 < others.workers) × (vec_len others.slots ≤ 64) × AllByRecursion IsReady others.slots.items }
-            ensures { IfOk result (λ v. AllZip (IsTurn env) others.slots.items v.items) }
+            ensures { IfOk result (λ v. AllZip (IsHandled env) others.slots.items v.items) }
         { handled_by_all(alloc, rt, others, env, gate) },
     );
     let mut all = first?;
@@ -154,18 +154,18 @@ fn side_by_side<R: Threads + Sync, G: Gate + Sync>(
 /// Handles the messages of slots on up to `workers` workers, and no more than there are slots. What came
 /// of them stands in the order of the slots. Before each message its worker passes the gate, with its own
 /// number, from 0, and the slot's.
-pub fn turns_of<R: Threads + Sync, G: Gate + Sync>(
+pub fn handle_slots<R: Threads + Sync, G: Gate + Sync>(
     alloc: Global,
     rt: &R,
     slots: Vec<Slot>,
     workers: u32,
     env: BoundedEnv,
     gate: &G,
-) -> Result<Vec<Turn>, NoMemory>
+) -> Result<Vec<HandledSlot>, NoMemory>
     requires workers { (0 < workers) × (workers ≤ 64) }
     requires few { vec_len slots ≤ 64 }
     requires ready { AllByRecursion IsReady slots.items }
-    ensures { IfOk result (λ v. AllZip (IsTurn env) slots.items v.items) }
+    ensures { IfOk result (λ v. AllZip (IsHandled env) slots.items v.items) }
 {
     let crew = workers.min(slots.len() as u32);
     if crew == 0 {

@@ -1,6 +1,6 @@
 ghost use Rattle.std.specs.Prelude.{◌<◌, ◌≤◌};
 
-use crate::chunks::turns_of;
+use crate::chunks::handle_slots;
 use crate::gates::Holding;
 use crate::worlds::{busy, slots};
 use ic_outside::Gate;
@@ -91,7 +91,7 @@ fn handled_in_chunks<R: Threads + Sync, G: Gate + Sync>(
         limit: 5_000_000,
         price: 0,
     };
-    match turns_of(alloc, rt, slots, 2, charge.at(0), gate) {
+    match handle_slots(alloc, rt, slots, 2, charge.at(0), gate) {
         Ok(turns) => Some(turns.len()),
         Err(_) => None,
     }

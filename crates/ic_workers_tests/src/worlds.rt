@@ -1,6 +1,6 @@
 ghost use Rattle.std.specs.Prelude.{◌≡◌, ◌≤◌, IfSome, vec_len};
 ghost use Rattle.std.specs.List.{AllByRecursion};
-ghost use Rattle.ic_rounds.specs.Settling.{IsReady};
+ghost use Rattle.ic_rounds.specs.Slots.{IsReady};
 
 use crate::canisters::empty_canister;
 use ic_principal::{Bytes, Principal, Text};

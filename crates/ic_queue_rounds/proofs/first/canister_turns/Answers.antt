@@ -6,8 +6,8 @@ use Rattle.ic_run_laws.specs.System.{system_rules}
 use Rattle.ic_queue_rounds.proofs.Fronts.{begins, firsts_ready, are_firsts, few_firsts, rest_keep, sealed}
 use Rattle.ic_queue_rounds.proofs.first.canister_turns.Goals as goal
 
-pub all_turns-requires-clause-few : goal.all_turns-requires-clause-few
-all_turns-requires-clause-few g c κs within =
+pub handle_firsts-requires-clause-few : goal.handle_firsts-requires-clause-few
+handle_firsts-requires-clause-few g c κs within =
     let rest = c.open-rest.result.0 in
     let queues = c.open-rest.result.1 in
     let is = c.open-rest.ensures.keeps in
@@ -16,8 +16,8 @@ all_turns-requires-clause-few g c κs within =
     let began = begins rest queues is c.in_ok-keys.keys.items c.in_ok-draw_all.field-0 firsts left c.in_ok-keys.ensures c.in_ok-draw_all.ensures c.open-firsts.ensures.firsts c.open-firsts.ensures.queues in
     omega (arith, c.open-firsts.result.0.ok.0, few_firsts rest queues is c.args.charge.limit c.args.charge.price firsts left began)
 
-pub all_turns-requires-clause-firsts : goal.all_turns-requires-clause-firsts
-all_turns-requires-clause-firsts g c κs within =
+pub handle_firsts-requires-clause-firsts : goal.handle_firsts-requires-clause-firsts
+handle_firsts-requires-clause-firsts g c κs within =
     let rest = c.open-rest.result.0 in
     let queues = c.open-rest.result.1 in
     let is = c.open-rest.ensures.keeps in
@@ -26,8 +26,8 @@ all_turns-requires-clause-firsts g c κs within =
     let began = begins rest queues is c.in_ok-keys.keys.items c.in_ok-draw_all.field-0 firsts left c.in_ok-keys.ensures c.in_ok-draw_all.ensures c.open-firsts.ensures.firsts c.open-firsts.ensures.queues in
     are_firsts rest queues is c.args.charge.limit c.args.charge.price firsts left began
 
-pub all_turns-requires-clause-ready : goal.all_turns-requires-clause-ready
-all_turns-requires-clause-ready g c κs within =
+pub handle_firsts-requires-clause-ready : goal.handle_firsts-requires-clause-ready
+handle_firsts-requires-clause-ready g c κs within =
     let rest = c.open-rest.result.0 in
     let queues = c.open-rest.result.1 in
     let is = c.open-rest.ensures.keeps in
@@ -36,8 +36,8 @@ all_turns-requires-clause-ready g c κs within =
     let began = begins rest queues is c.in_ok-keys.keys.items c.in_ok-draw_all.field-0 firsts left c.in_ok-keys.ensures c.in_ok-draw_all.ensures c.open-firsts.ensures.firsts c.open-firsts.ensures.queues in
     rw c.at-env.ensures (firsts_ready rest queues is c.args.charge.limit c.args.charge.price firsts left began)
 
-pub all_turns-requires-clause-keep : goal.all_turns-requires-clause-keep
-all_turns-requires-clause-keep g c κs within =
+pub handle_firsts-requires-clause-keep : goal.handle_firsts-requires-clause-keep
+handle_firsts-requires-clause-keep g c κs within =
     let rest = c.open-rest.result.0 in
     let queues = c.open-rest.result.1 in
     let is = c.open-rest.ensures.keeps in

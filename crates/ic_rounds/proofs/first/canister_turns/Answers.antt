@@ -6,8 +6,8 @@ use Rattle.ic_run_laws.specs.System.{system_rules}
 use Rattle.ic_rounds.proofs.FirstPhases.{passed, passed_few, passed_firsts, passed_ready, code_ends, many}
 use Rattle.ic_rounds.proofs.first.canister_turns.Goals as goal
 
-pub all_turns-requires-clause-few : goal.all_turns-requires-clause-few
-all_turns-requires-clause-few g c κs within =
+pub handle_firsts-requires-clause-few : goal.handle_firsts-requires-clause-few
+handle_firsts-requires-clause-few g c κs within =
     let p = c.open-canisters.result in
     let is = c.open-canisters.ensures.keeps in
     let firsts = c.in_ok-firsts.firsts.items in
@@ -15,8 +15,8 @@ all_turns-requires-clause-few g c κs within =
     let values = passed p is c.in_ok-taken_out.field-0 firsts left c.in_ok-taken_out.ensures c.in_ok-firsts.ensures.firsts c.in_ok-firsts.ensures.left in
     omega (arith, c.in_ok-firsts.firsts.ok.0, passed_few p is left firsts values)
 
-pub all_turns-requires-clause-firsts : goal.all_turns-requires-clause-firsts
-all_turns-requires-clause-firsts g c κs within =
+pub handle_firsts-requires-clause-firsts : goal.handle_firsts-requires-clause-firsts
+handle_firsts-requires-clause-firsts g c κs within =
     let p = c.open-canisters.result in
     let is = c.open-canisters.ensures.keeps in
     let firsts = c.in_ok-firsts.firsts.items in
@@ -24,8 +24,8 @@ all_turns-requires-clause-firsts g c κs within =
     let values = passed p is c.in_ok-taken_out.field-0 firsts left c.in_ok-taken_out.ensures c.in_ok-firsts.ensures.firsts c.in_ok-firsts.ensures.left in
     passed_firsts p is left firsts values
 
-pub all_turns-requires-clause-ready : goal.all_turns-requires-clause-ready
-all_turns-requires-clause-ready g c κs within =
+pub handle_firsts-requires-clause-ready : goal.handle_firsts-requires-clause-ready
+handle_firsts-requires-clause-ready g c κs within =
     let p = c.open-canisters.result in
     let is = c.open-canisters.ensures.keeps in
     let firsts = c.in_ok-firsts.firsts.items in

@@ -4,8 +4,8 @@ use Rattle.ic_workers_tests.proofs.chunks.+sides.Given as goal
 abbrev pub decreases-handled_by_all : goal.decreases-handled_by_all
 decreases-handled_by_all g l = 3 * l.share.workers
 
-abbrev pub decreases-side_by_side : goal.decreases-side_by_side
-decreases-side_by_side g l = 3 * l.others.workers + 2
+abbrev pub decreases-handle_in_slots : goal.decreases-handle_in_slots
+decreases-handle_in_slots g l = 3 * l.others.workers + 2
 
-abbrev pub decreases-side_by_side-join+arg3 : goal.decreases-side_by_side-join+arg3
-decreases-side_by_side-join+arg3 g l = 3 * l.others.workers + 1
+abbrev pub decreases-handle_in_slots-join+arg3 : goal.decreases-handle_in_slots-join+arg3
+decreases-handle_in_slots-join+arg3 g l = 3 * l.others.workers + 1

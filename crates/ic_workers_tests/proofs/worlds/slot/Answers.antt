@@ -4,7 +4,7 @@ use Rattle.std.specs.Prelude.{find}
 use Rattle.ic_behaviour.specs.State.{id_of}
 use Rattle.ic_behaviour.specs.Executing.{is_own}
 use Rattle.ic_behaviour.specs.declared.call.Origin.TheVariants.{Ingress}
-use Rattle.ic_rounds.specs.Settling.{IsReady}
+use Rattle.ic_rounds.specs.Slots.{IsReady}
 use Rattle.ic_workers_tests.proofs.worlds.slot.Goals as goal
 
 pub returns : goal.returns

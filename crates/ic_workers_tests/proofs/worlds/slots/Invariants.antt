@@ -1,7 +1,7 @@
 use Rattle.std.proofs.Common.{◌≡◌, vec_len}
 use Rattle.std.specs.Prelude.{vec_capacity}
 use Rattle.std.specs.List.{AllByRecursion}
-use Rattle.ic_rounds.specs.Settling.{IsReady}
+use Rattle.ic_rounds.specs.Slots.{IsReady}
 use Rattle.ic_workers_tests.proofs.worlds.slots.Given as goal
 
 abbrev pub invariant-loop-number : goal.invariant-loop-number

@@ -1,6 +1,0 @@
-use Rattle.std.proofs.Common.{◌≡◌, vec_len}
-use Rattle.std.specs.Prelude.{vec_capacity}
-use Rattle.ic_rounds.proofs.filing.vacant.Given as goal
-
-abbrev pub invariant-loop : goal.invariant-loop
-invariant-loop l = (vec_len l.places ≡ l.counter) × (vec_capacity l.places ≡ l.count)
