@@ -1,7 +1,7 @@
 -- The handling of a message, step by step.
 use Rattle.std.proofs.Common.{◌≡◌, ℕ, ◌+◌, ◌-◌, ◌*◌, ◌≤◌, nat_lt, Bool, true, false, not, ◌&&◌, cond, List, [], ◌∷◌, ◌++◌, Option, Some, None, Result, Ok, Err, IfOk, find, slice_get, refl, sym, ap, ◌∙◌, subst, arith}
 use Rattle.std.specs.List.{position}
-use Rattle.std.specs.Option.{is_some, IsSome, option_map}
+use Rattle.std.specs.Option.{is_some, option_map}
 use Rattle.std.proofs.lemmas.Bool.Decides.{nat_tests}
 use Rattle.ic_behaviour.specs.declared.call.CallId.{CallId}
 use Rattle.ic_behaviour.specs.declared.call.Callback.{Callback}
@@ -148,10 +148,6 @@ module _ (enters : Enters) (env : Env) (a d : Canister) (own : CallId) (callback
       let r = runs_by x.deleted d.code runs refl in
       let e = own_is own d.contexts place x found got in
       received w (is r.0 r.1 ∙ ap (λ id. answered_with enters env (seen d) id callback response x (answer_view (view env (seen d) x) response refund) r.0) (sym e) ∙ r.2)
-
-pub has_code : (b : Bool) (o : Option StoredCode) → (not b && is_some o) ≡ true → IsSome o
-has_code true o e = absurd cc
-has_code false o e = e
 
 pub local_of_answer : (enters : Enters) (env : Env) (c : CountedCanister) (m : Message) (from : Origin) (caller : List ℕ) (n : ℕ) (own : CallId) (callback : Callback) (sender : List ℕ) (response : Response) (refund : ℕ)
     → m ≡ Answer from sender response refund → from ≡ origin.Canister caller n own callback → begin_answer enters env (with_answer own refund c) own callback response refund ≡ local enters env c m

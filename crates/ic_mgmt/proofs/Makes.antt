@@ -99,10 +99,6 @@ module _ (call : IncomingCall) (s t : State) (named : Option (List (List ℕ))) 
       ∙ answers_only call e reply 0 says t
       )
 
-pub none_rise : IsStrictlySortedBy (slice_cmp nat_cmp) []
-unfolding IsStrictlySortedBy
-none_rise = tt
-
 pub alone : (x : List ℕ) → IsStrictlySortedBy (slice_cmp nat_cmp) (x ∷ [])
 unfolding IsStrictlySortedBy
 alone x = (tt, tt)

@@ -1,11 +1,9 @@
 -- A check that fails: the row is refused, and nothing is changed.
-use Rattle.std.proofs.Common.{◌≡◌, ℕ, List, Some, refl, sym, ap, ◌∙◌, subst}
+use Rattle.std.proofs.Common.{◌≡◌, ℕ, List, refl, sym, ap, ◌∙◌, subst}
 use Rattle.std.specs.Prelude.{Result, Ok, Err}
-use Rattle.std.specs.Map.{lookup}
-use Rattle.ic_behaviour.specs.State.{at, Canister, State}
+use Rattle.ic_behaviour.specs.State.{Canister, State}
 use Rattle.ic_behaviour.specs.Counted.{dropped}
 use Rattle.ic_state.specs.declared.canister.Canister.{Canister as StoredCanister}
-use Rattle.ic_state.specs.declared.world.Parts.{Parts}
 use Rattle.ic_state.specs.Seen.{seen}
 use Rattle.ic_mgmt_candid.specs.declared.denial.Denial.{Denial}
 use Rattle.ic_mgmt_candid.specs.declared.denial.Unmet.{Unmet}
@@ -14,38 +12,18 @@ use Rattle.ic_mgmt_candid.specs.Checks.{◌>>=◌, MeetsBy}
 use Rattle.ic_mgmt_laws.specs.Moves.{with_canister}
 use Rattle.ic_behaviour.specs.declared.call.IncomingCall.{IncomingCall}
 use Rattle.ic_mgmt.specs.declared.ending.Ending.{Ending}
-use Rattle.ic_mgmt.specs.Taken.{AreCanisters}
-use Rattle.ic_mgmt.specs.Ending.{IfMemory, Does, Keeps}
-use Rattle.ic_mgmt.specs.Changes.{DoesAt, KeepsCounts}
+use Rattle.ic_mgmt.specs.Ending.{IfMemory, Does}
+use Rattle.ic_mgmt.specs.Changes.{DoesAt}
 use Rattle.ic_mgmt.proofs.Sends.{with_same}
 
 -- ---- what holds unless memory ran out
-
-pub any_memory : {A : Type 0} (r : Result A Unmet) (P : Type 0) → P → IfMemory r P
-any_memory (Ok x) P h = h
-any_memory (Err (Denied denial)) P h = h
-any_memory (Err NoMemory) P h = tt
-
-pub if_memory : {A : Type 0} (r : Result A Unmet) (P Q : Type 0) → (P → Q) → IfMemory r P → IfMemory r Q
-if_memory (Ok x) P Q f h = f h
-if_memory (Err (Denied denial)) P Q f h = f h
-if_memory (Err NoMemory) P Q f h = tt
 
 pub both_memory : {A : Type 0} (r : Result A Unmet) (P Q R : Type 0) → (P → Q → R) → IfMemory r P → IfMemory r Q → IfMemory r R
 both_memory (Ok x) P Q R f h k = f h k
 both_memory (Err (Denied denial)) P Q R f h k = f h k
 both_memory (Err NoMemory) P Q R f h k = tt
 
-pub no_memory : (e : Unmet) (P : Type 0) → e ≡ NoMemory → IfMemory {A = Ending} (Err e) P
-no_memory e P is = subst (λ (x : Unmet). IfMemory {A = Ending} (Err x) P) (sym is) tt
-
-pub keeps_same : (p : Parts) → AreCanisters p → Keeps p p
-keeps_same p all = record { canisters = all; counts = λ now h. h }
-
 -- ---- rows
-
-pub none_does : (e : Unmet) (call : IncomingCall) (before after : State) (row : Result State Denial) → e ≡ NoMemory → Does (Err e) call before after row
-none_does e call before after row is = subst (λ (x : Unmet). Does (Err x) call before after row) (sym is) tt
 
 -- equal states and rows
 pub does_as : (r : Result Ending Unmet) (call : IncomingCall) (before after other : State) (row others : Result State Denial) → after ≡ other → row ≡ others → Does r call before other others → Does r call before after row
@@ -56,9 +34,6 @@ module _ {A B : Type 0} (seen : A → B) (comes : Result B Denial) (next : B →
   pub refused : (e : Unmet) (call : IncomingCall) (before after : State) → MeetsBy seen (Err e) comes → after ≡ before → Does (Err e) call before after (comes >>= next)
   refused (Denied denial) call before after is same = (ap (λ r. r >>= next) is, same)
   refused NoMemory call before after is same = tt
-
-  pub passed : (x : A) → MeetsBy seen (Ok x) comes → (comes >>= next) ≡ next (seen x)
-  passed x is = ap (λ r. r >>= next) is
 
 -- a check that takes no memory, and fails, ends the row
 pub denied : {A B : Type 0} (comes : Result A Denial) (next : A → Result B Denial) (denial : Denial) → Err denial ≡ comes → (comes >>= next) ≡ Err denial
@@ -72,14 +47,8 @@ by_denial seen comes NoMemory call s row is refuses = tt
 
 -- of one canister
 module _ (call : IncomingCall) (id : List ℕ) (c : StoredCanister) where
-  pub none_does_at : (e : Unmet) (d : StoredCanister) (row : State → State → Canister → Result State Denial) → e ≡ NoMemory → DoesAt (Err e) call id c d row
-  none_does_at e d row is now s stands = none_does e call s (with_canister id (dropped (seen d)) s) (row now s (dropped (seen c))) is
-
   pub refused_at : (e : Unmet) (d : StoredCanister) (row : State → State → Canister → Result State Denial)
       → ((now s : State) → Does (Err e) call s s (row now s (dropped (seen c)))) → d ≡ c → DoesAt (Err e) call id c d row
   refused_at e d row does same now s stands =
       does_as (Err e) call s (with_canister id (dropped (seen d)) s) s _ _
       (ap (λ (x : StoredCanister). with_canister id (dropped (seen x)) s) same ∙ with_same s id (dropped (seen c)) stands.found) refl (does now s)
-
-  pub counts_same : (d : StoredCanister) → d ≡ c → KeepsCounts id c d
-  counts_same d same = subst (KeepsCounts id c) (sym same) (λ now h. h)

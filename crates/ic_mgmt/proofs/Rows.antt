@@ -57,11 +57,6 @@ module _ (call : IncomingCall) (id : List ℕ) (c d : StoredCanister) where
       shut_is now s id w waits_true
       ∙ sym (λ i. all_answered id ((as_is ∙ ap (closing None) b_is) i) (with_canister id (dropped ((d_is ∙ ap closed b_is) i)) s))
 
-  pub stops_waits : (phase : Phase) → ¬ (phase ≡ Stopped) → (now s : State) → stops_in phase now s call id a ≡ waits now s call id a
-  stops_waits Running not now s = refl
-  stops_waits (Stopping waiters) not now s = refl
-  stops_waits Stopped not now s = absurd (not refl)
-
   pub stops_at_once : (e : Ending) → c.phase ≡ Stopped → e ≡ only empty_reply call.cycles → (now s : State) → lookup (at id) s.canisters ≡ Some a → stops now s call id a ≡ ended_by call e (with_canister id a s)
   stops_at_once e stopped is now s found =
       ap (λ p. stops_in p now s call id a) stopped ∙ answers_only call e empty_reply call.cycles is s ∙ ap (ended_by call e) (sym (with_same s id a found))

@@ -28,6 +28,6 @@ mod uninstalling;
 
 pub use ic_mgmt_laws::{every_call_in_a_run, every_run};
 pub use managed::manage;
-pub use outside::handle;
+pub use outside::deliver_outside;
 pub use parts::{put_together, taken_apart};
 pub use second::outside_turns;

@@ -4,7 +4,7 @@ ghost use Rattle.ic_behaviour.specs.Steps.{step};
 ghost use Rattle.ic_mgmt_laws.specs.Managed.{managed_rules};
 ghost use Rattle.ic_mgmt.specs.ToManagement.{IsToManagement};
 
-use crate::outside::handle;
+use crate::outside::deliver_outside;
 use crate::parts::{put_together, taken_apart};
 use ic_base::NoMemory;
 use ic_state::{MOST_INSTRUCTIONS, World};
@@ -19,7 +19,7 @@ pub fn manage(alloc: Global, world: World, place: usize, limit: u64) -> Result<W
 {
     let (rest, mut messages) = taken_apart(alloc, world.open());
     let message = messages.items.remove(place);
-    let rest = handle(alloc, rest, message, limit)?;
+    let rest = deliver_outside(alloc, rest, message, limit)?;
     let parts = put_together(messages, rest)?;
     Ok(World::seal(parts))
 }

@@ -12,10 +12,15 @@ use ic_deliver::send_back;
 use ic_state::{IncomingCall, Message, Parts};
 use std::alloc::Global;
 
-/// Handles a message to no canister that has left the list: a call to the management canister is
+/// Delivers a message to no canister that has left the list: a call to the management canister is
 /// carried out, and every other goes back. An answer is dropped, but there is none. `limit` is the
 /// most instructions that one execution may use.
-pub fn handle(alloc: Global, parts: Parts, message: Message, limit: u64) -> Result<Parts, NoMemory>
+pub fn deliver_outside(
+    alloc: Global,
+    parts: Parts,
+    message: Message,
+    limit: u64,
+) -> Result<Parts, NoMemory>
     requires next { (kept : List AMessage) × Meets kept message parts }
     requires absent { is_some (lookup (at (callee_of message)) parts.canisters.entries) ≡ false }
     ensures { IfOk result (λ q. (kept todo : List AMessage) → IsWorld (among kept (message ∷ todo) parts)

@@ -4,7 +4,7 @@ ghost use Rattle.ic_state.specs.declared.world.Parts.{Parts as TheParts};
 ghost use Rattle.ic_mgmt.specs.Sweeping.{stays, Meets, Reaches};
 ghost use Rattle.ic_mgmt.specs.Ways.{HasWays};
 
-use crate::outside::handle;
+use crate::outside::deliver_outside;
 use ic_base::NoMemory;
 use ic_calls::{callee, sender};
 use ic_principal::Principal;
@@ -75,7 +75,7 @@ impl Sweep {
         })
     }
 
-    fn handle(self, alloc: Global, message: Message, limit: u64) -> Result<Sweep, NoMemory>
+    fn deliver(self, alloc: Global, message: Message, limit: u64) -> Result<Sweep, NoMemory>
         requires ways { HasWays self.left self.kept }
         requires few { self.handled < 18446744073709551615 }
         requires next { Meets self.kept message self.rest }
@@ -92,7 +92,7 @@ impl Sweep {
             rest,
             handled,
         } = self;
-        let rest = handle(alloc, rest, message, limit)?;
+        let rest = deliver_outside(alloc, rest, message, limit)?;
         Ok(Sweep {
             kept,
             left,
@@ -115,7 +115,7 @@ impl Sweep {
         if self.stays(&message) {
             self.keep(message)
         } else {
-            self.handle(alloc, message, limit)
+            self.deliver(alloc, message, limit)
         }
     }
 }

@@ -14,7 +14,8 @@ use std::alloc::Global;
 use std::collections::BTreeMap;
 use std::marker::Model;
 
-/// A world whose messages stand in queues. Contracts see the state that it stands for.
+/// A world whose messages are in queues. Contracts see the state that it stands for. It is public for the tests of
+/// `round_in_queues`.
 #[derive(Drop)]
 pub struct QueuedWorld {
     /// All but the messages.

@@ -10,12 +10,12 @@ ghost use Rattle.ic_queue_rounds.specs.Passing.{Passing, IsPassing};
 
 use crate::queued::QueuedWorld;
 use ic_base::NoMemory;
-use ic_mgmt::{handle, outside_turns as turns_over_list, taken_apart};
+use ic_mgmt::{deliver_outside, outside_turns as outside_turns_over_list, taken_apart};
 use ic_state::{Charge, Message, Parts};
 use std::alloc::Global;
 
-// Handles messages to no canister, in their order; what they send comes into the list of the parts.
-fn all_handled(
+// Delivers messages to no canister, in their order; what they send comes into the list of the parts.
+fn deliver_all(
     alloc: Global,
     rest: Parts,
     outs: Vec<Message>,
@@ -27,31 +27,39 @@ fn all_handled(
 {
     let mut rest = rest;
     for message in outs {
-        rest = handle(alloc, rest, message, limit)?;
+        rest = deliver_outside(alloc, rest, message, limit)?;
     }
     Ok(rest)
 }
 
 // The second phase where no canister is made or deleted.
-fn steady_turns(alloc: Global, world: QueuedWorld, limit: u64) -> Result<QueuedWorld, NoMemory>
+fn second_phase_in_queues(
+    alloc: Global,
+    world: QueuedWorld,
+    limit: u64,
+) -> Result<QueuedWorld, NoMemory>
     requires steady { AllByRecursion (λ m. is_steady m ≡ true) world.messages }
     ensures { IfOk result (λ w. (price : ℕ)
         → w ≡ along (managed_rules limit price) world (second_phase (managed_rules limit price) world)) }
 {
     let (rest, queues) = world.open();
     let (queues, outs) = queues.take_outside(alloc)?;
-    let rest = all_handled(alloc, rest, outs.items, limit)?;
+    let rest = deliver_all(alloc, rest, outs.items, limit)?;
     let (rest, sent) = taken_apart(alloc, rest);
     let queues = queues.append(alloc, sent)?;
     Ok(QueuedWorld::seal(rest, queues))
 }
 
-// The second phase by the list.
-fn listed_turns(alloc: Global, world: QueuedWorld, charge: Charge) -> Result<QueuedWorld, NoMemory>
+// The second phase over the list: the messages leave their queues for it, and come back into them.
+fn second_phase_over_list(
+    alloc: Global,
+    world: QueuedWorld,
+    charge: Charge,
+) -> Result<QueuedWorld, NoMemory>
     ensures { IfOk result (λ w. (price : ℕ)
         → w ≡ along (managed_rules charge.limit price) world (second_phase (managed_rules charge.limit price) world)) }
 {
-    let (world, _) = turns_over_list(alloc, world.into_world(alloc)?, charge.limit)?;
+    let (world, _) = outside_turns_over_list(alloc, world.into_world(alloc)?, charge.limit)?;
     QueuedWorld::new(alloc, world)
 }
 
@@ -66,8 +74,8 @@ pub fn outside_turns(
         → w ≡ along (managed_rules charge.limit price) world (second_phase (managed_rules charge.limit price) world)) }
 {
     if world.is_steady() {
-        steady_turns(alloc, world, charge.limit)
+        second_phase_in_queues(alloc, world, charge.limit)
     } else {
-        listed_turns(alloc, world, charge)
+        second_phase_over_list(alloc, world, charge)
     }
 }

@@ -133,9 +133,3 @@ more env end p q f firsts l went keep = by l.slots l.pairs l.theirs l.ready l.en
         keep = keep;
         ends = ap (λ (w : Stored). fold (after_slot_in_place env) w (map slot_of slots)) stored ∙ ends;
       }
-
-pub at_end : (env : Env) (end : Stored) (p : Parts) (firsts : List (List ℕ × Message)) → firsts ≡ [] → AreLeft env end p firsts → stored_of p ≡ end
-at_end env end p firsts none l = by l.slots (l.pairs ∙ none) l.ends where
-  by : (slots : List Slot) → pairs_of slots ≡ [] → fold (after_slot_in_place env) (stored_of p) (map slot_of slots) ≡ end → stored_of p ≡ end
-  by [] pairs ends = ends
-  by (slot ∷ slots) pairs ends = cc

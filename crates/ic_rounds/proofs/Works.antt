@@ -6,12 +6,12 @@ use Rattle.std.proofs.lemmas.List.{map-append}
 use Rattle.ic_behaviour.specs.declared.env.Env.{Env}
 use Rattle.ic_tickets.specs.declared.rule.Pass.{Pass}
 use Rattle.ic_tickets.specs.declared.rule.Tickets.{Tickets}
-use Rattle.ic_tickets.specs.Tickets.{items_of, numbers_of, HasEnded, IsOpen, IsOf, Draws}
+use Rattle.ic_tickets.specs.Tickets.{items_of, numbers_of, IsOpen, IsOf, Draws}
 use Rattle.ic_rounds.specs.declared.slot.Slot.{Slot}
 use Rattle.ic_rounds.specs.declared.worker.Worker.{Worker}
 use Rattle.ic_rounds.specs.Slots.{IsReady}
 use Rattle.ic_rounds.specs.HandledSlots.{Entry, entry}
-use Rattle.ic_rounds.specs.Workers.{entry_numbers, IsAt, IsBy, IsIdle, IsDone, AreNumbered}
+use Rattle.ic_rounds.specs.Workers.{entry_numbers, IsAt, IsBy, AreNumbered}
 use Rattle.ic_rounds.proofs.Elements.{each-at, each-snoc}
 
 -- the number after the last one

@@ -13,8 +13,8 @@ use Rattle.ic_mgmt.specs.Sweeping.{among, Delivers}
 use Rattle.ic_mgmt.proofs.Singles.{single, single_absent, single_met, single_keeps, single_state}
 use Rattle.ic_mgmt.proofs.managed.manage.Goals as goal
 
-pub handle-requires-clause-next : goal.handle-requires-clause-next
-handle-requires-clause-next c =
+pub deliver_outside-requires-clause-next : goal.deliver_outside-requires-clause-next
+deliver_outside-requires-clause-next c =
     let p = c.open.result in
     let m = c.remove-message.result in
     let all : c.messages.inside.items.items ≡ p.messages = c.messages.view_is ∙ c.taken_apart-rest.ensures.messages in
@@ -27,8 +27,8 @@ handle-requires-clause-next c =
       ),
     )
 
-pub handle-requires-clause-absent : goal.handle-requires-clause-absent
-handle-requires-clause-absent c =
+pub deliver_outside-requires-clause-absent : goal.deliver_outside-requires-clause-absent
+deliver_outside-requires-clause-absent c =
     let p = c.open.result in
     let m = c.remove-message.result in
     let all : c.messages.inside.items.items ≡ p.messages = c.messages.view_is ∙ c.taken_apart-rest.ensures.messages in

@@ -8,10 +8,10 @@ use Rattle.ic_mgmt_laws.specs.Managed.{managed_rules}
 use Rattle.ic_queues.specs.Queued.{is_steady, without_outs}
 use Rattle.ic_queue_rounds.specs.InQueues.{with_messages}
 use Rattle.ic_queue_rounds.proofs.Passes.{begins, sealed}
-use Rattle.ic_queue_rounds.proofs.second.steady_turns.Goals as goal
+use Rattle.ic_queue_rounds.proofs.second.second_phase_in_queues.Goals as goal
 
-pub all_handled-requires : goal.all_handled-requires
-all_handled-requires c =
+pub deliver_all-requires : goal.deliver_all-requires
+deliver_all-requires c =
     let rest = c.open-rest.result.0 in
     let queues = c.open-rest.result.1 in
     let is = c.open-rest.ensures.keeps in

@@ -1,12 +1,12 @@
 use Rattle.std.proofs.lemmas.Bool.{or_parts}
 use Rattle.ic_mgmt.proofs.Sweeps.{reaches_gone}
-use Rattle.ic_mgmt.proofs.sweep.Sweep.handle.Goals as goal
+use Rattle.ic_mgmt.proofs.sweep.Sweep.deliver.Goals as goal
 
-pub handle-requires-clause-next : goal.handle-requires-clause-next
-handle-requires-clause-next c = (c.args.self.kept, c.requires.next)
+pub deliver_outside-requires-clause-next : goal.deliver_outside-requires-clause-next
+deliver_outside-requires-clause-next c = (c.args.self.kept, c.requires.next)
 
-pub handle-requires-clause-absent : goal.handle-requires-clause-absent
-handle-requires-clause-absent c = (or_parts _ _ c.requires.goes).0
+pub deliver_outside-requires-clause-absent : goal.deliver_outside-requires-clause-absent
+deliver_outside-requires-clause-absent c = (or_parts _ _ c.requires.goes).0
 
 pub returns-clause-reaches : goal.returns-clause-reaches
 returns-clause-reaches c = λ start todo so_far.

@@ -6,7 +6,7 @@ use Rattle.ic_behaviour.specs.declared.call.Message.{Message}
 use Rattle.ic_state.specs.declared.world.Parts.{Parts}
 use Rattle.ic_queue_rounds.specs.Passing.{Passing}
 use Rattle.ic_queue_rounds.proofs.Passes.{facing, passed, not_there}
-use Rattle.ic_queue_rounds.proofs.second.all_handled.Goals as goal
+use Rattle.ic_queue_rounds.proofs.second.deliver_all.Goals as goal
 
 -- those to come, and the one that is met
 turned : (limit : ℕ) (start : Parts) (inside all yielded : List Message) (m : Message) (now : Parts) → (length yielded < length all) × (m ≡ get_or all (length yielded) m)
@@ -14,8 +14,8 @@ turned : (limit : ℕ) (start : Parts) (inside all yielded : List Message) (m : 
 turned limit start inside all yielded m now here so_far =
     subst (λ (l : List Message). Passing limit start inside l now) (drop_more all (length yielded) m here.0 ∙ ap (λ x. x ∷ drop (length yielded + 1) all) (sym here.1)) so_far
 
-pub handle-requires-clause-next : goal.handle-requires-clause-next
-handle-requires-clause-next c =
+pub deliver_outside-requires-clause-next : goal.deliver_outside-requires-clause-next
+deliver_outside-requires-clause-next c =
     let gives = c.into_iter-message-iterator.ensures.into_iter_gives in
     let road = YieldsList-from_vec {s = c.into_iter-message-iterator.result} c.args.outs.items gives.0 (gives.1 ∙ c.args.outs.ok.0) in
     let here = YieldsList-turn road c.loop-message.yielded c.loop-message.message-iterator c.loop-message.yielded_by c.next.result c.next.new.self c.in-Some.message c.in-Some.is c.next.ensures.steps in
@@ -24,8 +24,8 @@ handle-requires-clause-next c =
     let f = facing c.args.limit given.start given.inside c.loop-message.rest c.in-Some.message _ now in
     (f.kept, (f.todo, f.reaches.keeps))
 
-pub handle-requires-clause-absent : goal.handle-requires-clause-absent
-handle-requires-clause-absent c =
+pub deliver_outside-requires-clause-absent : goal.deliver_outside-requires-clause-absent
+deliver_outside-requires-clause-absent c =
     let gives = c.into_iter-message-iterator.ensures.into_iter_gives in
     let road = YieldsList-from_vec {s = c.into_iter-message-iterator.result} c.args.outs.items gives.0 (gives.1 ∙ c.args.outs.ok.0) in
     let here = YieldsList-turn road c.loop-message.yielded c.loop-message.message-iterator c.loop-message.yielded_by c.next.result c.next.new.self c.in-Some.message c.in-Some.is c.next.ensures.steps in

@@ -3,7 +3,7 @@ use Rattle.std.specs.Map.{lookup}
 use Rattle.ic_behaviour.specs.declared.call.Message.{Message}
 use Rattle.ic_behaviour.specs.State.{at, callee_of}
 use Rattle.ic_mgmt.proofs.Handles.{Handled, taken_out, managed_ok, sent_delivers, answer_delivers}
-use Rattle.ic_mgmt.proofs.outside.handle.Goals as goal
+use Rattle.ic_mgmt.proofs.outside.deliver_outside.Goals as goal
 
 pub manage-requires : goal.manage-requires
 manage-requires c = record { taken = taken_out c.requires.next.0 c.args.message c.args.parts _ c.in-Call.callee c.in-Call.is c.requires.next.1 }
