@@ -11,7 +11,7 @@ use Rattle.cd_grammar.specs.declared.written.Part.{Part}
 use Rattle.cd_did.specs.Faults.{Definitions, all_parts, is_bound, is_defined, repeated}
 use Rattle.cd_grammar.specs.Fits.{parts_of, all_in_main}
 use Rattle.cd_did.specs.Rings.{Apart, AllBound}
-use Rattle.cd_grammar.proofs.Words.{true_or_false}
+use Rattle.cd_tokens.proofs.Fronts.{true_or_false}
 
 abbrev Row : Type 0
 Row = List ℕ × Part

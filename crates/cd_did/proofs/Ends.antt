@@ -7,7 +7,7 @@ use Rattle.ic_base.proofs.Steps.{some_is}
 use Rattle.cd_grammar.specs.declared.written.Part.{Part}
 use Rattle.cd_did.specs.Faults.{Definitions, IsVacuous, LeadsBack, is_name, StandsBehind}
 use Rattle.cd_did.specs.Rings.{Apart, AllBound, next_place, after_steps, AreJumps, HasEnds, firsts, or_zero, jump_from, is_named, is_named_at, smaller, least_from}
-use Rattle.cd_grammar.proofs.Words.{true_or_false}
+use Rattle.cd_tokens.proofs.Fronts.{true_or_false}
 use Rattle.cd_did.proofs.RingLemmas.{comes, back_is_ring, ring_leads_back, after_sum, reached, ends_on_ring}
 
 abbrev Row : Type 0

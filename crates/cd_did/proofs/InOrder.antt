@@ -11,7 +11,7 @@ use Rattle.std.proofs.lemmas.List.Elements.{All-from_recursion, recursion_from_A
 use Rattle.cd_types.specs.declared.entry.TyRef.{TyRef}
 use Rattle.cd_sub.specs.Rising.{Rising}
 use Rattle.cd_did.specs.InterfaceOf.{put, in_order}
-use Rattle.cd_grammar.proofs.Words.{true_or_false}
+use Rattle.cd_tokens.proofs.Fronts.{true_or_false}
 
 -- ---- all rows
 

@@ -28,7 +28,7 @@ use Rattle.cd_did.specs.Formed.{IsFormed, AllFormed, is_served}
 use Rattle.cd_grammar.specs.Fits.{part_fits, notes_fit, written_fits, FitsFile}
 use Rattle.cd_did.specs.Denotes.{Denotes, StandsFor, MainStands, FileStands}
 use Rattle.cd_did.specs.Interfaces.{HasEnded, service_at, IsTabled, IsWithin}
-use Rattle.cd_grammar.proofs.Words.{true_or_false}
+use Rattle.cd_tokens.proofs.Fronts.{true_or_false}
 use Rattle.cd_did.proofs.ApartLemmas.{apart, all_bound}
 use Rattle.cd_did.proofs.Stands.{Known, Fine, is_fine, is_decided, decided_is, AreLike, all_like, all_stand}
 use Rattle.cd_did.proofs.Tables.{Whole, made_table, target_within, all_wider}

@@ -14,7 +14,7 @@ use Rattle.cd_types.specs.IsTable.{is_func, is_func_at, is_well_formed, is_table
 use Rattle.cd_types.specs.Shape.{compound, entry_shape, shape}
 use Rattle.cd_types.proofs.EntryLemmas.{test_at}
 use Rattle.cd_types.proofs.FaultLemmas.{both_true}
-use Rattle.cd_grammar.proofs.Words.{true_or_false}
+use Rattle.cd_tokens.proofs.Fronts.{true_or_false}
 use Rattle.cd_did.specs.declared.fault.Interface.{Interface}
 use Rattle.cd_did.specs.Methods.{Function, IsMethod, entry_at, methods_of, function_of, methods_at, function_at, type_named}
 

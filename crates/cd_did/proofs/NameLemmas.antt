@@ -20,7 +20,7 @@ use Rattle.cd_grammar.specs.declared.written.Part.{Part}
 use Rattle.cd_did.specs.Faults.{Definitions}
 use Rattle.cd_did.specs.Sorted.{row}
 use Rattle.cd_did.specs.Entries.{AreNamed}
-use Rattle.cd_grammar.proofs.Words.{true_or_false}
+use Rattle.cd_tokens.proofs.Fronts.{true_or_false}
 
 abbrev Row : Type 0
 Row = List ℕ × TyRef

@@ -13,7 +13,7 @@ use Rattle.std.proofs.lemmas.Slice.Eq.{bytes_eq-Decides}
 use Rattle.std.proofs.lemmas.List.{at_drop_more}
 use Rattle.ic_base.proofs.Steps.{some_is}
 use Rattle.cd_grammar.specs.declared.written.Part.{Part}
-use Rattle.cd_grammar.proofs.Words.{true_or_false}
+use Rattle.cd_tokens.proofs.Fronts.{true_or_false}
 use Rattle.cd_did.specs.Faults.{Definitions, is_defined}
 use Rattle.cd_did.specs.Rings.{place_from}
 use Rattle.cd_did.specs.Places.{Places, found_in, HasPlaces}

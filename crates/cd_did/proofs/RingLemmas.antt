@@ -10,7 +10,7 @@ use Rattle.cd_grammar.specs.declared.written.Part.{Part}
 use Rattle.cd_grammar.specs.declared.written.Part.TheVariants.{Prim, Float, Name, Place}
 use Rattle.cd_did.specs.Faults.{Definitions, definition_of, is_defined, is_bound, name_in, next_name, follow, LeadsBack, is_name, replaced, replaced_times}
 use Rattle.cd_did.specs.Rings.{Apart, AllBound, place_from, next_place, after_steps}
-use Rattle.cd_grammar.proofs.Words.{true_or_false}
+use Rattle.cd_tokens.proofs.Fronts.{true_or_false}
 
 abbrev Row : Type 0
 Row = List ℕ × Part

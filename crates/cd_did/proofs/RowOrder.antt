@@ -19,7 +19,7 @@ use Rattle.cd_did.specs.InterfaceOf.{in_order}
 use Rattle.cd_did.proofs.SortLemmas.{rise_above, sorted_distinct}
 use Rattle.cd_did.proofs.NameLemmas.{rise_behind, sorted_distinct as named_distinct}
 use Rattle.cd_did.proofs.InOrder.{Apart, in_order_is}
-use Rattle.cd_grammar.proofs.Words.{true_or_false}
+use Rattle.cd_tokens.proofs.Fronts.{true_or_false}
 
 -- what holds of all labels
 of_labels : {K : Type 0} (P Q : K → Type 0) → ((x : K) → P x → Q x) → (rows : List (K × TyRef)) → AllByRecursion P (map (λ (r : K × TyRef). r.0) rows) → AllByRecursion (λ (r : K × TyRef). Q r.0) rows

@@ -25,7 +25,7 @@ use Rattle.cd_grammar.specs.Fits.{parts_of, all_in_main}
 use Rattle.cd_grammar.specs.Grammar.{IsFile}
 use Rattle.cd_grammar.specs.Read.{file_at}
 use Rattle.cd_grammar.proofs.Files.{file_takes, file_again}
-use Rattle.cd_grammar.proofs.Words.{true_or_false}
+use Rattle.cd_tokens.proofs.Fronts.{true_or_false}
 use Rattle.cd_did.specs.declared.fault.DidFault.{DidFault}
 use Rattle.cd_did.specs.declared.fault.DidFault.TheVariants.{NotInterface, Float, Repeated, Unbound, Vacuous, Shape, TooMany, NoMemory}
 use Rattle.cd_did.specs.declared.fault.Interface.{Interface}

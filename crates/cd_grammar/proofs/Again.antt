@@ -14,7 +14,8 @@ use Rattle.cd_grammar.specs.Words.{spelling}
 use Rattle.cd_grammar.specs.Grammar.{Writes, WritesField, WritesCase, after_field, no_place, WritesArgument, WritesTuple, WritesNotes, WritesFunction, WritesMethod, WritesName, WritesService, WritesFields, WritesInner, WritesBehind, WritesType, WritesMethodType}
 use Rattle.cd_grammar.specs.Read.{Reads, is_mark, starts, named_at, labelled_at, field_at, case_at, argument_at, tuple_at, first_note, notes_at, function_at, method_at, service_at, fields_at, inner_at, behind_word_at, type_at, method_type_at}
 use Rattle.cd_grammar.proofs.Words.{word_again, free_again, argument_name_again, argument_no_mark, name_no_word, note_again}
-use Rattle.cd_grammar.proofs.PartLemmas.{Complete, enclosed_again}
+use Rattle.cd_tokens.proofs.Parts.{Complete}
+use Rattle.cd_grammar.proofs.PartLemmas.{enclosed_again}
 use Rattle.cd_grammar.proofs.Takes.{first_way, second_way}
 
 -- behind a type: no colon and no annotation

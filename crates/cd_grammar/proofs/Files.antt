@@ -19,8 +19,10 @@ use Rattle.cd_grammar.specs.File.{File}
 use Rattle.cd_grammar.specs.Words.{word}
 use Rattle.cd_grammar.specs.Grammar.{Writes, WritesName, WritesService, WritesType, WritesMethodType, IsEnd, IsServiceName, WritesInstalled, WritesMain, WritesDefinition, WritesRest, WritesFile, IsFile}
 use Rattle.cd_grammar.specs.Read.{is_mark, is_arrow, starts, then_make, token_word, free_name, tuple_at, named_at, service_at, type_at, method_type_at, definition_at, is_type, is_service, passes, is_word, are_none, behind_definition, definitions_at, is_any_word, past_colon, past_name, past_arrow, installed_at, served_at, is_end, main_of, main_at, rest_at, with_rest, file_at}
-use Rattle.cd_grammar.proofs.Words.{true_or_false, started, arrow_started, token_takes, free_takes, any_word_takes, word_again, free_again}
-use Rattle.cd_grammar.proofs.PartLemmas.{Takes}
+use Rattle.cd_tokens.proofs.Fronts.{true_or_false}
+use Rattle.cd_tokens.proofs.Starts.{started}
+use Rattle.cd_grammar.proofs.Words.{arrow_started, token_takes, free_takes, any_word_takes, word_again, free_again}
+use Rattle.cd_tokens.proofs.Parts.{Takes}
 use Rattle.cd_grammar.proofs.Takes.{made_of, chosen, first_way, second_way, named_takes, tuple_takes, service_takes, type_takes, method_type_takes}
 use Rattle.cd_grammar.proofs.Again.{is_free, named_again, tuple_again, service_again, type_again, method_type_again}
 

@@ -1,4 +1,4 @@
--- Reading parts one after the other, as a loop does.
+-- Reading parts one after the other, as a loop does that keeps them with the place of the next; and words and annotations.
 use Rattle.std.proofs.Common.{◌≡◌, ℕ, zero, suc, ◌-◌, ◌+◌, ◌≤◌, ◌<◌, true, false, List, [], ◌∷◌, ◌++◌, drop, Option, Some, None, refl, sym, ap, subst, ◌∙◌, append_assoc, arith}
 use Rattle.std.proofs.lemmas.List.{append-nil}
 use Rattle.ic_base.specs.declared.read_error.ReadError.{ReadError}
@@ -7,30 +7,11 @@ use Rattle.ic_base.specs.Gives.{Fails}
 use Rattle.ic_base.specs.Reader.{◌>>=◌}
 use Rattle.ic_base.proofs.Steps.{bind_some, some_is}
 use Rattle.cd_tokens.specs.Token.{Token}
+use Rattle.cd_tokens.proofs.Loops as loops
+use Rattle.cd_tokens.proofs.Loops.{Still}
 use Rattle.cd_grammar.specs.declared.word.Word.{Word}
 use Rattle.cd_grammar.specs.declared.written.Written.{Written}
-use Rattle.cd_grammar.specs.Read.{Reading, is_mark, starts, then_make, put_behind, parts_at, token_note, first_note, notes_at, first_word, named_at, behind_word_at, type_at, method_type_at}
-
--- what was read before, and what is still read
-abbrev pub with_front : {S A : Type 0} → List A → Option (List A × S × List Token) → Option (List A × S × List Token)
-with_front front read = then_make (λ xs. front ++ xs) read
-
-regrouped : {S A : Type 0} (front : List A) (x : A) (read : Option (List A × S × List Token)) → with_front front (then_make (λ xs. x ∷ xs) read) ≡ with_front (front ++ x ∷ []) read
-regrouped {S} {A} front x (Some xs) = ap (λ (ys : List A). Some (ys, xs.1, xs.2)) (sym (append_assoc front (x ∷ []) xs.0))
-regrouped front x None = refl
-
--- the state of a loop over parts
-abbrev pub Still : {S A : Type 0} → ℕ → ℕ → (ℕ → Reading S A) → (A → ℕ) → List A → ℕ → ℕ → S → List Token → Option (List A × S × List Token) → Type 0
-Still separator end read step front fuel next state tokens total = with_front front (parts_at separator end read step fuel next state tokens) ≡ total
-
--- the end stands there
-pub at_end : {S A : Type 0} (separator end : ℕ) (read : ℕ → Reading S A) (step : A → ℕ) (front : List A) (most i next : ℕ) (state : S) (tokens : List Token) (total : Option (List A × S × List Token))
-    → i < most → starts (is_mark end) tokens ≡ true → Still separator end read step front (most - i) next state tokens total → total ≡ Some (front, state, drop 1 tokens)
-unfolding parts_at
-at_end {S} {A} separator end read step front most i next state tokens total below ended so_far =
-    let more : most - i ≡ suc (most - (i + 1)) = omega arith in
-    let s : with_front front (parts_at separator end read step (most - i) next state tokens) ≡ Some (front, state, drop 1 tokens) = rw (more, ended) (ap (λ (xs : List A). Some (xs, state, drop 1 tokens)) (append-nil front)) in
-    sym so_far ∙ s
+use Rattle.cd_grammar.specs.Read.{Reading, is_mark, starts, put_behind, token_note, first_note, notes_at, first_word, named_at, behind_word_at, type_at, method_type_at}
 
 -- what a part was put behind tells of the part
 pub by_part : {S A : Type 0} (read : Option (A × S × List Token)) (step : A → ℕ) (front : List A) (P : List A × ℕ × S × List Token → Type 0) → ((x : A × S × List Token) → read ≡ Some x → P (front ++ x.0 ∷ [], step x.0, x.1, x.2))
@@ -43,61 +24,40 @@ pub no_part : {S A : Type 0} (read : Option (A × S × List Token)) (step : A �
 no_part None step front e = refl
 no_part (Some x) step front e = absurd cc
 
--- no part stands there
+-- what reads a part refuses where nothing is put after those before
+fails_part : {S A : Type 0} (e : ReadError) (read : Option (A × S × List Token)) (step : A → ℕ) (front : List A) → Fails e (read >>= put_behind step front) → Fails e read
+fails_part NoMemory read step front none = tt
+fails_part Refused read step front none = no_part read step front none
+
+-- there is no part
 pub no_part_there : {S A : Type 0} (e : ReadError) (separator end : ℕ) (read : ℕ → Reading S A) (step : A → ℕ) (front : List A) (most i next : ℕ) (state : S) (tokens : List Token) (total : Option (List A × S × List Token))
     → i < most → starts (is_mark end) tokens ≡ false → Fails e (read next state tokens >>= put_behind step front) → Still separator end read step front (most - i) next state tokens total → Fails e total
-unfolding parts_at
-no_part_there NoMemory separator end read step front most i next state tokens total below on none so_far = tt
-no_part_there Refused separator end read step front most i next state tokens total below on none so_far =
-    let more : most - i ≡ suc (most - (i + 1)) = omega arith in
-    let s : with_front front (parts_at separator end read step (most - i) next state tokens) ≡ None = rw (more, on, no_part (read next state tokens) step front none) refl in
-    sym so_far ∙ s
+no_part_there e separator end read step front most i next state tokens total below on none so_far =
+    loops.no_part_there e separator end read step front most i next state tokens total below on (fails_part e (read next state tokens) step front none) so_far
 
 -- the last part
 pub last_part : {S A : Type 0} (separator end : ℕ) (read : ℕ → Reading S A) (step : A → ℕ) (front : List A) (most i next : ℕ) (state : S) (tokens : List Token) (total : Option (List A × S × List Token)) (y : List A × ℕ × S × List Token)
     → i < most → starts (is_mark end) tokens ≡ false → (read next state tokens >>= put_behind step front) ≡ Some y → starts (is_mark end) y.3 ≡ true → Still separator end read step front (most - i) next state tokens total
     → total ≡ Some (y.0, y.2, drop 1 y.3)
-unfolding parts_at
 last_part {S} {A} separator end read step front most i next state tokens total y below on one ended so_far =
-    let more : most - i ≡ suc (most - (i + 1)) = omega arith in
     by_part (read next state tokens) step front (λ (y : List A × ℕ × S × List Token). starts (is_mark end) y.3 ≡ true → total ≡ Some (y.0, y.2, drop 1 y.3))
-    (λ x is ends.
-    let s : with_front front (parts_at separator end read step (most - i) next state tokens) ≡ Some (front ++ x.0 ∷ [], x.1, drop 1 x.2) = rw (more, on, is, ends) refl in
-    sym so_far ∙ s) y one ended
+    (λ x is ends. loops.last_part separator end read step front most i next state tokens total x.0 x.1 x.2 below on is ends so_far) y one ended
 
 -- neither an end nor a separator
 pub no_separator : {S A : Type 0} (separator end : ℕ) (read : ℕ → Reading S A) (step : A → ℕ) (front : List A) (most i next : ℕ) (state : S) (tokens : List Token) (total : Option (List A × S × List Token)) (y : List A × ℕ × S × List Token)
     → i < most → starts (is_mark end) tokens ≡ false → (read next state tokens >>= put_behind step front) ≡ Some y → starts (is_mark end) y.3 ≡ false → starts (is_mark separator) y.3 ≡ false → Still separator end read step front (most - i) next state tokens total
     → total ≡ None
-unfolding parts_at
 no_separator {S} {A} separator end read step front most i next state tokens total y below on one other stuck so_far =
-    let more : most - i ≡ suc (most - (i + 1)) = omega arith in
     by_part (read next state tokens) step front (λ (y : List A × ℕ × S × List Token). starts (is_mark end) y.3 ≡ false → starts (is_mark separator) y.3 ≡ false → total ≡ None)
-    (λ x is goes stays.
-    let s : with_front front (parts_at separator end read step (most - i) next state tokens) ≡ None = rw (more, on, is, goes, stays) refl in
-    sym so_far ∙ s) y one other stuck
+    (λ x is goes stays. loops.no_separator separator end read step front most i next state tokens total x.0 x.1 x.2 below on is goes stays so_far) y one other stuck
 
 -- one more part
 pub part_read : {S A : Type 0} (separator end : ℕ) (read : ℕ → Reading S A) (step : A → ℕ) (front : List A) (most i next : ℕ) (state : S) (tokens : List Token) (total : Option (List A × S × List Token)) (y : List A × ℕ × S × List Token)
     → i < most → starts (is_mark end) tokens ≡ false → (read next state tokens >>= put_behind step front) ≡ Some y → starts (is_mark end) y.3 ≡ false → starts (is_mark separator) y.3 ≡ true → Still separator end read step front (most - i) next state tokens total
     → Still separator end read step y.0 (most - (i + 1)) y.1 y.2 (drop 1 y.3) total
-unfolding parts_at
 part_read {S} {A} separator end read step front most i next state tokens total y below on one other again so_far =
-    let more : most - i ≡ suc (most - (i + 1)) = omega arith in
     by_part (read next state tokens) step front (λ (y : List A × ℕ × S × List Token). starts (is_mark end) y.3 ≡ false → starts (is_mark separator) y.3 ≡ true → Still separator end read step y.0 (most - (i + 1)) y.1 y.2 (drop 1 y.3) total)
-    (λ x is goes parts.
-    let s : with_front front (parts_at separator end read step (most - i) next state tokens) ≡ with_front (front ++ x.0 ∷ []) (parts_at separator end read step (most - (i + 1)) (step x.0) x.1 (drop 1 x.2)) =
-    rw (more, on, is, goes, parts) (regrouped front x.0 (parts_at separator end read step (most - (i + 1)) (step x.0) x.1 (drop 1 x.2))) in
-    sym s ∙ so_far) y one other again
-
--- nothing more is looked at
-pub no_fuel : {S A : Type 0} (separator end : ℕ) (read : ℕ → Reading S A) (step : A → ℕ) (front : List A) (most i next : ℕ) (state : S) (tokens : List Token) (total : Option (List A × S × List Token))
-    → most ≤ i → Still separator end read step front (most - i) next state tokens total → total ≡ None
-unfolding parts_at
-no_fuel separator end read step front most i next state tokens total past so_far =
-    let zero_is : most - i ≡ 0 = omega arith in
-    let s : with_front front (parts_at separator end read step (most - i) next state tokens) ≡ None = rw zero_is refl in
-    sym so_far ∙ s
+    (λ x is goes parts. loops.part_read separator end read step front most i next state tokens total x.0 x.1 x.2 below on is goes parts so_far) y one other again
 
 -- ---- a type by its first word
 

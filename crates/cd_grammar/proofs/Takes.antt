@@ -15,8 +15,11 @@ use Rattle.cd_grammar.specs.declared.written.Written.{Written}
 use Rattle.cd_grammar.specs.declared.written.Written.TheVariants.{Opt, Seq, Rec, Var, Func, Service}
 use Rattle.cd_grammar.specs.Grammar.{Writing, Writes, WritesLabelled, WritesField, WritesCase, after_field, no_place, WritesArgument, WritesTuple, WritesNotes, WritesFunction, WritesMethod, WritesName, WritesService, WritesFields, WritesInner, WritesBehind, WritesType, WritesMethodType}
 use Rattle.cd_grammar.specs.Read.{Reads, is_mark, is_arrow, starts, then_make, enclosed_at, added, token_word, free_name, named_at, labelled_at, field_at, case_at, is_argument_name, argument_at, tuple_at, token_note, with_note, notes_at, noted, results_at, function_at, method_at, service_at, fields_at, inner_at, behind_word_at, worded_at, type_at, method_type_at}
-use Rattle.cd_grammar.proofs.Words.{true_or_false, started, arrow_started, token_takes, free_takes, argument_name_takes, note_takes}
-use Rattle.cd_grammar.proofs.PartLemmas.{Takes, Sound, enclosed_takes}
+use Rattle.cd_tokens.proofs.Fronts.{true_or_false}
+use Rattle.cd_tokens.proofs.Starts.{started}
+use Rattle.cd_grammar.proofs.Words.{arrow_started, token_takes, free_takes, argument_name_takes, note_takes}
+use Rattle.cd_tokens.proofs.Parts.{Takes, Sound}
+use Rattle.cd_grammar.proofs.PartLemmas.{enclosed_takes}
 
 -- the value of which something was made
 pub made_of : {S A B : Type 0} (f : A → B) (read : Option (A × S × List Token)) (z : B × S × List Token) → then_make f read ≡ Some z → (a : A × S × List Token) × (read ≡ Some a) × ((f a.0, a.1, a.2) ≡ z)

@@ -4,7 +4,7 @@ use Rattle.std.specs.Prelude.{bytes_eq, find}
 use Rattle.cd_grammar.specs.declared.word.Word.{Word}
 use Rattle.cd_grammar.specs.declared.word.TheConstants.{WORDS}
 use Rattle.cd_grammar.specs.Words.{spelling, words, word_in, word_of}
-use Rattle.cd_grammar.proofs.Words.{true_or_false}
+use Rattle.cd_tokens.proofs.Fronts.{true_or_false}
 
 abbrev spelled : List Word → List (List ℕ × Word)
 spelled ws = map (λ w. (spelling w, w)) ws

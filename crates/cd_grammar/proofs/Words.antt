@@ -9,31 +9,13 @@ use Rattle.cd_tokens.specs.Label.{is_name}
 use Rattle.cd_tokens.specs.ReadString.{unescaped_of}
 use Rattle.cd_tokens.specs.Unescaped.{Unescaped}
 use Rattle.cd_tokens.proofs.Strings.{unescaped_again, unescaped_takes}
+use Rattle.cd_tokens.proofs.Fronts.{true_or_false}
+use Rattle.cd_tokens.proofs.Starts.{is_equal}
 use Rattle.cd_grammar.specs.declared.word.Word.{Word}
 use Rattle.cd_grammar.specs.declared.word.Word.TheVariants.{Prim, Float32, Float64, Blob, Opt, Seq, Rec, Var, Func, Service, Definition, Query, Oneway, CompositeQuery}
 use Rattle.cd_grammar.specs.Words.{spelling, words, word_of, word, IsFreeName, note_of}
 use Rattle.cd_grammar.specs.Grammar.{IsArgumentName}
 use Rattle.cd_grammar.specs.Read.{is_mark, is_arrow, starts, token_word, unless_word, free_name, is_argument_name, is_any_word, token_note}
-
-pub true_or_false : (b : Bool) → (b ≡ true) ⊎ (b ≡ false)
-true_or_false true = inl refl
-true_or_false false = inr refl
-
-pub is_equal : (a b : ℕ) → (a == b) ≡ true → a ≡ b
-is_equal a b e = grind arith
-
-pub same_mark : (k : ℕ) → (k == k) ≡ true
-same_mark k = grind arith
-
-mark_is : (k : ℕ) (t : Token) → is_mark k t ≡ true → t ≡ mark k
-mark_is k (run r) e = absurd cc
-mark_is k (quoted s) e = absurd cc
-mark_is k (mark m) e = ap mark (is_equal m k e)
-mark_is k arrow e = absurd cc
-
-pub started : (k : ℕ) (tokens : List Token) → starts (is_mark k) tokens ≡ true → tokens ≡ mark k ∷ drop 1 tokens
-started k [] e = absurd cc
-started k (t ∷ rest) e = ap (λ (x : Token). x ∷ rest) (mark_is k t e)
 
 arrow_is : (t : Token) → is_arrow t ≡ true → t ≡ arrow
 arrow_is (run r) e = absurd cc

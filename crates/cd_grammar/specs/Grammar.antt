@@ -6,6 +6,7 @@ use Rattle.cd_tokens.specs.Token.{Token, run, quoted, mark, arrow}
 use Rattle.cd_tokens.specs.Label.{is_name, IsLabel, IsNameOf}
 use Rattle.cd_tokens.specs.Lexed.{IsTokens}
 use Rattle.cd_tokens.specs.Unescaped.{Unescaped}
+pub use Rattle.cd_tokens.specs.WritesParts.{Writing, WritesParts}
 use Rattle.cd_grammar.specs.declared.word.Word.{Word}
 use Rattle.cd_grammar.specs.declared.word.Word.TheVariants as words
 use Rattle.cd_grammar.specs.declared.written.Part.{Part}
@@ -16,18 +17,9 @@ use Rattle.cd_grammar.specs.File.{File}
 use Rattle.cd_grammar.specs.declared.written.Main.{Main}
 use Rattle.cd_grammar.specs.Words.{word, IsFreeName, note_of, opening, closing, open_brace, close_brace, comma, colon, semicolon, equals}
 
--- how something is written: of the state before, itself, the state behind, and its tokens. The state is the list of the types with parts that are written so far
-abbrev pub Writing : Type 0 → Type 0 → Type 1
-Writing S A = S → A → S → List Token → Type 0
-
+-- how something is written, with the types with parts that are written so far as state
 abbrev pub Writes : Type 0 → Type 1
 Writes A = Writing (List Written) A
-
--- parts up to a closing mark, a separator between and maybe one behind the last; `next` is what `step` makes of the part before
-abbrev pub WritesParts : {S A : Type 0} → Token → Token → (ℕ → Writing S A) → (A → ℕ) → ℕ → Writing S (List A)
-WritesParts separator end P step next before [] after tokens = (after ≡ before) × (tokens ≡ end ∷ [])
-WritesParts {S} separator end P step next before (x ∷ xs) after tokens = (between : S) × (front : List Token) × (rest : List Token) × (tokens ≡ front ++ rest) × P next before x between front
-    × (((xs ≡ []) × (after ≡ between) × (rest ≡ end ∷ [])) ⊎ ((more : List Token) × (rest ≡ separator ∷ more) × WritesParts separator end P step (step x) between xs after more))
 
 -- one more type is written, at the next place
 abbrev pub Adds : List Written → Written → Part → List Written → Type 0

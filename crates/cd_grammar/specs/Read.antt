@@ -1,5 +1,5 @@
 -- Interface files as functions that read tokens.
-use Rattle.std.specs.Prelude.{ℕ, zero, suc, Bool, true, false, ◌==◌, ◌+◌, List, [], ◌∷◌, ◌++◌, length, drop, Option, Some, None, is_some, if◌then◌else◌}
+use Rattle.std.specs.Prelude.{ℕ, zero, suc, Bool, true, false, ◌+◌, List, [], ◌∷◌, ◌++◌, length, drop, Option, Some, None, is_some, if◌then◌else◌}
 use Rattle.ic_base.specs.Reader.{◌>>=◌}
 use Rattle.cd_types.specs.declared.primitive.Primitive.TheVariants as primitives
 use Rattle.cd_tokens.specs.Token.{Token, run, quoted, mark, arrow}
@@ -18,20 +18,12 @@ use Rattle.cd_grammar.specs.declared.written.Main.{Main}
 use Rattle.cd_grammar.specs.File.{File}
 use Rattle.cd_grammar.specs.Words.{word_of, note_of}
 use Rattle.cd_grammar.specs.Grammar.{after_field, no_place, max_depth}
+pub use Rattle.cd_tokens.specs.Front.{is_mark, starts}
+pub use Rattle.cd_tokens.specs.ReadParts.{Reading, then_make, parts_at}
 
--- what reads something from the front of the tokens: with a state, as the list of the types with parts that are written so far
-abbrev pub Reading : Type 0 → Type 0 → Type 0
-Reading S A = S → List Token → Option (A × S × List Token)
-
+-- what reads something with the types with parts that are written so far as state
 abbrev pub Reads : Type 0 → Type 0
 Reads A = Reading (List Written) A
-
--- the token is this mark
-abbrev pub is_mark : ℕ → Token → Bool
-is_mark k (run r) = false
-is_mark k (quoted s) = false
-is_mark k (mark m) = m == k
-is_mark k arrow = false
 
 abbrev pub is_arrow : Token → Bool
 is_arrow (run r) = false
@@ -39,34 +31,12 @@ is_arrow (quoted s) = false
 is_arrow (mark m) = false
 is_arrow arrow = true
 
--- the first token passes
-abbrev pub starts : (Token → Bool) → List Token → Bool
-starts test [] = false
-starts test (t ∷ rest) = test t
-
--- what f makes of what is read
-abbrev pub then_make : {S A B : Type 0} → (A → B) → Option (A × S × List Token) → Option (B × S × List Token)
-then_make f read = read >>= λ x. Some (f x.0, x.1, x.2)
-
--- behind a part: the end, or a separator and more parts
-abbrev pub behind_at : {S A : Type 0} → ℕ → ℕ → (A → Reading S (List A)) → A × S × List Token → Option (List A × S × List Token)
-behind_at separator end more x =
-    if starts (is_mark end) x.2 then Some (x.0 ∷ [], x.1, drop 1 x.2)
-    else if starts (is_mark separator) x.2 then then_make (λ xs. x.0 ∷ xs) (more x.0 x.1 (drop 1 x.2)) else None
-
 -- a part behind those before it, and what `step` makes of it
 abbrev pub put_behind : {S A : Type 0} → (A → ℕ) → List A → A × S × List Token → Option (List A × ℕ × S × List Token)
 put_behind step front x = Some (front ++ x.0 ∷ [], step x.0, x.1, x.2)
 
 abbrev pub with_part : {S A : Type 0} → (A → ℕ) → List A → Option (A × S × List Token) → Option (List A × ℕ × S × List Token)
 with_part step front read = read >>= put_behind step front
-
--- parts up to a closing mark, fewer than `fuel`
-unfoldable pub parts_at : {S A : Type 0} → ℕ → ℕ → (ℕ → Reading S A) → (A → ℕ) → ℕ → ℕ → Reading S (List A)
-parts_at separator end read step zero next state tokens = None
-parts_at separator end read step (suc fuel) next state tokens =
-    if starts (is_mark end) tokens then Some ([], state, drop 1 tokens)
-    else (read next state tokens >>= behind_at separator end (λ x. parts_at separator end read step fuel (step x)))
 
 -- parts behind an opening mark
 abbrev pub enclosed_at : {S A : Type 0} → ℕ → ℕ → ℕ → (ℕ → Reading S A) → (A → ℕ) → Reading S (List A)

@@ -1,7 +1,8 @@
 -- The words and marks of interface files (Candid specification, "Core Grammar").
 use Rattle.std.specs.Prelude.{◌≡◌, ℕ, true, bytes_eq, find, if◌then◌else◌, List, [], ◌∷◌, Option, Some, None, codes}
 use Rattle.cd_types.specs.declared.primitive.Primitive.TheVariants as primitives
-use Rattle.cd_tokens.specs.Token.{Token, run, mark}
+use Rattle.cd_tokens.specs.Token.{Token, run}
+pub use Rattle.cd_tokens.specs.Marks.{opening, closing, open_brace, close_brace, comma, semicolon, colon, equals}
 use Rattle.cd_tokens.specs.Label.{is_name}
 use Rattle.cd_grammar.specs.declared.word.Word.{Word}
 use Rattle.cd_grammar.specs.declared.word.Word.TheVariants.{Prim, Float32, Float64, Blob, Opt, Seq, Rec, Var, Func, Service, Definition, Query, Oneway, CompositeQuery}
@@ -67,27 +68,3 @@ note_of Query = Some 1
 note_of Oneway = Some 2
 note_of CompositeQuery = Some 3
 note_of _ = None
-
-abbrev pub opening : Token
-opening = mark 40
-
-abbrev pub closing : Token
-closing = mark 41
-
-abbrev pub open_brace : Token
-open_brace = mark 123
-
-abbrev pub close_brace : Token
-close_brace = mark 125
-
-abbrev pub comma : Token
-comma = mark 44
-
-abbrev pub colon : Token
-colon = mark 58
-
-abbrev pub semicolon : Token
-semicolon = mark 59
-
-abbrev pub equals : Token
-equals = mark 61

@@ -8,11 +8,11 @@ ghost use Rattle.cd_grammar.specs.Fits.{FitsFile};
 ghost use Rattle.cd_grammar.specs.Grammar.{IsFile, no_place};
 ghost use Rattle.cd_grammar.specs.Read.{starts, with_part, is_word, is_type, is_service, are_none, is_end, defined_as, definition_at, definitions_at, past_colon, past_name, installed_at, served_at, main_with, main_at, rest_at, file_from, file_at};
 
-use crate::front::{is_any_word, name_of, rest_of, starts_arrow, starts_mark, word_of};
+use crate::front::{is_any_word, name_of, starts_arrow, word_of};
 use crate::reading::{Reader, named_of, service_of, tuple_of, type_of};
 use crate::word::Word;
 use crate::written::{File, Main, Part, Parts};
-use cd_tokens::{Token, tokens_of};
+use cd_tokens::{Token, rest_of, starts_mark, tokens_of};
 use ic_base::ReadError;
 use ic_principal::Bytes;
 use std::alloc::Global;

@@ -1,8 +1,8 @@
-ghost use Rattle.std.specs.Prelude.{◌≡◌, drop};
+ghost use Rattle.std.specs.Prelude.{◌≡◌};
 ghost use Rattle.ic_base.specs.Gives.{Gives};
 ghost use Rattle.cd_tokens.specs.View.{token_view, token_views};
 ghost use Rattle.cd_grammar.specs.Words.{word_of};
-ghost use Rattle.cd_grammar.specs.Read.{is_mark, is_arrow, starts, first_word, token_word, is_any_word, is_argument_name, free_name, unless_word};
+ghost use Rattle.cd_grammar.specs.Read.{is_arrow, starts, first_word, token_word, is_any_word, is_argument_name, free_name, unless_word};
 
 use crate::word::Word;
 use cd_tokens::{Token, is_name, says_bytes};
@@ -10,22 +10,7 @@ use ic_base::ReadError;
 use ic_principal::Bytes;
 use std::alloc::Global;
 
-/// Whether the mark stands first.
-pub(crate) fn starts_mark(tokens: &[Token<'_>], mark: u8) -> bool
-    ensures { result ≡ starts (is_mark mark) (token_views tokens.now) }
-{
-    match tokens {
-        [] => false,
-        [first, ..] => match first {
-            Token::Mark(other) => *other == mark,
-            Token::Run(_) => false,
-            Token::Quoted(_) => false,
-            Token::Arrow => false,
-        },
-    }
-}
-
-/// Whether `->` stands first.
+/// Whether `->` comes first.
 pub(crate) fn starts_arrow(tokens: &[Token<'_>]) -> bool
     ensures { result ≡ starts is_arrow (token_views tokens.now) }
 {
@@ -37,16 +22,6 @@ pub(crate) fn starts_arrow(tokens: &[Token<'_>]) -> bool
             Token::Run(_) => false,
             Token::Quoted(_) => false,
         },
-    }
-}
-
-/// The tokens behind the first.
-pub(crate) fn rest_of<'t, 'a>(tokens: &'t [Token<'a>]) -> &'t [Token<'a>]
-    ensures { token_views result.now ≡ drop 1 (token_views tokens.now) }
-{
-    match tokens {
-        [] => tokens,
-        [_, rest @ ..] => rest,
     }
 }
 

@@ -9,12 +9,10 @@ ghost use Rattle.cd_grammar.specs.declared.written.Written.TheVariants.{Opt, Seq
 ghost use Rattle.cd_grammar.specs.Grammar.{no_place};
 ghost use Rattle.cd_grammar.specs.Read.{parts_at, then_make, named_at, labelled_at, lone_case, row_at, id_after, after_row, rows_made, with_part, argument_at, tuple_at, first_note, notes_at, noted, results_at, function_at, method_at, service_at, fields_at, inner_at, behind_word_at, type_at, method_type_at};
 
-use crate::front::{
-    first_word, is_argument_name, name_of, rest_of, starts_arrow, starts_mark, word_of,
-};
+use crate::front::{first_word, is_argument_name, name_of, starts_arrow, word_of};
 use crate::word::Word;
 use crate::written::{Part, Parts, Written, WrittenFields, WrittenMethods};
-use cd_tokens::{Token, label_of, name_of as method_name};
+use cd_tokens::{Token, label_of, name_of as method_name, rest_of, starts_mark};
 use cd_types::Primitive;
 use ic_base::ReadError;
 use ic_principal::{Bytes, Text};

@@ -1,5 +1,5 @@
 -- Values without parts, as functions that read tokens.
-use Rattle.std.specs.Prelude.{ℕ, ℤ, ◌^◌, ◌==◌, Bool, true, false, bytes_eq, List, [], ◌∷◌, drop, Option, Some, None, codes, if◌then◌else◌}
+use Rattle.std.specs.Prelude.{ℕ, ℤ, ◌^◌, Bool, true, false, List, [], ◌∷◌, drop, Option, Some, None, codes, if◌then◌else◌}
 use Rattle.ic_base.specs.Reader.{◌>>=◌}
 use Rattle.ic_principal.specs.Text.{principal_of}
 use Rattle.cd_types.specs.declared.primitive.Primitive.{Primitive}
@@ -9,29 +9,11 @@ use Rattle.cd_tokens.specs.Token.{Token, run, quoted, mark, arrow}
 use Rattle.cd_tokens.specs.ReadNumeral.{natural_of, integer_of, below, between}
 use Rattle.cd_tokens.specs.ReadLabel.{text_of, name_of}
 use Rattle.cd_tokens.specs.ReadString.{unescaped_of}
+pub use Rattle.cd_tokens.specs.Front.{is_word, is_mark, starts}
 
 -- what reads a value of the front of the tokens
 abbrev pub Taking : Type 0 → Type 0
 Taking A = List Token → Option (A × List Token)
-
--- the token is this word
-abbrev pub is_word : List ℕ → Token → Bool
-is_word w (run r) = bytes_eq r w
-is_word w (quoted s) = false
-is_word w (mark m) = false
-is_word w arrow = false
-
--- the token is this mark
-abbrev pub is_mark : ℕ → Token → Bool
-is_mark k (run r) = false
-is_mark k (quoted s) = false
-is_mark k (mark m) = m == k
-is_mark k arrow = false
-
--- the first token passes
-abbrev pub starts : (Token → Bool) → List Token → Bool
-starts test [] = false
-starts test (t ∷ rest) = test t
 
 -- what a word or a number says
 abbrev pub run_says : {A : Type 0} → (List ℕ → Option A) → Token → Option A

@@ -5,9 +5,7 @@
 mod plain_reader;
 mod plain_writer;
 mod printing;
-mod tokens;
 mod types;
 
 pub use plain_reader::{func_of, natural_below, primitive_of, principal_behind, string_of};
 pub use printing::print;
-pub use tokens::{rest_of, starts_mark, starts_word};

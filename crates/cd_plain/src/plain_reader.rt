@@ -7,9 +7,11 @@ ghost use Rattle.cd_tokens.specs.ReadNumeral.{is_between};
 ghost use Rattle.cd_tokens.specs.View.{token_views};
 ghost use Rattle.cd_plain.specs.ReadPlain.{first_at, word_at, principal_said, behind_word, natural_at, integer_at, taken, takes_memory, text_at, principal_text_at, bool_at, func_at, method_at, primitive_at, alone, string_at};
 
-use crate::tokens::{rest_of, starts_mark, starts_word};
 use cd_codec::Value;
-use cd_tokens::{Token, integer_of, name_of, natural_of, text_of, unescaped_of};
+use cd_tokens::{
+    Token, integer_of, name_of, natural_of, rest_of, starts_mark, starts_word, text_of,
+    unescaped_of,
+};
 use cd_types::Prim;
 use ic_base::ReadError;
 use ic_principal::{Principal, Text};

@@ -23,7 +23,8 @@ use Rattle.cd_text.specs.SaysPlain.{SaysPlain}
 use Rattle.cd_text.specs.Said.{Saying, Annotated, bare, annotated, InParentheses, SaysParts, InBraces, no_place, SaysByte, SaysBlob, type_of, SaysField, labelled, unlabelled, are_distinct, filled, SaysRecord, place_of, SaysCase, valued, alone as null_alone, EndsVariant, SaysVariant, Says}
 use Rattle.cd_plain.specs.ReadPlain.{is_word, is_mark, starts, string_says, Budgeted, string_at}
 use Rattle.cd_text.specs.ReadSaid.{then_make, past_annotation, annotated_at, closed, parenthesized_at, in_braces, item_at, no_place_of, byte_at, blob_at, typed_at, field_at, absent, made, record_at, case_at, variant_ended, chosen_at, variant_at, entry_at, shape_at, spend_one, value_at}
-use Rattle.cd_text.proofs.Parts.{is_equal, Complete, sum_of, parts_again}
+use Rattle.cd_tokens.proofs.Starts.{is_equal}
+use Rattle.cd_text.proofs.Parts.{Complete, sum_of, parts_again}
 use Rattle.cd_text.proofs.Plains.{Again, same_bytes, OneToken, StringOf, first_again, string_again, natural_again_one, func_again, principal_word_again, primitive_again}
 use Rattle.cd_text.proofs.Values.{both, not_true, AtShape, sum_all, nothing, sum_nothing, Good, IsGood, number_field, Within, fits_all, filled_weight, weight_is, within}
 

@@ -30,7 +30,9 @@ use Rattle.cd_text.specs.Whole.{SaysArgument, Said}
 use Rattle.cd_text.specs.Placed.{placed}
 use Rattle.cd_plain.specs.ReadPlain.{is_mark, starts}
 use Rattle.cd_text.specs.ReadSaid.{then_make, annotated_at, after_field, parts_at, value_at, argument_at, all_said, arguments_at}
-use Rattle.cd_text.proofs.Parts.{true_or_false, is_equal, Consumes, Sound, Complete, started, sum_of, parts_take, parts_again}
+use Rattle.cd_tokens.proofs.Fronts.{true_or_false}
+use Rattle.cd_tokens.proofs.Starts.{is_equal, started}
+use Rattle.cd_text.proofs.Parts.{Consumes, Sound, Complete, sum_of, parts_take, parts_again}
 use Rattle.cd_text.proofs.Values.{both, Good, IsGood, fields_distinct, number_field, annotated_takes, value_takes}
 use Rattle.cd_text.proofs.Again.{calm, fewer, annotated_again, value_again, annotated_open}
 

@@ -15,7 +15,7 @@ use Rattle.cd_tokens.specs.Numeral.{digit_of}
 use Rattle.cd_tokens.specs.Token.{is_closed}
 use Rattle.cd_tokens.specs.Unescaped.{Part, byte, letter, pair, SaysPart, letter_says, Unescaped}
 use Rattle.cd_plain.specs.Printed.{hex_escape, escape}
-use Rattle.cd_text.proofs.Parts.{true_or_false}
+use Rattle.cd_tokens.proofs.Fronts.{true_or_false}
 use Rattle.cd_text.proofs.Values.{both}
 
 -- ---- digits

@@ -10,7 +10,8 @@ use Rattle.ic_base.proofs.Steps.{bind_some, some_is}
 use Rattle.cd_types.specs.declared.entry.TyRef.{TyRef}
 use Rattle.cd_types.specs.IsOrdered.{ids_rise_from}
 use Rattle.cd_text.specs.Said.{type_of, place_of}
-use Rattle.cd_text.proofs.Parts.{true_or_false, is_equal}
+use Rattle.cd_tokens.proofs.Fronts.{true_or_false}
+use Rattle.cd_tokens.proofs.Starts.{is_equal}
 use Rattle.cd_text.proofs.Values.{both, are_fields, fields_distinct}
 use Rattle.cd_text.proofs.Narrow.{typed_there}
 

@@ -15,7 +15,7 @@ use Rattle.cd_types.specs.declared.entry.TyRef.{TyRef}
 use Rattle.cd_codec.specs.Content.{Content, variant}
 use Rattle.cd_text.specs.Said.{type_of, place_of}
 use Rattle.cd_text.specs.ReadSaid.{null_at, case_at, variant_ended, chosen_at, entry_at, value_at}
-use Rattle.cd_text.proofs.Parts.{true_or_false}
+use Rattle.cd_tokens.proofs.Fronts.{true_or_false}
 
 no_entry : (entry : Option Entry) (depth left : ℕ) (tokens : List Token) → null_at depth (entry_shape entry) left tokens ≡ None
 no_entry entry zero left tokens = refl

@@ -18,7 +18,8 @@ use Rattle.cd_tokens.proofs.Strings.{is_below}
 use Rattle.cd_tokens.proofs.Labels.{text_again, text_takes, name_again, name_takes, below_takes}
 use Rattle.cd_text.specs.SaysPlain.{SaysNatural, SaysInteger, IsPrincipalText, SaysPrincipal, SaysFunc, SaysPlain}
 use Rattle.cd_plain.specs.ReadPlain.{Taking, is_word, is_mark, starts, run_says, string_says, first_at, taken, behind_word, word_at, natural_at, integer_at, text_at, principal_text_at, bool_at, method_at, func_at, primitive_at}
-use Rattle.cd_text.proofs.Parts.{true_or_false, started}
+use Rattle.cd_tokens.proofs.Fronts.{true_or_false}
+use Rattle.cd_tokens.proofs.Starts.{started}
 
 -- what says a value: some tokens
 abbrev pub Words : Type 0 → Type 1

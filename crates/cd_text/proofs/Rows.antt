@@ -9,7 +9,8 @@ use Rattle.cd_tokens.specs.Token.{run, mark}
 use Rattle.cd_tokens.specs.ReadNumeral.{digits_from, numeral_of, natural_of}
 use Rattle.cd_tokens.specs.ReadLabel.{label_of}
 use Rattle.cd_plain.specs.Printed.{printed, value_text}
-use Rattle.cd_text.specs.ReadSaid.{arguments_at, value_at, parts_at, entry_at, made}
+use Rattle.cd_tokens.specs.ReadParts.{parts_at}
+use Rattle.cd_text.specs.ReadSaid.{arguments_at, value_at, entry_at, made}
 use Rattle.cd_plain.specs.ReadPlain.{primitive_at, natural_at, bool_at}
 use Rattle.cd_text.specs.Words.{name_of}
 

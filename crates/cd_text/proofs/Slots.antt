@@ -22,7 +22,8 @@ use Rattle.cd_types.specs.IsOrdered.{ids_rise_from}
 use Rattle.cd_codec.specs.View.{view, views_of_fields}
 use Rattle.cd_text.specs.Said.{type_of, value_of, is_absent, place_of, left_out, filled}
 use Rattle.cd_text.specs.ReadSaid.{slot_view, is_field, fits, slots_at, filled_slots, absent, made}
-use Rattle.cd_text.proofs.Parts.{true_or_false, is_equal}
+use Rattle.cd_tokens.proofs.Fronts.{true_or_false}
+use Rattle.cd_tokens.proofs.Starts.{is_equal}
 use Rattle.cd_text.proofs.Values.{both, not_said, are_fields, fields_distinct, absent_count}
 
 abbrev pub empty_slots : List (ℕ × TyRef) → List (Option Content)

@@ -28,7 +28,9 @@ use Rattle.cd_text.specs.SaysPlain.{SaysPlain, SaysPrincipal, SaysFunc}
 use Rattle.cd_text.specs.Said.{Saying, Annotated, bare, annotated, InParentheses, SaysParts, InBraces, no_place, SaysByte, SaysBlob, type_of, SaysField, labelled, unlabelled, value_of, is_absent, are_distinct, left_out, filled, place_of, SaysCase, valued, alone as null_alone, EndsVariant, SaysShape, Says}
 use Rattle.cd_plain.specs.ReadPlain.{Taking, is_word, is_mark, starts, string_says, behind_word, natural_at, principal_text_at, func_at, primitive_at, Budgeted, alone, string_at}
 use Rattle.cd_text.specs.ReadSaid.{then_make, past_name, past_annotation, with_annotation, annotated_at, closed, parenthesized_at, parts_at, in_braces, opt_at, item_at, no_place_of, list_at, byte_at, blob_at, typed_at, field_at, after_field, absent, is_field, fits, made, record_at, null_at, case_at, variant_ended, chosen_at, labelled_at, variant_at, entry_at, shape_at, spend_one, value_at}
-use Rattle.cd_text.proofs.Parts.{is_equal, true_or_false, Consumes, Sound, started, sum_of, parts_take}
+use Rattle.cd_tokens.proofs.Fronts.{true_or_false}
+use Rattle.cd_tokens.proofs.Starts.{is_equal, started}
+use Rattle.cd_text.proofs.Parts.{Consumes, Sound, sum_of, parts_take}
 use Rattle.cd_text.proofs.Plains.{Words, Takes, word_started, OneToken, StringOf, first_takes, string_takes, natural_takes_one, func_takes, principal_word_takes, primitive_takes}
 
 pub both : (a b : Bool) → (a && b) ≡ true → (a ≡ true) × (b ≡ true)

@@ -17,11 +17,8 @@ use Rattle.cd_codec.specs.declared.value.Value.{Value}
 use Rattle.cd_codec.specs.View.{view}
 use Rattle.cd_text.specs.Words.{name_of}
 use Rattle.cd_text.specs.Said.{type_of, value_of, is_absent, left_out, filled, place_of}
+pub use Rattle.cd_tokens.specs.ReadParts.{then_make, parts_at}
 use Rattle.cd_plain.specs.ReadPlain.{is_word, is_mark, starts, behind_word, natural_at, string_at, principal_text_at, func_at, primitive_at, Budgeted, alone}
-
--- what f makes of the value
-abbrev pub then_make : {A B : Type 0} → (A → B) → Option (A × ℕ × List Token) → Option (B × ℕ × List Token)
-then_make f read = read >>= λ x. Some (f x.0, x.1, x.2)
 
 -- behind the annotation, where one stands
 abbrev pub past_name : Primitive → List Token → Option (List Token)
@@ -44,19 +41,6 @@ closed x = if starts (is_mark 41) x.2 then Some (x.0, x.1, drop 1 x.2) else None
 -- behind an opening parenthesis
 abbrev pub parenthesized_at : {A : Type 0} → TyRef → Budgeted A → Budgeted A
 parenthesized_at type read left tokens = annotated_at type read left (drop 1 tokens) >>= closed
-
--- behind a part: the end, or a separator and more parts
-abbrev pub behind_at : {A : Type 0} → ℕ → ℕ → (A → Budgeted (List A)) → A × ℕ × List Token → Option (List A × ℕ × List Token)
-behind_at separator end more x =
-    if starts (is_mark end) x.2 then Some (x.0 ∷ [], x.1, drop 1 x.2)
-    else if starts (is_mark separator) x.2 then then_make (λ xs. x.0 ∷ xs) (more x.0 x.1 (drop 1 x.2)) else None
-
--- parts up to a closing mark, fewer than `fuel`
-unfoldable pub parts_at : {A : Type 0} → ℕ → ℕ → (ℕ → Budgeted A) → (A → ℕ) → ℕ → ℕ → Budgeted (List A)
-parts_at separator end read step zero next left tokens = None
-parts_at separator end read step (suc fuel) next left tokens =
-    if starts (is_mark end) tokens then Some ([], left, drop 1 tokens)
-    else (read next left tokens >>= behind_at separator end (λ x. parts_at separator end read step fuel (step x)))
 
 -- parts in braces
 abbrev pub braces_at : {A : Type 0} → (ℕ → Budgeted A) → (A → ℕ) → ℕ → Budgeted (List A)

@@ -2,34 +2,7 @@
 use Rattle.std.specs.Prelude.{ℕ, List, codes}
 use Rattle.cd_types.specs.declared.primitive.Primitive.{Primitive}
 use Rattle.cd_types.specs.declared.primitive.Primitive.TheVariants as primitives
-use Rattle.cd_tokens.specs.Token.{Token, mark}
-
-abbrev pub opening : Token
-opening = mark 40
-
-abbrev pub closing : Token
-closing = mark 41
-
-abbrev pub open_brace : Token
-open_brace = mark 123
-
-abbrev pub close_brace : Token
-close_brace = mark 125
-
-abbrev pub comma : Token
-comma = mark 44
-
-abbrev pub dot : Token
-dot = mark 46
-
-abbrev pub semicolon : Token
-semicolon = mark 59
-
-abbrev pub colon : Token
-colon = mark 58
-
-abbrev pub equals : Token
-equals = mark 61
+pub use Rattle.cd_tokens.specs.Marks.{opening, closing, open_brace, close_brace, comma, dot, semicolon, colon, equals}
 
 -- the name of a primitive type
 unfoldable pub name_of : Primitive → List ℕ

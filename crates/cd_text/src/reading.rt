@@ -12,11 +12,8 @@ ghost use Rattle.cd_text.specs.ReadSaid.{past_annotation, annotated_at, braces_a
 
 use crate::fields::{find, record_made};
 use cd_codec::Value;
-use cd_plain::{
-    func_of, natural_below, primitive_of, principal_behind, rest_of, starts_mark, starts_word,
-    string_of,
-};
-use cd_tokens::{Token, label_of};
+use cd_plain::{func_of, natural_below, primitive_of, principal_behind, string_of};
+use cd_tokens::{Token, label_of, rest_of, starts_mark, starts_word};
 use cd_types::{Entry, Prim, TyRef, TypeTable};
 use ic_base::ReadError;
 use std::alloc::Global;

@@ -6,3 +6,6 @@ pub mod Streams
 pub mod Numerals
 pub mod Strings
 pub mod Labels
+pub mod Starts
+pub mod Parts
+pub mod Loops

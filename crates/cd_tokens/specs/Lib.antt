@@ -6,6 +6,10 @@ pub mod ReadGap
 pub mod ReadToken
 pub mod ReadTokens
 pub mod View
+pub mod Front
+pub mod Marks
+pub mod WritesParts
+pub mod ReadParts
 pub mod Numeral
 pub mod ReadNumeral
 pub mod GoOn

@@ -7,6 +7,7 @@
 #![tactic(auto)]
 
 mod bytes;
+mod front;
 mod gap;
 mod label;
 pub mod laws;
@@ -15,6 +16,7 @@ mod piece;
 mod string;
 mod token;
 
+pub use front::{rest_of, starts_mark, starts_word};
 pub use label::{is_name, label_of, name_of, text_of};
 pub use number::{integer_of, natural_of};
 pub use piece::Piece;

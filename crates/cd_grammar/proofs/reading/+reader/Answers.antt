@@ -3,7 +3,8 @@ use Rattle.std.proofs.lemmas.Result.{err_from_is_err_and}
 use Rattle.cd_tokens.specs.View.{token_views}
 use Rattle.cd_grammar.specs.Grammar.{no_place}
 use Rattle.cd_grammar.specs.Read.{row_at, after_row, argument_at, method_at, type_at, method_type_at}
-use Rattle.cd_grammar.proofs.Loops.{at_end, no_part_there, last_part, no_separator, part_read, no_fuel, type_value, type_named}
+use Rattle.cd_tokens.proofs.Loops.{at_end, no_fuel}
+use Rattle.cd_grammar.proofs.Loops.{no_part_there, last_part, no_separator, part_read, type_value, type_named}
 use Rattle.cd_grammar.proofs.reading.+reader.Goals as goal
 
 pub add_rows-returns-then-starts_mark : goal.add_rows-returns-then-starts_mark

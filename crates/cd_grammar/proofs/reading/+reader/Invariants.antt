@@ -3,7 +3,7 @@ use Rattle.std.proofs.Common.{◌+◌, ◌-◌, ◌*◌, ◌≤◌, ◌^◌}
 use Rattle.cd_tokens.specs.View.{token_views}
 use Rattle.cd_grammar.specs.Grammar.{no_place}
 use Rattle.cd_grammar.specs.Read.{parts_at, row_at, after_row, argument_at, method_at, type_at, method_type_at}
-use Rattle.cd_grammar.proofs.Loops.{Still}
+use Rattle.cd_tokens.proofs.Loops.{Still}
 use Rattle.cd_grammar.proofs.reading.+reader.Given as goal
 
 abbrev pub decreases-type_of : goal.decreases-type_of

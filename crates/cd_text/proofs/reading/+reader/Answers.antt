@@ -12,7 +12,7 @@ use Rattle.cd_tokens.proofs.Streams.{found_is, none_fails}
 use Rattle.cd_codec.specs.Content.{plain, null}
 use Rattle.cd_tokens.specs.View.{token_views}
 use Rattle.cd_text.specs.ReadSaid.{item_at, no_place_of, field_at, after_field, value_at}
-use Rattle.cd_text.proofs.Loops.{at_end, no_part_there, last_part, no_separator, part_read, no_fuel}
+use Rattle.cd_tokens.proofs.Loops.{at_end, no_part_there, last_part, no_separator, part_read, no_fuel}
 use Rattle.cd_text.proofs.reading.+reader.Goals as goal
 
 pub items_of-returns-then-starts_mark : goal.items_of-returns-then-starts_mark

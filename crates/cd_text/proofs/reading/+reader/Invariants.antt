@@ -3,7 +3,7 @@ use Rattle.std.proofs.Common.{◌+◌, ◌-◌, ◌*◌}
 use Rattle.cd_codec.specs.View.{views, views_of_fields}
 use Rattle.cd_tokens.specs.View.{token_views}
 use Rattle.cd_text.specs.ReadSaid.{braces_at, item_at, no_place_of, field_at, after_field, value_at}
-use Rattle.cd_text.proofs.Loops.{Still}
+use Rattle.cd_tokens.proofs.Loops.{Still}
 use Rattle.cd_text.proofs.reading.+reader.Given as goal
 
 abbrev pub decreases-value_of : goal.decreases-value_of

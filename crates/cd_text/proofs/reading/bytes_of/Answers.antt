@@ -3,7 +3,7 @@ use Rattle.std.proofs.lemmas.Result.{err_from_is_err_and}
 use Rattle.cd_tokens.proofs.Streams.{found_is, none_fails}
 use Rattle.cd_tokens.specs.View.{token_views}
 use Rattle.cd_text.specs.ReadSaid.{item_at, no_place_of, byte_at}
-use Rattle.cd_text.proofs.Loops.{at_end, no_part_there, last_part, no_separator, part_read, no_fuel}
+use Rattle.cd_tokens.proofs.Loops.{at_end, no_part_there, last_part, no_separator, part_read, no_fuel}
 use Rattle.cd_text.proofs.reading.bytes_of.Goals as goal
 
 pub returns-then-starts_mark : goal.returns-then-starts_mark

@@ -1,7 +1,7 @@
 use Rattle.std.proofs.Common.{◌-◌}
 use Rattle.cd_tokens.specs.View.{token_views}
 use Rattle.cd_text.specs.ReadSaid.{braces_at, item_at, no_place_of, byte_at}
-use Rattle.cd_text.proofs.Loops.{Still}
+use Rattle.cd_tokens.proofs.Loops.{Still}
 use Rattle.cd_text.proofs.reading.bytes_of.Given as goal
 
 abbrev pub invariant-loop : goal.invariant-loop

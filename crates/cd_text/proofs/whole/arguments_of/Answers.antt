@@ -4,7 +4,7 @@ use Rattle.cd_codec.specs.View.{view, views}
 use Rattle.cd_tokens.specs.View.{token_views}
 use Rattle.cd_text.specs.Placed.{placed}
 use Rattle.cd_text.specs.ReadSaid.{argument_at, after_field}
-use Rattle.cd_text.proofs.Loops.{at_end, no_part_there, last_part, no_separator, part_read, no_fuel}
+use Rattle.cd_tokens.proofs.Loops.{at_end, no_part_there, last_part, no_separator, part_read, no_fuel}
 use Rattle.cd_text.proofs.Arguments.{placed_more, length_more, at_count, fails_at}
 use Rattle.cd_text.proofs.whole.arguments_of.Goals as goal
 

@@ -3,7 +3,7 @@ use Rattle.cd_codec.specs.View.{views}
 use Rattle.cd_tokens.specs.View.{token_views}
 use Rattle.cd_text.specs.Placed.{placed}
 use Rattle.cd_text.specs.ReadSaid.{parts_at, argument_at, after_field}
-use Rattle.cd_text.proofs.Loops.{Still}
+use Rattle.cd_tokens.proofs.Loops.{Still}
 use Rattle.cd_text.proofs.whole.arguments_of.Given as goal
 
 abbrev pub invariant-loop : goal.invariant-loop

@@ -1,10 +1,10 @@
 ghost use Rattle.std.specs.Prelude.{◌≡◌, drop};
 ghost use Rattle.cd_tokens.specs.View.{token_views};
-ghost use Rattle.cd_plain.specs.ReadPlain.{is_mark, is_word, starts};
+ghost use Rattle.cd_tokens.specs.Front.{is_mark, is_word, starts};
 
-use cd_tokens::Token;
+use crate::token::Token;
 
-/// Whether the mark stands first.
+/// Whether the mark comes first.
 pub fn starts_mark(tokens: &[Token<'_>], mark: u8) -> bool
     ensures { result ≡ starts (is_mark mark) (token_views tokens.now) }
 {
@@ -19,7 +19,7 @@ pub fn starts_mark(tokens: &[Token<'_>], mark: u8) -> bool
     }
 }
 
-/// Whether the word stands first.
+/// Whether the word comes first.
 pub fn starts_word(tokens: &[Token<'_>], word: &[u8]) -> bool
     ensures { result ≡ starts (is_word word.now) (token_views tokens.now) }
 {
@@ -34,7 +34,7 @@ pub fn starts_word(tokens: &[Token<'_>], word: &[u8]) -> bool
     }
 }
 
-/// The tokens behind the first.
+/// The tokens after the first.
 pub fn rest_of<'t, 'a>(tokens: &'t [Token<'a>]) -> &'t [Token<'a>]
     ensures { token_views result.now ≡ drop 1 (token_views tokens.now) }
 {
