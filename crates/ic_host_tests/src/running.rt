@@ -40,7 +40,7 @@ pub const NOTHING: Run<'static> = Run {
     left: None,
 };
 
-/// The same, for runs that are no constants.
+/// `NOTHING`, for runs that are no constants.
 pub fn nothing() -> Run<'static> {
     NOTHING
 }

@@ -103,7 +103,7 @@ pub fn relaying(alloc: Global, number: u64) -> Option<Canister>
     running(alloc, number, relay_bytes(alloc))
 }
 
-/// The same, but it runs the module that calls the relay module.
+/// The canister with this number, with 1,000,000,000,000 cycles. It runs the module that calls the relay module.
 pub fn asking(alloc: Global, number: u64) -> Option<Canister>
     ensures new { IfSome result (λ c. IsNew number (dropped (seen c))) }
     ensures keeps { IfSome result IsCanister }

@@ -35,8 +35,13 @@ use Rattle.ic_deliver.specs.Giving.{CanTake}
 use Rattle.ic_deliver.specs.Delivered.{HasHandled, refused_in}
 use Rattle.ic_deliver.proofs.Ready.{can_handle, burned_fits}
 use Rattle.ic_schedule.specs.Delivery.{is_to_management}
-use Rattle.ic_schedule.specs.Handing.{left_by, IsDelivered}
+use Rattle.ic_schedule.specs.Handing.{left_by}
 use Rattle.ic_schedule.proofs.Puts.{Entries, found_each, each_apart, each_set, seen_set}
+
+-- the message of the world was delivered, whatever delivers calls to the management canister
+pub record IsDelivered (limit price : ℕ) (w : Parts) (place : ℕ) (q : Parts) : Type 0 where
+  pub keeps : IsWorld q
+  pub state : (outside : Outside) → state_of q ≡ step (system_rules outside limit price) (state_of w) place
 
 module _ (limit price : ℕ) (w : Parts) (is : IsWorld w) (place : ℕ) (m : Message) (is_m : slice_get w.messages place ≡ Some m) where
   abbrev s : State

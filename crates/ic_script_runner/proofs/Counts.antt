@@ -7,7 +7,7 @@ use Rattle.ic_outside.specs.declared.LineFault.TheVariants as fault
 use Rattle.ic_script.specs.declared.LineCause.{LineCause}
 use Rattle.ic_script_runner.specs.declared.status.Status.{Status}
 use Rattle.ic_script_runner.specs.declared.status.Status.TheVariants.{Done, BadWords, BadLine, ReadFault, WriteFault, NoMemory}
-use Rattle.ic_script_runner.specs.Acts.{Concludes, Turns, Stops, bad_output, behind_gathered}
+use Rattle.ic_script_runner.specs.Acts.{Concludes, DoesAndGathers, Stops, bad_output, behind_gathered}
 use Rattle.ic_script_runner.specs.Counts.{source_count_after, sink_count_after}
 use Rattle.ic_script_runner.specs.EndPart.{short_end_part}
 use Rattle.ic_script_runner.specs.Out.{Output, short_output}
@@ -69,11 +69,11 @@ short-counted old new options (Ok state) status = Done-counted old new (short_en
 short-counted old new options (Err bad) status = BadLine-counted old new [] bad.line bad.cause status
 
 -- at a line that ends a run
-pub Turns-counted : (old new : Taken) (gathered left : List ℕ) (number : ℕ) (said : Result (State × List ℕ) LineCause) (status : Status)
-    → Turns old new gathered left number said (Err status) → IsSinkCount old new status
-Turns-counted old new gathered left number said status (inl done) = Interrupts-counted old new (gathered ++ done.0.1) status done.2
-Turns-counted old new gathered left number said status (inr (inl bad)) = BadLine-counted old new gathered number bad.0 status bad.2
-Turns-counted old new gathered left number said status (inr (inr interrupted)) = Interrupts-counted old new gathered status interrupted
+pub DoesAndGathers-counted : (old new : Taken) (gathered left : List ℕ) (number : ℕ) (said : Result (State × List ℕ) LineCause) (status : Status)
+    → DoesAndGathers old new gathered left number said (Err status) → IsSinkCount old new status
+DoesAndGathers-counted old new gathered left number said status (inl done) = Interrupts-counted old new (gathered ++ done.0.1) status done.2
+DoesAndGathers-counted old new gathered left number said status (inr (inl bad)) = BadLine-counted old new gathered number bad.0 status bad.2
+DoesAndGathers-counted old new gathered left number said status (inr (inr interrupted)) = Interrupts-counted old new gathered status interrupted
 
 -- where there is no next line
 pub Stops-counted : (old new : Taken) (gathered : List ℕ) (f : LineFault) (status : Status) → Stops old new gathered f status

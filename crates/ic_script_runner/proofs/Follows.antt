@@ -21,10 +21,6 @@ pub record Follows (options : Options) (handed printed : List ℕ) (at : Place) 
   pub whole : ended ≡ false → (more : List ℕ)
       → walk script_limits (start options) (whole_lines (pieces (handed ++ (kept ++ more)))) ≡ behind printed (walk script_limits at (whole_lines (pieces (kept ++ more))))
 
--- before the first read
-pub Follows-start : (options : Options) → Follows options [] [] (start options) [] false
-Follows-start options = record { all = λ more over. refl; whole = λ unended more. refl }
-
 -- how a piece is cut off the bytes that were seen
 abbrev pub IsCut : List ℕ → List ℕ → List ℕ → Bool → Type 0
 IsCut piece line rest ended = (piece ≡ line ++ 10 ∷ []) ⊎ ((piece ≡ line) × (0 < length piece) × IsTrue ended × (rest ≡ []))

@@ -1,30 +1,11 @@
 -- Output that is gathered, and sent later.
-use Rattle.std.proofs.Common.{◌≡◌, ℕ, List, [], ◌++◌, refl, sym, ap, subst, ◌∙◌, append_assoc, append-nil, inr, Result, Ok, Err, OnOk, IfErr}
+use Rattle.std.proofs.Common.{◌≡◌, ℕ, List, [], ◌++◌, sym, ap, subst, ◌∙◌, append_assoc, append-nil, inr, Result, Ok, Err}
 use Rattle.ic_script_runner.specs.declared.status.Status.{Status}
-use Rattle.ic_script_runner.specs.declared.status.Status.TheVariants.{NoMemory}
 use Rattle.ic_script_runner.specs.Acts.{Concludes}
 use Rattle.ic_script_runner.specs.Sending.{Taken, Sent, Interrupts, Prints, Gathers}
-use Rattle.ic_script_runner.proofs.SendLaws.{Sent-nil, Sent-append, Interrupts-after, Interrupts-more, Interrupts-at_once, Concludes-after}
+use Rattle.ic_script_runner.proofs.SendLaws.{Sent-append, Interrupts-after, Interrupts-more, Concludes-after}
 
 module _ {T : Type 0} where
-  -- nothing was sent
-  pub Gathers-kept : (u : T) (at : Taken) (gathered text left : List ℕ) → left ≡ gathered ++ text → Gathers at at gathered text left (Ok u)
-  Gathers-kept u at gathered text left is = ([], Sent-nil at, sym is)
-
-  pub Gathers-pushed : (r : Result T Status) (at : Taken) (gathered text left : List ℕ) → OnOk r (left ≡ gathered ++ text) → IfErr r (λ status. status ≡ NoMemory)
-      → Gathers at at gathered text left r
-  Gathers-pushed (Ok u) at gathered text left is none = Gathers-kept u at gathered text left is
-  Gathers-pushed (Err status) at gathered text left is none =
-      let P = λ (s : Status). Interrupts at at (gathered ++ text) s in
-      subst P (sym none) (Interrupts-at_once at (gathered ++ text))
-
-  -- all was sent, or that was interrupted
-  pub Gathers-flushed : (r : Result T Status) (old new : Taken) (gathered left : List ℕ) → Prints old new gathered r → OnOk r (left ≡ []) → Gathers old new gathered [] left r
-  Gathers-flushed (Ok u) old new gathered left sent none = (gathered, sent, ap (λ l. gathered ++ l) (sym none))
-  Gathers-flushed (Err status) old new gathered left interrupted none =
-      let P = λ (l : List ℕ). Interrupts old new l status in
-      subst P (sym (append-nil gathered)) interrupted
-
   -- a text was sent where nothing was gathered
   pub Gathers-printed : (r : Result T Status) (old new : Taken) (gathered text : List ℕ) → gathered ≡ [] → Prints old new text r → Gathers old new gathered text gathered r
   Gathers-printed (Ok u) old new gathered text none sent =
@@ -56,16 +37,6 @@ Gathers-behind u (Ok v) old mid new gathered left text rest one two =
 Gathers-behind u (Err status) old mid new gathered left text rest one two =
     let P = λ (l : List ℕ). Interrupts old new (l ++ text) status in
     subst P (append-nil gathered) (Gathers-interrupted u old mid new gathered [] left one text status two)
-
--- all was sent
-pub Gathers-sent : {T : Type 0} (u : T) (old new : Taken) (gathered text left : List ℕ) → Gathers old new gathered text left (Ok u) → left ≡ [] → Sent old new (gathered ++ text)
-Gathers-sent u old new gathered text left one none =
-    let P = λ (l : List ℕ). Sent old new l in
-    subst P (sym (one.2 ∙ ap (λ l. one.0 ++ l) none ∙ append-nil one.0)) one.1
-
--- memory was wanting when all of it was sent
-pub Interrupts-wanting : (old new : Taken) (text : List ℕ) → Sent old new text → Interrupts old new text NoMemory
-Interrupts-wanting old new text sent = record { cause = inr (refl, record { front = text; is_front = ([], sym (append-nil text)); sent = sent }) }
 
 -- an output behind a text that was gathered
 pub Concludes-behind : (old mid new : Taken) (sent gathered text left more : List ℕ) (last status : Status) → Sent old mid sent → gathered ++ text ≡ sent ++ left

@@ -2,7 +2,6 @@
 use Rattle.std.proofs.Common.{◌≡◌, ℕ, ◌+◌, ◌<◌, ◌≤◌, IsTrue, false, List, [], ◌∷◌, ◌++◌, length, refl, sym, ap, subst, ◌∙◌, append_assoc, append-nil, length-append, take_at, arith, inl, inr, Option, Some, None, Ok, Err}
 use Rattle.std.specs.Prelude.{◌⊎◌}
 use Rattle.std.specs.Io.KnownBytes.{prepend_known, IsAtEnd}
-use Rattle.std.proofs.lemmas.Bool.{false≢true}
 use Rattle.std.proofs.lemmas.List.Elements.{All-take}
 use Rattle.ic_outside.specs.Limits.{Limits, script_limits, Excess, LongLine, LongScript, excess, excess_of}
 use Rattle.ic_outside.specs.Pieces.{HasNoLf, pieces, line_of}
@@ -18,7 +17,7 @@ use Rattle.ic_script.specs.declared.LineCause.TheVariants.{LineTooLong, ScriptTo
 use Rattle.ic_options.specs.declared.Options.{Options}
 use Rattle.ic_script_runner.specs.declared.status.Status.{Status}
 use Rattle.ic_script_runner.specs.declared.status.Status.TheVariants.{Done, BadLine, ReadFault}
-use Rattle.ic_script_runner.specs.Acts.{Concludes, Turns, Stops, bad_output, end_output, behind_gathered}
+use Rattle.ic_script_runner.specs.Acts.{Concludes, DoesAndGathers, Stops, bad_output, end_output, behind_gathered}
 use Rattle.ic_script_runner.specs.AfterLine.{after_line}
 use Rattle.ic_script_runner.specs.Body.{body, whole_lines}
 use Rattle.ic_script_runner.specs.EndPart.{end_part}
@@ -31,10 +30,10 @@ use Rattle.ic_behaviour.specs.State.{State}
 use Rattle.ic_behaviour.specs.Submitted.{empty}
 use Rattle.ic_script_runner.specs.Walk.{Place, Bad, Walk, start, behind_line, behind, walk, judge}
 use Rattle.ic_script_runner.proofs.Exits.{explain-sent, explain-interrupted, explain-concludes, none_generated, of_read, out-stopped, out-front, body-accepted, explains-bad}
-use Rattle.ic_script_runner.proofs.Follows.{Follows, Follows-start, Follows-good, Follows-bad}
+use Rattle.ic_script_runner.proofs.Follows.{Follows, Follows-good, Follows-bad}
 use Rattle.ic_script_runner.proofs.BodyLaws.{whole_lines-none}
 use Rattle.ic_script_runner.proofs.PieceBounds.{length-pieces, length-line_of, excess-long_line, excess-long_script}
-use Rattle.ic_script_runner.proofs.SendLaws.{Sent-nil, Sent-append, Interrupts-after, Interrupts-more, Concludes-after}
+use Rattle.ic_script_runner.proofs.SendLaws.{Sent-append, Interrupts-after, Interrupts-more, Concludes-after}
 use Rattle.ic_script_runner.proofs.WalkLaws.{stopped, walk-nil, walk-excess}
 
 no_lf-front : (bytes more : List ℕ) → HasNoLf (bytes ++ more) → HasNoLf bytes
@@ -62,22 +61,6 @@ pub record Runs (options : Options) (left_before left : Option (List ℕ)) (befo
 pub prepend_known-nil : (known : Option (List ℕ)) → prepend_known [] known ≡ known
 prepend_known-nil None = refl
 prepend_known-nil (Some bytes) = refl
-
-pub Runs-start : (options : Options) (left : Option (List ℕ)) (now : Taken)
-    → Runs options left left now now empty (record { limits = script_limits; kept = []; offset = 0; handed = 0; ended = false; fault = None }) []
-Runs-start options left now = record {
-  handed = [];
-  printed = [];
-  was_read = sym (prepend_known-nil left);
-  front = [];
-  sent = Sent-nil now;
-  parts = refl;
-  follows = Follows-start options;
-  offset = refl;
-  limits = refl;
-  fault = refl;
-  at_end = λ e. absurd (false≢true e);
-}
 
 -- a source at its end has nothing left
 rest_of-end : (left : Option (List ℕ)) → IsAtEnd left → rest_of left ≡ []
@@ -363,7 +346,7 @@ module _ (options : Options) (left_before left left_after : Option (List ℕ)) (
             (explains-bad words options accepted is_read (runs.handed ++ (old.kept ++ read)) more runs.printed bad way
             (omega (arith, size, inner, runs.offset)) (omega (arith, size, inner, runs.offset, out_of.ahead))) (λ e. cc)
 
-        pub explain-line : (status : Status) (left_over : List ℕ) → Turns now after pending left_over line.number (after_line options state line.bytes) (Err status)
+        pub explain-line : (status : Status) (left_over : List ℕ) → DoesAndGathers now after pending left_over line.number (after_line options state line.bytes) (Err status)
             → Explained words left_before left_after before after status
         explain-line status left_over (inl interrupted) = explain-cut_off status interrupted.0.0 interrupted.0.1 interrupted.1 interrupted.2
         explain-line status left_over (inr (inl bad)) = explain-bad status bad.0 bad.1 bad.2

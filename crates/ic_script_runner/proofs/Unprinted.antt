@@ -1,15 +1,14 @@
 -- The way through a script of which nothing is printed.
-use Rattle.std.proofs.Common.{◌≡◌, ◌≢◌, ℕ, ◌+◌, ◌<◌, ◌≤◌, false, List, [], ◌++◌, refl, sym, ap, ◌∙◌, Option, Some, None, Result, Ok, Err}
+use Rattle.std.proofs.Common.{◌≡◌, ◌≢◌, ℕ, ◌+◌, ◌<◌, ◌≤◌, List, [], ◌++◌, refl, sym, ap, ◌∙◌, Option, Some, None, Result, Ok, Err}
 use Rattle.ic_outside.specs.LineReader.{LineReader}
 use Rattle.ic_outside.specs.Reads.{Reads}
-use Rattle.ic_outside.specs.Limits.{LongLine, LongScript, script_limits}
+use Rattle.ic_outside.specs.Limits.{LongLine, LongScript}
 use Rattle.ic_outside.specs.declared.Line.{Line}
 use Rattle.ic_outside.specs.declared.LineFault.{LineFault}
 use Rattle.ic_outside.specs.declared.LineFault.TheVariants as fault
 use Rattle.ic_script.specs.declared.LineCause.TheVariants.{LineTooLong, ScriptTooLong}
 use Rattle.ic_options.specs.declared.Options.{Options}
 use Rattle.ic_behaviour.specs.State.{State}
-use Rattle.ic_behaviour.specs.Submitted.{empty}
 use Rattle.ic_script_runner.specs.declared.status.Status.{Status}
 use Rattle.ic_script_runner.specs.declared.status.Status.TheVariants.{Done, BadWords, BadLine, ReadFault, WriteFault, NoMemory}
 use Rattle.ic_script_runner.specs.Acts.{Does, Ends, status_of}
@@ -17,7 +16,7 @@ use Rattle.ic_script_runner.specs.AfterLine.{after_line}
 use Rattle.ic_script_runner.specs.Script.{walk_of}
 use Rattle.ic_script_runner.specs.Sending.{Taken}
 use Rattle.ic_script_runner.specs.Walk.{Walk}
-use Rattle.ic_script_runner.proofs.Runs.{Runs, Runs-more, Runs-start, further, nothing_left, script_is, way-bad, way-end, way-excess}
+use Rattle.ic_script_runner.proofs.Runs.{Runs, Runs-more, further, nothing_left, script_is, way-bad, way-end, way-excess}
 use Rattle.ic_script_runner.proofs.SendLaws.{Sent-nil}
 
 -- a sink to which nothing is sent
@@ -28,10 +27,6 @@ nowhere = record { bytes = None; fits = None; faults = 0 }
 pub record Walks (options : Options) (script left : List ℕ) (state : State) (reader : LineReader) : Type 0 where
   pub printed : List ℕ
   pub runs : Runs options (Some script) (Some left) nowhere nowhere state reader printed
-
-pub Walks-start : (options : Options) (script : List ℕ)
-    → Walks options script script empty (record { limits = script_limits; kept = []; offset = 0; handed = 0; ended = false; fault = None })
-Walks-start options script = record { printed = []; runs = Runs-start options (Some script) nowhere }
 
 module _ (options : Options) (script left left_after : List ℕ) (state : State) (old new : LineReader) (walks : Walks options script left state old) where
   -- a good line

@@ -47,10 +47,10 @@ abbrev pub behind_gathered : List ℕ → Output → Output
 behind_gathered gathered output = record output { bytes = gathered ++ output.bytes }
 
 -- a line was done and what it prints was gathered, or the status says why the run ends here
-abbrev pub Turns : Taken → Taken → (gathered left : List ℕ) → ℕ → Result (State × List ℕ) LineCause → Result State Status → Type 0
-Turns old new gathered left number said (Ok state) =
+abbrev pub DoesAndGathers : Taken → Taken → (gathered left : List ℕ) → ℕ → Result (State × List ℕ) LineCause → Result State Status → Type 0
+DoesAndGathers old new gathered left number said (Ok state) =
     (text : List ℕ) × (sent : List ℕ) × (said ≡ Ok (state, text)) × Sent old new sent × (gathered ++ text ≡ sent ++ left)
-Turns old new gathered left number said (Err status) =
+DoesAndGathers old new gathered left number said (Err status) =
     ((done : State × List ℕ) × (said ≡ Ok done) × Interrupts old new (gathered ++ done.1) status)
     ⊎ ((cause : LineCause) × (said ≡ Err cause) × Concludes old new (behind_gathered gathered (bad_output number cause)) status)
     ⊎ Interrupts old new gathered status

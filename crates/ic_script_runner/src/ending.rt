@@ -99,7 +99,7 @@ fn print_state<K: Sink>(
     }
 }
 
-/// The same at the end of a generated script, whose answers are only counted.
+/// Makes the rounds at the end of a generated script, and prints how many calls were answered, and the state.
 pub fn finish_shortly<R: Threads + Sync, K: Sink, G: Gate + Sync>(
     alloc: Global,
     rt: &R,

@@ -66,7 +66,7 @@ fn do_lines<R: Threads + Sync, G: Gate + Sync>(
     let mut world = World::new(alloc);
     loop {
         match lines.next(&mut source) {
-            Ok(Some(line)) => match turn(alloc, rt, options, world, &line, gate) {
+            Ok(Some(line)) => match do_unprinted(alloc, rt, options, world, &line, gate) {
                 Ok(next) => world = next,
                 Err(status) => return Err(status),
             },
@@ -76,8 +76,8 @@ fn do_lines<R: Threads + Sync, G: Gate + Sync>(
     }
 }
 
-// The world behind a line.
-fn turn<R: Threads + Sync, G: Gate + Sync>(
+// Does a line and prints nothing: the world behind it.
+fn do_unprinted<R: Threads + Sync, G: Gate + Sync>(
     alloc: Global,
     rt: &R,
     options: &Options,

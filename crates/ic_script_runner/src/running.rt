@@ -1,7 +1,7 @@
 ghost use Rattle.std.specs.Prelude.{◌≡◌, ◌≢◌, ◌≤◌, ℕ, List, Some, None, IsTrue};
 ghost use Rattle.ic_outside.specs.Faults.{Rose};
 ghost use Rattle.ic_options.specs.Options.{HasBounds, options_of};
-ghost use Rattle.ic_script_runner.specs.Acts.{Concludes, Turns, Stops, bad_output, behind_gathered};
+ghost use Rattle.ic_script_runner.specs.Acts.{Concludes, DoesAndGathers, Stops, bad_output, behind_gathered};
 ghost use Rattle.ic_script_runner.specs.AfterLine.{after_line};
 ghost use Rattle.ic_script_runner.specs.Counts.{source_count_after, sink_count_after};
 ghost use Rattle.ic_script_runner.specs.Explained.{Explained};
@@ -63,7 +63,7 @@ pub fn run_script<R: Threads + Sync, S: Source, K: Sink, G: Gate + Sync>(
         }
         match lines.next(source) {
             Ok(Some(line)) => {
-                match turn(alloc, &setting, world, &line, &mut gathered, sink) {
+                match do_and_gather(alloc, &setting, world, &line, &mut gathered, sink) {
                     Ok(next) => world = next,
                     Err(status) => return status,
                 }
@@ -75,7 +75,7 @@ pub fn run_script<R: Threads + Sync, S: Source, K: Sink, G: Gate + Sync>(
 }
 
 // Does a line and gathers what it prints, or reports that it is bad.
-fn turn<R: Threads + Sync, K: Sink, G: Gate + Sync>(
+fn do_and_gather<R: Threads + Sync, K: Sink, G: Gate + Sync>(
     alloc: Global,
     setting: &Setting<'_, R, G>,
     world: World,
@@ -84,7 +84,7 @@ fn turn<R: Threads + Sync, K: Sink, G: Gate + Sync>(
     sink: &mut K,
 ) -> Result<World, Status>
     requires { HasBounds setting.now.options.now }
-    ensures turns { Turns (sink_at K.taken K.fits K.faults sink.old) (sink_at K.taken K.fits K.faults sink.new)
+    ensures does { DoesAndGathers (sink_at K.taken K.fits K.faults sink.old) (sink_at K.taken K.fits K.faults sink.new)
         gathered.old gathered.new line.now.number (after_line setting.now.options.now world line.now.bytes) result }
 {
     match do_line(

@@ -38,7 +38,7 @@ impl Status {
         }
     }
 
-    /// The same as `main` answers it.
+    /// The code, as `main` answers it.
     pub fn exit_code(&self) -> ExitCode
         ensures { exit_status result ≡ code_of self.now }
     {

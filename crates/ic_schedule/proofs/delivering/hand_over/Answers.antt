@@ -4,8 +4,7 @@ use Rattle.ic_state.specs.Seen.{state_of}
 use Rattle.ic_behaviour.specs.Steps.{step}
 use Rattle.ic_run_laws.specs.System.{system_rules}
 use Rattle.ic_schedule.specs.Delivery.{is_to_management, is_managed_message, is_managed}
-use Rattle.ic_schedule.specs.Handing.{IsDelivered}
-use Rattle.ic_schedule.proofs.Handings.{takes_at, handed_over}
+use Rattle.ic_schedule.proofs.Handings.{IsDelivered, takes_at, handed_over}
 use Rattle.ic_schedule.proofs.delivering.hand_over.Goals as goal
 
 pub deliver-requires : goal.deliver-requires

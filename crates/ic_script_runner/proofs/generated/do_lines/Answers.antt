@@ -6,12 +6,12 @@ use Rattle.ic_script_runner.specs.declared.status.Status.{Status}
 use Rattle.ic_script_runner.proofs.Unprinted.{Walks-end, Walks-fault, Walks-further, Walks-more, Walks-stopped}
 use Rattle.ic_script_runner.proofs.generated.do_lines.Goals as goal
 
-pub returns-in-Err-turn : goal.returns-in-Err-turn
-returns-in-Err-turn g c =
+pub returns-in-Err-do_unprinted : goal.returns-in-Err-do_unprinted
+returns-in-Err-do_unprinted g c =
     let walks = c.loop-line.invariant.0 in
     let reads = rw c.in-Ok-Some.field-0-is at (c.in-Ok-Some.ensures.reads walks.runs.fault) in
     Walks-stopped c.args.options.now c.args.text c.loop-line.source.left c.next.new.source.left c.loop-line.world c.loop-line.lines c.next.new.self walks
-    c.in-Ok-Some.line c.in-Err-turn.status reads c.in-Err-turn.ensures
+    c.in-Ok-Some.line c.in-Err-do_unprinted.status reads c.in-Err-do_unprinted.ensures
 
 pub loop-line-smaller : goal.loop-line-smaller
 loop-line-smaller g c =

@@ -4,7 +4,7 @@ use Rattle.ic_script_runner.specs.Counts.{sink_count_after}
 use Rattle.ic_script_runner.specs.declared.status.Status.{Status}
 use Rattle.ic_script_runner.specs.Sending.{Interrupts, sink_at}
 use Rattle.ic_script_runner.proofs.Runs.{Runs-ready, Runs-more, further, prepend_known-nil, explain-pending, explain-line, explain-end, explain-fault, nothing_left}
-use Rattle.ic_script_runner.proofs.Counts.{Interrupts-counted, Done-counted, Turns-counted, Stops-counted}
+use Rattle.ic_script_runner.proofs.Counts.{Interrupts-counted, Done-counted, DoesAndGathers-counted, Stops-counted}
 use Rattle.ic_script_runner.proofs.Exits.{explain-at_once}
 use Rattle.ic_script_runner.proofs.Streams.{Reading-more}
 use Rattle.ic_script_runner.proofs.running.run_script.Goals as goal
@@ -19,13 +19,13 @@ returns-in-Err-clause-explained g c = λ words accepted.
     explain-pending _ _ left left _ (sink_at g.K.Sink.taken g.K.Sink.fits g.K.Sink.faults c.loop-status.sink) _ _ c.loop-status.lines c.loop-status.lines c.loop-status.gathered c.loop-status.invariant.0
     [] (sym (prepend_known-nil left)) (λ e. refl) words accepted c.requires.read c.in-Err.status (subst P (append-nil c.loop-status.gathered) c.in-Err.ensures.sent)
 
-pub returns-in-Err-turn-clause-explained : goal.returns-in-Err-turn-clause-explained
-returns-in-Err-turn-clause-explained g c = λ words accepted.
+pub returns-in-Err-do_and_gather-clause-explained : goal.returns-in-Err-do_and_gather-clause-explained
+returns-in-Err-do_and_gather-clause-explained g c = λ words accepted.
     let was = c.loop-status.invariant.0 in
     let runs = Runs-ready c.in_default-before_reading.field-0 _ _ _ _ (sink_at g.K.Sink.taken g.K.Sink.fits g.K.Sink.faults c.loop-status.sink) (sink_at g.K.Sink.taken g.K.Sink.fits g.K.Sink.faults c.before_reading.new.sink) _ _ c.loop-status.gathered c.before_reading.new.self was c.in_default-before_reading.ensures.sent in
     let reads = rw c.in-Ok-Some.field-0-is at (c.in-Ok-Some.ensures.reads runs.fault) in
     explain-line _ _ _ _ _ _ _ _ _ _ _ runs reads.read reads.taken reads.over words accepted c.requires.read c.in-Ok-Some.line reads.answers.0 reads.answers.1
-    c.in-Err-turn.status c.turn.new.gathered c.in-Err-turn.ensures.turns
+    c.in-Err-do_and_gather.status c.do_and_gather.new.gathered c.in-Err-do_and_gather.ensures.does
 
 pub loop-status-smaller : goal.loop-status-smaller
 loop-status-smaller g c =
@@ -39,9 +39,9 @@ loop-status-preserved g c =
     let was = c.loop-status.invariant.0 in
     let runs = Runs-ready c.in_default-before_reading.field-0 _ _ _ _ (sink_at g.K.Sink.taken g.K.Sink.fits g.K.Sink.faults c.loop-status.sink) (sink_at g.K.Sink.taken g.K.Sink.fits g.K.Sink.faults c.before_reading.new.sink) _ _ c.loop-status.gathered c.before_reading.new.self was c.in_default-before_reading.ensures.sent in
     let reads = rw c.in-Ok-Some.field-0-is at (c.in-Ok-Some.ensures.reads runs.fault) in
-    let turned = c.in-Ok-turn.ensures.turns in (
+    let turned = c.in-Ok-do_and_gather.ensures.does in (
       Runs-more _ _ _ _ _ _ _ _ _ _ _ runs reads.read reads.taken reads.over c.in-Ok-Some.line reads.answers.0 reads.answers.1
-          c.in-Ok-turn.next c.turn.new.gathered turned.0 turned.1 turned.2 turned.3 turned.4,
+          c.in-Ok-do_and_gather.next c.do_and_gather.new.gathered turned.0 turned.1 turned.2 turned.3 turned.4,
       Reading-more g.S.Source.faults g.S.Source.ended g.S.Source.cannot_fail _ _ _ c.loop-status.lines.ended c.next.new.self.ended c.loop-status.invariant.1
           (c.in-Ok-Some.ensures.counted runs.fault) c.in-Ok-Some.ensures.over c.in-Ok-Some.ensures.gave_end
           (λ sure. (c.in-Ok-Some.ensures.sure sure).0),
@@ -72,15 +72,15 @@ pub returns-in-Err-clause-counted_sink : goal.returns-in-Err-clause-counted_sink
 returns-in-Err-clause-counted_sink g c =
     (Interrupts-counted _ _ _ c.in-Err.status c.in-Err.ensures.sent).0 ∙ ap (λ n. sink_count_after n c.in-Err.status) c.loop-status.invariant.0.sent.counted
 
-pub returns-in-Err-turn-clause-counted_source : goal.returns-in-Err-turn-clause-counted_source
-returns-in-Err-turn-clause-counted_source g c =
+pub returns-in-Err-do_and_gather-clause-counted_source : goal.returns-in-Err-do_and_gather-clause-counted_source
+returns-in-Err-do_and_gather-clause-counted_source g c =
     c.in-Ok-Some.ensures.counted c.loop-status.invariant.0.fault ∙ c.loop-status.invariant.1.counted
-    ∙ sym ((Turns-counted _ _ _ c.turn.new.gathered _ _ c.in-Err-turn.status c.in-Err-turn.ensures.turns).1 _)
+    ∙ sym ((DoesAndGathers-counted _ _ _ c.do_and_gather.new.gathered _ _ c.in-Err-do_and_gather.status c.in-Err-do_and_gather.ensures.does).1 _)
 
-pub returns-in-Err-turn-clause-counted_sink : goal.returns-in-Err-turn-clause-counted_sink
-returns-in-Err-turn-clause-counted_sink g c =
-    (Turns-counted _ _ _ c.turn.new.gathered _ _ c.in-Err-turn.status c.in-Err-turn.ensures.turns).0
-    ∙ ap (λ n. sink_count_after n c.in-Err-turn.status) (c.in_default-before_reading.ensures.sent.1.counted ∙ c.loop-status.invariant.0.sent.counted)
+pub returns-in-Err-do_and_gather-clause-counted_sink : goal.returns-in-Err-do_and_gather-clause-counted_sink
+returns-in-Err-do_and_gather-clause-counted_sink g c =
+    (DoesAndGathers-counted _ _ _ c.do_and_gather.new.gathered _ _ c.in-Err-do_and_gather.status c.in-Err-do_and_gather.ensures.does).0
+    ∙ ap (λ n. sink_count_after n c.in-Err-do_and_gather.status) (c.in_default-before_reading.ensures.sent.1.counted ∙ c.loop-status.invariant.0.sent.counted)
 
 pub returns-in-Ok-None-clause-counted_source : goal.returns-in-Ok-None-clause-counted_source
 returns-in-Ok-None-clause-counted_source g c =
