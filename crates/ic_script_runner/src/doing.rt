@@ -19,7 +19,7 @@ ghost use Rattle.ic_options.specs.Options.{HasBounds};
 ghost use Rattle.ic_output.specs.Texts.{accepted_text, query_text, call_refused_text, state_line, witness_text};
 
 use crate::picking::picked;
-use ic_base::NoMemory as WantOfMemory;
+use ic_base::NoMemory;
 use ic_calls::no_canister;
 use ic_candid_lines::{decode_text, encode_text, show_text, upgrade_text};
 use ic_exec::{inspect, inspects, query};
@@ -32,7 +32,7 @@ use ic_principal::{Bytes, Principal};
 use ic_queue_rounds::run_rounds;
 use ic_script::{Ask, Command, LineCause, LineError, Paths, parse_line};
 use ic_state::{CanisterPlace, Env, Parts, Response, World};
-use std::alloc::Global;
+use std::alloc::{AllocError, Global};
 use std::thread::Threads;
 
 const MOST_CALLS: usize = 1_048_576;
@@ -42,17 +42,17 @@ const MOST_CALLS: usize = 1_048_576;
 pub enum NotDone {
     /// The line is bad.
     Bad(LineCause),
-    /// Memory was wanting.
+    /// Memory ran out.
     NoMemory,
 }
 
-impl From<WantOfMemory> for NotDone {
+impl From<AllocError> for NotDone {
     ghost use Rattle.std.specs.Prelude.{◌≡◌};
     ghost use Rattle.ic_script_runner.specs.declared.doing.NotDone.TheVariants.{NoMemory};
 
     ghost from_gives = { λ _ error. error ≡ NoMemory };
 
-    fn from(_: WantOfMemory) -> NotDone {
+    fn from(_: AllocError) -> NotDone {
         NotDone::NoMemory
     }
 }
@@ -88,10 +88,8 @@ pub fn do_line<R: Threads + Sync, G: Gate + Sync>(
     requires { HasBounds options.now }
     ensures { Acts (after_line options.now world line.now) result }
 {
-    match parse_line(alloc, line) {
-        Ok(command) => do_command(alloc, rt, options, world, command, gate),
-        Err(error) => Err(NotDone::from(error)),
-    }
+    let command = parse_line(alloc, line)?;
+    do_command(alloc, rt, options, world, command, gate)
 }
 
 #[tactic(auto, unfolding(crate::specs::AfterCommand::after_command))]
@@ -147,10 +145,10 @@ fn submit(
     let mut parts = world.open();
     let is_accepted = accepts_now(alloc, options, &mut parts, &ask);
     let world = World::seal(parts);
-    match is_accepted {
-        Ok(true) => accept(alloc, world, ask),
-        Ok(false) => refuse(alloc, world),
-        Err(_) => Err(NotDone::NoMemory),
+    if is_accepted? {
+        accept(alloc, world, ask)
+    } else {
+        refuse(alloc, world)
     }
 }
 
@@ -161,7 +159,7 @@ fn accepts_now(
     options: &Options,
     parts: &mut Parts,
     ask: &Ask,
-) -> Result<bool, WantOfMemory>
+) -> Result<bool, NoMemory>
     requires within { HasBounds options.now }
     requires keeps { IsWorld parts.old }
     ensures accepted { IfOk result (λ b. b ≡ accepts_now options.now (state_of parts.old) ask.now) }
@@ -180,12 +178,7 @@ fn accepts_now(
 }
 
 // The argument is copied for a canister that looks at calls, and for no other.
-fn accepts(
-    alloc: Global,
-    place: &mut CanisterPlace,
-    ask: &Ask,
-    env: Env,
-) -> Result<bool, WantOfMemory>
+fn accepts(alloc: Global, place: &mut CanisterPlace, ask: &Ask, env: Env) -> Result<bool, NoMemory>
     requires { IsCanister place.old }
     ensures accepted { IfOk result (λ b. b ≡ is_accepted (enters_by system_api) env (seen place.old) ask.now.sender ask.now.method ask.now.arg) }
     ensures same { place.new ≡ place.old }
@@ -211,22 +204,16 @@ fn accept(alloc: Global, world: World, ask: Ask) -> Result<(World, Bytes), NotDo
     ensures { Acts (Ok (submitted world ask.sender ask.callee ask.method ask.arg, accepted_text (length world.requests))) result }
 {
     let number = world.parts().requests.len();
-    let Ok(text) = accepted_text(alloc, number) else {
-        return Err(NotDone::NoMemory);
-    };
-    match world.submit(ask.sender, ask.callee, ask.method, ask.arg) {
-        Ok(world) => Ok((world, text)),
-        Err(_) => Err(NotDone::NoMemory),
-    }
+    let text = accepted_text(alloc, number)?;
+    let world = world.submit(ask.sender, ask.callee, ask.method, ask.arg)?;
+    Ok((world, text))
 }
 
 fn refuse(alloc: Global, world: World) -> Result<(World, Bytes), NotDone>
     ensures { Acts (Ok (world, call_refused_text)) result }
 {
-    match call_refused_text(alloc) {
-        Ok(text) => Ok((world, text)),
-        Err(_) => Err(NotDone::NoMemory),
-    }
+    let text = call_refused_text(alloc)?;
+    Ok((world, text))
 }
 
 // The world stays as it is.
@@ -242,13 +229,9 @@ fn answer(
     let mut parts = world.open();
     let answered = answer_now(alloc, options, &mut parts, ask);
     let world = World::seal(parts);
-    match answered {
-        Ok(response) => match query_text(alloc, &response) {
-            Ok(text) => Ok((world, text)),
-            Err(_) => Err(NotDone::NoMemory),
-        },
-        Err(_) => Err(NotDone::NoMemory),
-    }
+    let response = answered?;
+    let text = query_text(alloc, &response)?;
+    Ok((world, text))
 }
 
 // What the canister that is asked answers. All stays as it is, without memory too.
@@ -258,7 +241,7 @@ fn answer_now(
     options: &Options,
     parts: &mut Parts,
     ask: Ask,
-) -> Result<Response, WantOfMemory>
+) -> Result<Response, NoMemory>
     requires within { HasBounds options.now }
     requires keeps { IsWorld parts.old }
     ensures response { IfOk result (λ r. r ≡ answer_now options.now (state_of parts.old) ask) }
@@ -290,7 +273,7 @@ fn asked(
     method: &str,
     arg: Bytes,
     env: Env,
-) -> Result<Response, WantOfMemory>
+) -> Result<Response, NoMemory>
     requires { IsCanister place.old }
     ensures response { IfOk result (λ r. r ≡ query_response (enters_by system_api) env (seen place.old) sender method.now arg) }
     ensures same { place.new ≡ place.old }
@@ -309,13 +292,9 @@ fn make_rounds<R: Threads + Sync, G: Gate + Sync>(
     requires { HasBounds options.now }
     ensures { Acts (Ok (after_rounds options.now count world, text_of_rounds options.now count world)) result }
 {
-    let Ok((world, made)) = run_rounds_by(alloc, rt, options, world, count, gate) else {
-        return Err(NotDone::NoMemory);
-    };
-    match ran_text(alloc, made, world.parts().messages.items.len()) {
-        Ok(text) => Ok((world, text)),
-        Err(_) => Err(NotDone::NoMemory),
-    }
+    let (world, made) = run_rounds_by(alloc, rt, options, world, count, gate)?;
+    let text = ran_text(alloc, made, world.parts().messages.items.len())?;
+    Ok((world, text))
 }
 
 /// Makes up to so many rounds, as the options say: the world after them, and how many handled a
@@ -327,7 +306,7 @@ pub fn run_rounds_by<R: Threads + Sync, G: Gate + Sync>(
     world: World,
     count: u32,
     gate: &G,
-) -> Result<(World, u32), WantOfMemory>
+) -> Result<(World, u32), NoMemory>
     requires { HasBounds options.now }
     ensures state { IfOk result (λ r. r.0 ≡ after_rounds options.now count world) }
     ensures made { IfOk result (λ r. r.1 ≡ length (rounds (rules_of options.now) count world)) }
@@ -367,20 +346,16 @@ fn set_time(alloc: Global, mut world: World, time: u64) -> Result<(World, Bytes)
 fn show_state(alloc: Global, world: World) -> Result<(World, Bytes), NotDone>
     ensures { Acts (Ok (world, state_line world)) result }
 {
-    match state_line(alloc, &world) {
-        Ok(text) => Ok((world, text)),
-        Err(_) => Err(NotDone::NoMemory),
-    }
+    let text = state_line(alloc, &world)?;
+    Ok((world, text))
 }
 
 // The world stays as it is.
 fn show_witness(alloc: Global, world: World, paths: &Paths) -> Result<(World, Bytes), NotDone>
     ensures { Acts (Ok (world, witness_text world paths.now)) result }
 {
-    match witness_line(alloc, &world, &paths.items) {
-        Ok(text) => Ok((world, text)),
-        Err(_) => Err(NotDone::NoMemory),
-    }
+    let text = witness_line(alloc, &world, &paths.items)?;
+    Ok((world, text))
 }
 
 #[tactic(auto, unfolding(crate::specs::AfterCommand::after_command))]
@@ -393,13 +368,9 @@ fn pick(
     requires { HasBounds options.now }
     ensures { Acts (after_command options.now world (Command.Pick place)) result }
 {
-    let Ok((world, was_eligible)) = picked(alloc, options, world, place) else {
-        return Err(NotDone::NoMemory);
-    };
-    match pick_text(alloc, was_eligible) {
-        Ok(text) => Ok((world, text)),
-        Err(_) => Err(NotDone::NoMemory),
-    }
+    let (world, was_eligible) = picked(alloc, options, world, place)?;
+    let text = pick_text(alloc, was_eligible)?;
+    Ok((world, text))
 }
 
 fn decode(
@@ -410,10 +381,8 @@ fn decode(
 ) -> Result<(World, Bytes), NotDone>
     ensures { Acts (Ok (world, decode_text expected.now bytes.now)) result }
 {
-    match decode_text(alloc, &expected.items, &bytes.items) {
-        Ok(text) => Ok((world, text)),
-        Err(_) => Err(NotDone::NoMemory),
-    }
+    let text = decode_text(alloc, &expected.items, &bytes.items)?;
+    Ok((world, text))
 }
 
 fn show(
@@ -424,10 +393,8 @@ fn show(
 ) -> Result<(World, Bytes), NotDone>
     ensures { Acts (Ok (world, show_text expected.now bytes.now)) result }
 {
-    match show_text(alloc, &expected.items, &bytes.items) {
-        Ok(text) => Ok((world, text)),
-        Err(_) => Err(NotDone::NoMemory),
-    }
+    let text = show_text(alloc, &expected.items, &bytes.items)?;
+    Ok((world, text))
 }
 
 fn encode(
@@ -438,10 +405,8 @@ fn encode(
 ) -> Result<(World, Bytes), NotDone>
     ensures { Acts (Ok (world, encode_text expected.now text.now)) result }
 {
-    match encode_text(alloc, &expected.items, &text.items) {
-        Ok(printed) => Ok((world, printed)),
-        Err(_) => Err(NotDone::NoMemory),
-    }
+    let printed = encode_text(alloc, &expected.items, &text.items)?;
+    Ok((world, printed))
 }
 
 fn upgrade(alloc: Global, world: World, from: &Bytes, to: &Bytes) -> Result<(World, Bytes), NotDone>
@@ -449,8 +414,6 @@ fn upgrade(alloc: Global, world: World, from: &Bytes, to: &Bytes) -> Result<(Wor
     requires to { length to.now ≤ 2097152 }
     ensures { Acts (Ok (world, upgrade_text from.now to.now)) result }
 {
-    match upgrade_text(alloc, &from.items, &to.items) {
-        Ok(text) => Ok((world, text)),
-        Err(_) => Err(NotDone::NoMemory),
-    }
+    let text = upgrade_text(alloc, &from.items, &to.items)?;
+    Ok((world, text))
 }
