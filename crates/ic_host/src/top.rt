@@ -106,10 +106,11 @@ pub fn replica<R: Threads + Sync, S: Source, K: Sink, G: Gate + Sync>(
         × (S.faults source.new ≡ S.faults source.old)
         × (K.faults sink.new ≡ K.faults sink.old))) }
 {
-    run(alloc, rt, words, source, sink, gate)
+    read_and_run(alloc, rt, words, source, sink, gate)
 }
 
-fn run<R: Threads + Sync, S: Source, K: Sink, G: Gate + Sync>(
+// Reads the words, and runs the script that they ask for.
+fn read_and_run<R: Threads + Sync, S: Source, K: Sink, G: Gate + Sync>(
     alloc: Global,
     rt: &R,
     words: &[String],

@@ -260,13 +260,13 @@ fn answer_now(
         arg,
     } = ask;
     match parts.canisters.get_mut(&callee) {
-        Some(place) => asked(alloc, place, sender, &method.items, arg, env),
+        Some(place) => ask_in_place(alloc, place, sender, &method.items, arg, env),
         None => no_canister(alloc, &callee),
     }
 }
 
 // Asks the canister in its place, which stays as it is.
-fn asked(
+fn ask_in_place(
     alloc: Global,
     place: &mut CanisterPlace,
     sender: Principal,

@@ -51,7 +51,7 @@ returns-clause-drained g c = λ script. each_done _ (rules_keep (unwrap_or (opti
 pub returns-clause-later_sink : goal.returns-clause-later_sink
 returns-clause-later_sink g c =
     let fits = g.met.K.Sink.faults_fit c.args.sink.now in
-    omega (arith, sink_count_after-later _ c.run.result fits, c.run.ensures.explained.counted)
+    omega (arith, sink_count_after-later _ c.read_and_run.result fits, c.read_and_run.ensures.explained.counted)
 
 pub returns-clause-counted_sink : goal.returns-clause-counted_sink
-returns-clause-counted_sink g c = c.run.ensures.explained.counted
+returns-clause-counted_sink g c = c.read_and_run.ensures.explained.counted

@@ -5,28 +5,28 @@ use Rattle.ic_state.specs.declared.canister.Canister.{Canister}
 use Rattle.ic_script_runner.proofs.Asking.{asked_keeps, answer-none, answer-some, state_same, keeps_same, told}
 use Rattle.ic_script_runner.proofs.doing.answer_now.Goals as goal
 
-pub asked-requires : goal.asked-requires
-asked-requires c = asked_keeps c.args.options.now c.args.parts.now c.requires.keeps c.args.ask c.in-Some.place.now (sym c.in-Some.ensures.value)
+pub ask_in_place-requires : goal.ask_in_place-requires
+ask_in_place-requires c = asked_keeps c.args.options.now c.args.parts.now c.requires.keeps c.args.ask c.in-Some.place.now (sym c.in-Some.ensures.value)
 
 pub returns-in-Some-clause-response : goal.returns-in-Some-clause-response
 returns-in-Some-clause-response c =
     let text = c.deref.ensures in
     let view = c.method.view_is in
-    told c.asked.result _ _ (answer-some c.args.options.now c.args.parts.now c.requires.keeps c.args.ask c.in-Some.place.now (sym c.in-Some.ensures.value))
-    (rw (let is : c.args.ask.method ≡ c.deref.result.now = cc in is) c.asked.ensures.response)
+    told c.ask_in_place.result _ _ (answer-some c.args.options.now c.args.parts.now c.requires.keeps c.args.ask c.in-Some.place.now (sym c.in-Some.ensures.value))
+    (rw (let is : c.args.ask.method ≡ c.deref.result.now = cc in is) c.ask_in_place.ensures.response)
 
 pub returns-in-Some-clause-same : goal.returns-in-Some-clause-same
 returns-in-Some-clause-same c =
     let m = c.args.parts.now.canisters in
-    let w = c.asked.new.place in
-    let found = sym c.in-Some.ensures.value ∙ ap (λ (d : Canister). Some d) (sym c.asked.ensures.same) in
+    let w = c.ask_in_place.new.place in
+    let found = sym c.in-Some.ensures.value ∙ ap (λ (d : Canister). Some d) (sym c.ask_in_place.ensures.same) in
     state_same c.args.parts.now (c.get_mut.follows.lender w) ((c.get_mut.follows.holds w).0 ∙ set_value_same (at c.args.ask.callee) m.entries w found)
 
 pub returns-in-Some-clause-keeps : goal.returns-in-Some-clause-keeps
 returns-in-Some-clause-keeps c =
     let m = c.args.parts.now.canisters in
-    let w = c.asked.new.place in
-    let found = sym c.in-Some.ensures.value ∙ ap (λ (d : Canister). Some d) (sym c.asked.ensures.same) in
+    let w = c.ask_in_place.new.place in
+    let found = sym c.in-Some.ensures.value ∙ ap (λ (d : Canister). Some d) (sym c.ask_in_place.ensures.same) in
     keeps_same c.args.parts.now (c.get_mut.follows.lender w) ((c.get_mut.follows.holds w).0 ∙ set_value_same (at c.args.ask.callee) m.entries w found) c.requires.keeps
 
 pub returns-clause-response : goal.returns-clause-response

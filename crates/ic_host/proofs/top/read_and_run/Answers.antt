@@ -2,7 +2,7 @@ use Rattle.std.proofs.Common.{sym}
 use Rattle.ic_script_runner.specs.Sending.{sink_at}
 use Rattle.ic_script_runner.proofs.Counts.{short-counted}
 use Rattle.ic_script_runner.proofs.Exits.{explain-at_once, explain-generated, explain-refused}
-use Rattle.ic_host.proofs.top.run.Goals as goal
+use Rattle.ic_host.proofs.top.read_and_run.Goals as goal
 
 pub returns-in-Some-clause-explained : goal.returns-in-Some-clause-explained
 returns-in-Some-clause-explained g c =
