@@ -4,4 +4,8 @@ pub mod OneMet
 pub mod Closed
 pub mod PartTable
 pub mod PartLaws
+pub mod Alike
+pub mod AlikePart
+pub mod AlikeValues
+pub mod PartValues
 pub mod Rows

@@ -1,6 +1,8 @@
-ghost use Rattle.std.specs.Prelude.{◌≡◌, ◌≤◌, true, length, IfOk};
+ghost use Rattle.std.specs.Prelude.{◌≡◌, ◌≤◌, ◌↔◌, List, true, length, IfOk};
 ghost use Rattle.std.specs.List.{list_all};
 ghost use Rattle.cd_types.specs.IsInside.{is_inside};
+ghost use Rattle.cd_codec.specs.AreValues.{HasTypes};
+ghost use Rattle.cd_codec.specs.Content.{Content};
 ghost use Rattle.cd_part.specs.IsPart.{IsPart};
 
 use crate::meeting::met_from;
@@ -34,7 +36,9 @@ fn table_and_types(
 pub fn part_of(alloc: Global, table: &TypeTable, types: &[TyRef]) -> Result<Expected, NoMemory>
     requires inside { list_all (is_inside (length table.now)) types.now ≡ true }
     requires few { length types.now ≤ 10000 }
-    ensures { IfOk result (IsPart table.now types.now) }
+    ensures part { IfOk result (IsPart table.now types.now) }
+    // Its types have the values that the types have, and no others, so `encode` takes these.
+    ensures values { IfOk result (λ part. (values : List Content) → HasTypes part.0 part.1 values ↔ HasTypes table.now types.now values) }
 {
     let (entries, references) = table_and_types(alloc, table, types)?;
     Ok(Expected::of(entries, references))
