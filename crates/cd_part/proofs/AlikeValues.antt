@@ -16,7 +16,7 @@ module _ (R : TyRef → TyRef → Type 0) where
     as_primitive : (p : Primitive) → s ≡ primitive p → s' ≡ primitive p
     as_primitive p e = subst (λ (x : Shape). Alike R x s') e alike
 
-    has_shape : (p : Plain) → HasShape p s → HasShape p s'
+    pub has_shape : (p : Plain) → HasShape p s → HasShape p s'
     has_shape null e = as_primitive primitives.Null e
     has_shape (bool b) e = as_primitive primitives.Bool e
     has_shape (nat n) e = as_primitive primitives.Nat e
