@@ -1,7 +1,9 @@
 //! Tests that cross the crates for WebAssembly modules: modules are given as bytes, read and
-//! validated. It declares nothing.
+//! validated; and of the validation of bodies alone.
 #![tactic(auto)]
 
+#[cfg(test)]
+mod bodies;
 #[cfg(test)]
 mod bytes;
 #[cfg(test)]

@@ -1,6 +1,6 @@
 use Rattle.std.proofs.Common.{refl}
-use Rattle.wm_typing_tests.proofs.FlatOf.{flat_of}
-use Rattle.wm_typing_tests.proofs.bodies.control.Goals as goal
+use Rattle.wm_valid_tests.proofs.FlatOf.{flat_of}
+use Rattle.wm_valid_tests.proofs.bodies.indices.Goals as goal
 
 pub is_typed-requires : goal.is_typed-requires
 is_typed-requires g c = flat_of _ refl refl
@@ -31,3 +31,9 @@ is_typed-requires-9 g c = flat_of _ refl refl
 
 pub is_typed-requires-10 : goal.is_typed-requires-10
 is_typed-requires-10 g c = flat_of _ refl refl
+
+pub is_typed-requires-11 : goal.is_typed-requires-11
+is_typed-requires-11 g c = flat_of _ refl refl
+
+pub is_typed-requires-12 : goal.is_typed-requires-12
+is_typed-requires-12 g c = flat_of _ refl refl

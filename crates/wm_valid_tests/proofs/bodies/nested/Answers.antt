@@ -4,7 +4,7 @@ use Rattle.std.proofs.lemmas.List.{replicate_more}
 use Rattle.wm_tree.specs.declared.instr.Instr.{Instr}
 use Rattle.wm_tree.specs.declared.instr.Instr.TheVariants as op
 use Rattle.wm_tree.specs.Seq.{Seq, Empty, BlockOf, flatten, IsProper}
-use Rattle.wm_typing_tests.proofs.bodies.nested.Goals as goal
+use Rattle.wm_valid_tests.proofs.bodies.nested.Goals as goal
 
 -- that many nested blocks
 abbrev nest : ℕ → Seq

@@ -1,7 +1,7 @@
 use Rattle.std.proofs.Common.{◌≡◌, ◌++◌, None}
 use Rattle.std.specs.Prelude.{replicate}
 use Rattle.wm_tree.specs.declared.instr.Instr.TheVariants as op
-use Rattle.wm_typing_tests.proofs.bodies.nested.Given as goal
+use Rattle.wm_valid_tests.proofs.bodies.nested.Given as goal
 
 abbrev pub invariant-loop : goal.invariant-loop
 invariant-loop l = l.body.items ≡ replicate l.counter (op.Block None)

@@ -1,0 +1,6 @@
+use Rattle.std.proofs.Common.{refl}
+use Rattle.wm_valid_tests.proofs.FlatOf.{flat_of}
+use Rattle.wm_valid_tests.proofs.bodies.arms_of_a_table.Goals as goal
+
+pub validated-requires : goal.validated-requires
+validated-requires g c = flat_of _ refl refl
