@@ -1,4 +1,4 @@
-ghost use Rattle.std.specs.Prelude.{◌≡◌, ◌+◌, ◌-◌, ◌*◌, ◌<◌, ◌≤◌, ◌^◌, not, ◌&&◌, true, is_some, min, find, Some, None, IfOk};
+ghost use Rattle.std.specs.Prelude.{◌≡◌, ◌+◌, ◌-◌, ◌*◌, ◌<◌, ◌≤◌, ◌^◌, ◌++◌, not, ◌&&◌, true, is_some, min, find, Some, None, IfOk};
 ghost use Rattle.std.specs.Option.{IsSomeAnd};
 ghost use Rattle.ic_behaviour.specs.State.{Code as SomeCode, id_of};
 ghost use Rattle.ic_behaviour.specs.Entry.{enters_by};
@@ -53,6 +53,21 @@ fn refuse(alloc: Global, origin: Origin, cycles: u128, response: Response) -> Re
     })
 }
 
+// Both lists, one after the other. A message that returns without an answer gets one as its context closes: then
+// the first is empty, and the second is moved as it is.
+#[inline(always)]
+fn joined(front: AnsweredList, back: AnsweredList) -> Result<AnsweredList, NoMemory>
+    ensures { IfOk result (λ l. l ≡ front ++ back) }
+{
+    if front.items.is_empty() {
+        front.items.destroy_empty();
+        return Ok(back);
+    }
+    let mut front = front;
+    front.append(back)?;
+    Ok(front)
+}
+
 // Contexts without calls close; the message's own context is told its trap.
 fn close_after(
     alloc: Global,
@@ -79,17 +94,16 @@ fn finish(alloc: Global, canister: &mut Canister, work: Work, price: u64) -> Res
 {
     let Work {
         calls,
-        mut answers,
+        answers,
         used,
         trapped,
     } = work;
     let burned = canister.balance.min(price as u128 * used as u128);
     canister.balance -= burned;
     let closing = close_after(alloc, canister, &trapped)?;
-    answers.append(closing)?;
     Ok(Done {
         calls,
-        answers,
+        answers: joined(answers, closing)?,
         used,
         burned,
         trapped: trapped.map(|own| own.1),
