@@ -36,7 +36,7 @@ def tried(name, words, script):
             print(f"{name}, request {number}: status {run[0]}, {len(run[1])} bytes, {run[2][:200]}")
     print(
         f"{name}: status {ample[0]}, {len(ample[1])} bytes, {count} requests for memory; with each refused in turn"
-        f" {none} runs end with want of memory and a front of the output, {same} as the ample run, {wrong} otherwise",
+        f" {none} runs run out of memory with status 6 and a front of the output, {same} as the ample run, {wrong} otherwise",
         flush=True,
     )
     return wrong == 0

@@ -25,7 +25,7 @@ use Rattle.cd_part.proofs.Rises.{ids_rise}
 other_id : (low id : ℕ) → nat_cmp low id ≡ Less → (low == id) ≡ false
 other_id low id less = grind (arith, nat_tests, less)
 
--- what stands under an id of the later fields does so behind a first one
+-- what the later fields have under an id they have after a first one
 later_under : {A : Type 0} (low id : ℕ) (fs : List (ℕ × TyRef)) (xs : List A) (f : TyRef × A) → AllByRecursion (λ g. nat_cmp low g.0 ≡ Less) fs → under id (with_fields fs xs) ≡ Some f → (low == id) ≡ false
 later_under low id [] xs f above e = absurd cc
 later_under low id (g ∷ fs) [] f above e = absurd cc

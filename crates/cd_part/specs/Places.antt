@@ -22,7 +22,7 @@ abbrev pub renamed : List ℕ → TyRef → TyRef
 renamed met (Prim primitive) = Prim primitive
 renamed met (Index entry) = placed (Index entry) (place_of met entry)
 
--- the same of fields, cases and methods: what stands under the labels
+-- the same of fields, cases and methods: the types under the labels
 abbrev pub renamed_under : {K : Type 0} → List ℕ → List (K × TyRef) → List (K × TyRef)
 renamed_under met rows = map (λ row. (row.0, renamed met row.1)) rows
 
@@ -35,6 +35,6 @@ renamed_entry met (Var cases) = Var (renamed_under met cases)
 renamed_entry met (Func args results notes) = Func (map (renamed met) args) (map (renamed met) results) notes
 renamed_entry met (Service methods) = Service (renamed_under met methods)
 
--- for each number of an entry there stands its place, if it was met
+-- a list that has for each entry its place, if it was met
 abbrev pub HasPlaces : List (Option ℕ) → List ℕ → Type 0
 HasPlaces places met = (entry : ℕ) → option_flatten (slice_get places entry) ≡ place_of met entry

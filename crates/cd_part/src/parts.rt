@@ -6,7 +6,7 @@ use cd_types::{Entry, TyRef};
 use ic_base::{NoMemory, Stack};
 use ic_principal::Text;
 
-/// What stands in the lists of an entry: a type, or a label with its type.
+/// What the lists of an entry have: a type, or a label with its type.
 trait Part {
     /// Its type.
     ghost type_of: { Self → TyRef };

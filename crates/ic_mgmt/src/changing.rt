@@ -16,7 +16,7 @@ use ic_principal::Principal;
 use ic_state::{Canister, Env, IncomingCall};
 use std::alloc::Global;
 
-/// Does what is demanded to the canister that it is for and that has this id, where it changes nothing beside it.
+/// Does what is demanded of this canister, which has this id, and changes nothing beside it.
 pub fn change(
     alloc: Global,
     canister: &mut Canister,

@@ -5,7 +5,7 @@
 //! sent; what is refused changes nothing. That this is what `ic_mgmt_laws` defines is proved. `manage` is the delivery of
 //! one such call.
 //!
-//! In the second phase one pass goes through the list (`specs/Sweeping`) and knows of whom a message to whom has stayed,
+//! In the second phase one pass goes through the list (`specs/Sweeping`) and knows from whom to whom a message has stayed,
 //! so that none is handled before an earlier one. A call to the management canister is carried out, and every other
 //! message goes back. That this is the second phase of a round as `ic_behaviour` defines it, one delivery after another,
 //! is proved. The laws of every run with such calls are those of `ic_mgmt_laws`, which this crate gives too.

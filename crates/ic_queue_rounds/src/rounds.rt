@@ -23,7 +23,7 @@ const FEW: u32 = 8;
 /// at: a script that drains after each line would else make queues at each line.
 const SHORT: usize = 64;
 
-/// A round over queues. That of `over_list` goes through the list. It is public for its tests: the program calls
+/// A round over queues; `round` goes through the list. This one is public for its tests: the program calls
 /// `run_rounds`.
 pub fn round_in_queues<R: Threads + Sync, G: Gate + Sync>(
     alloc: Global,

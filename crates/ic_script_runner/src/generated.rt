@@ -76,7 +76,7 @@ fn do_lines<R: Threads + Sync, G: Gate + Sync>(
     }
 }
 
-// Does a line and prints nothing: the world behind it.
+// Does a line, prints nothing, and gives the world after it.
 fn do_unprinted<R: Threads + Sync, G: Gate + Sync>(
     alloc: Global,
     rt: &R,

@@ -36,7 +36,7 @@ fn expected_at(alloc: Global, table: &TypeTable, types: &[TyRef]) -> anyhow::Res
 }
 
 /// The types of one side of a method, as what values are read at.
-#[tactic(auto, using(crate::proofs::Within::in_front, crate::proofs::Within::behind))]
+#[tactic(auto, using(crate::proofs::Within::in_front, crate::proofs::Within::after))]
 pub fn expected_of(
     alloc: Global,
     interface: &Interface,

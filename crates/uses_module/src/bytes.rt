@@ -14,7 +14,7 @@ pub const THREE_IMPORTS: &[u8] = b"\x02\x38\x03\
     \x03ic0\x15msg_reply_data_append\0\x02\
     \x03ic0\x09msg_reply\0\0";
 
-/// The same, and one that no canister has.
+/// The same, and one that is no call of the System API.
 pub const FOUR_IMPORTS: &[u8] = b"\x02\x45\x04\
     \x03ic0\x04time\0\x01\
     \x03ic0\x15msg_reply_data_append\0\x02\
