@@ -4,6 +4,7 @@ use Rattle.std.specs.Prelude.{◌==◌, if◌then◌else◌, is_some, slice_get}
 use Rattle.std.proofs.lemmas.List.{at_drop_more}
 use Rattle.std.specs.Map.{lookup}
 use Rattle.std.specs.Option.{option_or}
+use Rattle.std.specs.Str.{is_utf8}
 use Rattle.std.specs.BTreeMap.{BTreeMap, UpdatesBy, is_at, get}
 use Rattle.std.specs.BTreeSet.{BTreeSet, contains}
 use Rattle.std.specs.BTreeSet as set
@@ -16,7 +17,7 @@ use Rattle.cd_types.specs.declared.entry.Entry.{Entry}
 use Rattle.cd_tokens.specs.Token.{Token}
 use Rattle.cd_tokens.specs.ReadLabel.{name_of}
 use Rattle.cd_tokens.proofs.Fronts.{true_or_false}
-use Rattle.cd_names.specs.Names.{IdNames, name_for, HaveIds, is_among, has_id, is_used, names_in, first_with, named}
+use Rattle.cd_names.specs.Names.{IdNames, name_for, HaveIds, AreTexts, is_among, has_id, is_used, names_in, first_with, named}
 
 same_test : (a b : ℕ) → is_eq (nat_cmp a b) ≡ (a == b)
 same_test a b = grind (arith, nat_tests)
@@ -77,6 +78,13 @@ have_ids old new key name is updates have id other e = elim (true_or_false (key 
       let here : name ≡ other = some_is {A = List ℕ} name other (sym (put old new key name updates id ∙ rw same refl) ∙ e) in
       ap field_id_of (sym here) ∙ sym is ∙ one
   | inr apart ↦ have id other (sym (put old new key name updates id ∙ rw apart refl) ∙ e)
+]
+
+-- and each name is UTF-8
+pub are_texts : (old new : BTreeMap ℕ (List ℕ)) (key : ℕ) (name : List ℕ) → is_utf8 name ≡ true → UpdatesBy nat_cmp (nat_cmp key) old new (Some name) → AreTexts old.entries → AreTexts new.entries
+are_texts old new key name is updates are id other e = elim (true_or_false (key == id)) [
+  | inl same ↦ ap is_utf8 (sym (some_is {A = List ℕ} name other (sym (put old new key name updates id ∙ rw same refl) ∙ e))) ∙ is
+  | inr apart ↦ are id other (sym (put old new key name updates id ∙ rw apart refl) ∙ e)
 ]
 
 -- a name that is there has its id

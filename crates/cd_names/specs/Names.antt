@@ -1,7 +1,8 @@
 -- Names for the ids of fields and cases (Candid specification, "Shorthand: Symbolic Field Ids").
-use Rattle.std.specs.Prelude.{◌≡◌, ℕ, Bool, false, ◌==◌, if◌then◌else◌, List, Option, Some, None, find}
+use Rattle.std.specs.Prelude.{◌≡◌, ℕ, Bool, true, false, ◌==◌, if◌then◌else◌, List, Option, Some, None, find}
 use Rattle.std.specs.List.{list_any, filter_map}
 use Rattle.std.specs.Map.{lookup}
+use Rattle.std.specs.Str.{is_utf8}
 use Rattle.cd_types.specs.FieldId.{field_id_of}
 use Rattle.cd_types.specs.declared.entry.TyRef.{TyRef}
 use Rattle.cd_types.specs.declared.entry.Entry.{Entry}
@@ -20,6 +21,10 @@ name_for names id = lookup (λ key. id == key) names
 -- each name has the id that it is for
 abbrev pub HaveIds : IdNames → Type 0
 HaveIds names = (id : ℕ) (name : List ℕ) → name_for names id ≡ Some name → field_id_of name ≡ id
+
+-- each name is UTF-8
+abbrev pub AreTexts : IdNames → Type 0
+AreTexts names = (id : ℕ) (name : List ℕ) → name_for names id ≡ Some name → is_utf8 name ≡ true
 
 -- one of the fields or cases has the id
 abbrev pub is_among : List (ℕ × TyRef) → ℕ → Bool

@@ -1,7 +1,7 @@
 ghost use Rattle.std.specs.Prelude.{◌≡◌, ◌==◌, ℕ, [], Some, None, if◌then◌else◌, IfSome, OnOk};
 ghost use Rattle.std.specs.Option.{option_copied, option_or};
 ghost use Rattle.cd_types.specs.FieldId.{field_id_of};
-ghost use Rattle.cd_names.specs.Names.{name_for};
+ghost use Rattle.cd_names.specs.Names.{name_for, HaveIds, AreTexts};
 
 use cd_types::field_id;
 use ic_base::NoMemory;
@@ -18,13 +18,13 @@ pub struct FieldNames {
 }
 
 impl Model for FieldNames {
-    ghost use Rattle.cd_names.specs.Names.{IdNames, HaveIds};
+    ghost use Rattle.cd_names.specs.Names.{IdNames, HaveIds, AreTexts};
 
     ghost Value = { IdNames };
 
     ghost view = { λ n. n.names.entries };
 
-    ghost invariant = { λ n. HaveIds n.names.entries };
+    ghost invariant = { λ n. HaveIds n.names.entries × AreTexts n.names.entries };
 }
 
 impl FieldNames {
@@ -40,6 +40,9 @@ impl FieldNames {
     pub fn name(&self, id: u32) -> Option<&str>
         ensures value { option_copied result ≡ name_for self.now id }
         ensures id { IfSome result (λ name. field_id_of name.now ≡ id) }
+        // What holds of all names that are there.
+        ensures ids { HaveIds self.now }
+        ensures texts { AreTexts self.now }
     {
         match self.names.get(&id) {
             None => None,

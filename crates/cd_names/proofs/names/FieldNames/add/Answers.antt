@@ -1,14 +1,19 @@
-use Rattle.std.proofs.Common.{◌≡◌, ◌==◌, ℕ, Some, None, if◌then◌else◌, sym, ap, ◌∙◌}
+use Rattle.std.proofs.Common.{◌≡◌, ◌==◌, ℕ, Some, None, if◌then◌else◌, sym, ap, subst, ◌∙◌}
 use Rattle.std.specs.Option.{option_or}
+use Rattle.std.specs.Str.{IsUtf8}
+use Rattle.std.proofs.lemmas.Str.{is_utf8-from_IsUtf8}
 use Rattle.cd_types.specs.FieldId.{field_id_of}
 use Rattle.cd_names.specs.Names.{IdNames, name_for}
-use Rattle.cd_names.proofs.Found.{added, have_ids, absent}
+use Rattle.cd_names.proofs.Found.{added, have_ids, are_texts, absent}
 use Rattle.cd_names.proofs.names.FieldNames.add.Goals.{in-Some-1, in-None-1}
 use Rattle.cd_names.proofs.names.FieldNames.add.Goals as goal
 
 pub invariant_of-self-in_ok-insert-2 : goal.invariant_of-self-in_ok-insert-2
 invariant_of-self-in_ok-insert-2 c =
-    have_ids c.self.inside.names c.insert.new.self c.field_id-id.result c.args.name (c.field_id-id.ensures ∙ ap field_id_of (c.as_str.ensures.value ∙ c.name.view_is)) c.in_ok-insert.ensures.updates c.self.invariant
+    let same = c.as_str.ensures.value ∙ c.name.view_is in (
+      have_ids c.self.inside.names c.insert.new.self c.field_id-id.result c.args.name (c.field_id-id.ensures ∙ ap field_id_of same) c.in_ok-insert.ensures.updates c.self.invariant.0,
+      are_texts c.self.inside.names c.insert.new.self c.field_id-id.result c.args.name (is_utf8-from_IsUtf8 c.args.name (subst IsUtf8 same c.as_str.utf8)) c.in_ok-insert.ensures.updates c.self.invariant.1,
+    )
 
 pub returns-in_ok-insert : goal.returns-in_ok-insert
 returns-in_ok-insert c =
