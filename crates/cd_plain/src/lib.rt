@@ -8,4 +8,4 @@ mod printing;
 mod types;
 
 pub use plain_reader::{func_of, natural_below, primitive_of, principal_behind, string_of};
-pub use printing::print;
+pub use printing::{print, print_named};

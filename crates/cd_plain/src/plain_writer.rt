@@ -3,8 +3,9 @@ ghost use Rattle.std.specs.Char.{digit_char};
 ghost use Rattle.std.specs.Fmt.{decimal, signed_decimal};
 ghost use Rattle.std.specs.List.{flat_map};
 ghost use Rattle.ic_principal.specs.Text.{text_of as principal_text};
-ghost use Rattle.cd_plain.specs.Printed.{hex_escape, escape, quoted, bool_text};
+ghost use Rattle.cd_plain.specs.Printed.{hex_escape, escape, quoted, name_text, bool_text};
 
+use cd_tokens::is_name;
 use ic_base::NoMemory;
 use ic_principal::{Principal, Text};
 use std::alloc::Global;
@@ -75,15 +76,33 @@ pub(crate) fn write_blob(bytes: &[u8], out: &mut Vec<u8>) -> Result<(), NoMemory
     Ok(())
 }
 
-pub(crate) fn write_text(text: &Text, out: &mut Vec<u8>) -> Result<(), NoMemory>
-    ensures { OnOk result (out.new.items ≡ out.old.items ++ quoted text.now) }
+fn write_quoted(bytes: &[u8], out: &mut Vec<u8>) -> Result<(), NoMemory>
+    ensures { OnOk result (out.new.items ≡ out.old.items ++ quoted bytes.now) }
 {
     out.push(b'"')?;
-    for byte in text.items.as_bytes() {
+    for byte in bytes {
         write_escape(*byte, out)?;
     }
     out.push(b'"')?;
     Ok(())
+}
+
+pub(crate) fn write_text(text: &Text, out: &mut Vec<u8>) -> Result<(), NoMemory>
+    ensures { OnOk result (out.new.items ≡ out.old.items ++ quoted text.now) }
+{
+    write_quoted(text.items.as_bytes(), out)
+}
+
+/// A name as a label: bare where it is one word, in quotes else.
+pub(crate) fn write_name(name: &str, out: &mut Vec<u8>) -> Result<(), NoMemory>
+    ensures { OnOk result (out.new.items ≡ out.old.items ++ name_text name.now) }
+{
+    let bytes = name.as_bytes();
+    if is_name(bytes) {
+        out.extend_from_slice(bytes)
+    } else {
+        write_quoted(bytes, out)
+    }
 }
 
 /// A word, a blank, and the text of a principal.

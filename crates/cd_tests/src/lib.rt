@@ -18,6 +18,8 @@ mod messages;
 #[cfg(test)]
 mod methods;
 #[cfg(test)]
+mod named;
+#[cfg(test)]
 mod names;
 #[cfg(test)]
 mod numbers;

@@ -1,19 +1,20 @@
 -- Values whose bytes are bytes, one more at a time; so what is printed of them says them.
-use Rattle.std.proofs.Common.{◌≡◌, ℕ, ◌+◌, ◌≤◌, ◌<◌, List, [], ◌∷◌, ◌++◌, length, take, get_or, sym, ap, subst, ◌∙◌}
+use Rattle.std.proofs.Common.{◌≡◌, ℕ, ◌+◌, ◌≤◌, ◌<◌, List, [], ◌∷◌, ◌++◌, length, take, get_or, Option, sym, ap, subst, ◌∙◌}
 use Rattle.std.proofs.lemmas.List.{take_all}
 use Rattle.std.specs.Prelude.{IsTrue}
 use Rattle.cd_types.specs.IsTable.{is_table}
 use Rattle.cd_types.specs.declared.entry.Entry.{Entry}
 use Rattle.cd_types.specs.declared.entry.TyRef.{TyRef}
+use Rattle.cd_names.specs.Names.{IdNames}
 use Rattle.cd_codec.specs.declared.value.Value.{Value}
 use Rattle.cd_codec.specs.AreValues.{HasTypes}
 use Rattle.cd_codec.specs.Content.{Content, contents_of, parts_of}
 use Rattle.cd_codec.specs.Measure.{nesting_each, number_each}
 use Rattle.cd_codec.specs.View.{view, views, views_of_fields}
 use Rattle.cd_text.specs.HoldsBytes.{HoldsBytes, HoldsBytesAll, HoldsBytesParts}
-use Rattle.cd_plain.specs.Printed.{printed}
+use Rattle.cd_plain.specs.Printed.{printed_with}
 use Rattle.cd_text.specs.Whole.{Said}
-use Rattle.cd_text.proofs.Written.{printed_says}
+use Rattle.cd_text.proofs.Written.{AreLabels, printed_says}
 use Rattle.cd_plain.proofs.Pieces.{seen_more}
 
 values_push : (vs : List Content) (v : Content) → HoldsBytesAll (contents_of vs) → HoldsBytes v → HoldsBytesAll (contents_of (vs ++ v ∷ []))
@@ -41,9 +42,9 @@ pub fields_held : (items : List (ℕ × Value)) (i : ℕ) → length items ≤ i
 fields_held items i past all = subst (λ xs. HoldsBytesParts (parts_of (views_of_fields xs))) (take_all i items past) all
 
 -- what was printed says the values
-pub printed_back : (table at : List Entry) (types : List TyRef) (expected : List Entry × List TyRef) (values : List Content) (bytes : List ℕ) → IsTrue (is_table table) → table ≡ expected.0 → at ≡ expected.0 → types ≡ expected.1 → bytes ≡ printed at types values
-    → HasTypes expected.0 expected.1 values → HoldsBytesAll (contents_of values) → nesting_each values ≤ 128 → number_each values ≤ 1000000 → Said expected.0 expected.1 values bytes
-printed_back table at types expected values bytes formed same again kinds is typed holds deep many =
+pub printed_back : (names : Option IdNames) (table at : List Entry) (types : List TyRef) (expected : List Entry × List TyRef) (values : List Content) (bytes : List ℕ) → AreLabels names → IsTrue (is_table table) → table ≡ expected.0 → at ≡ expected.0 → types ≡ expected.1
+    → bytes ≡ printed_with names at types values → HasTypes expected.0 expected.1 values → HoldsBytesAll (contents_of values) → nesting_each values ≤ 128 → number_each values ≤ 1000000 → Said expected.0 expected.1 values bytes
+printed_back names table at types expected values bytes are formed same again kinds is typed holds deep many =
     let formed_is = subst (λ t. IsTrue (is_table t)) same formed in
-    let bytes_are = is ∙ ap (λ t. printed t types values) again ∙ ap (λ ts. printed expected.0 ts values) kinds in
-    subst (Said expected.0 expected.1 values) (sym bytes_are) (printed_says expected.0 expected.1 values formed_is typed holds deep many)
+    let bytes_are = is ∙ ap (λ t. printed_with names t types values) again ∙ ap (λ ts. printed_with names expected.0 ts values) kinds in
+    subst (Said expected.0 expected.1 values) (sym bytes_are) (printed_says names expected.0 expected.1 values are formed_is typed holds deep many)

@@ -1,12 +1,12 @@
 -- What is printed of values says them.
-use Rattle.std.proofs.Common.{◌≡◌, ℕ, zero, suc, ◌+◌, ◌≤◌, ◌<◌, ◌^◌, Bool, true, false, List, [], ◌∷◌, ◌++◌, length, map, Some, codes, refl, sym, ap, subst, ◌∙◌, append_assoc, inl, inr, arith}
-use Rattle.std.specs.Prelude.{ℤ, pos, negsuc, ◌==◌, ◌&&◌, nat_lt, nat_le, slice_get, FitsSigned, IsTrue}
+use Rattle.std.proofs.Common.{◌≡◌, ℕ, zero, suc, ◌+◌, ◌≤◌, ◌<◌, ◌^◌, Bool, true, false, List, [], ◌∷◌, ◌++◌, length, map, Option, Some, None, codes, refl, sym, ap, subst, ◌∙◌, append_assoc, inl, inr, arith}
+use Rattle.std.specs.Prelude.{ℤ, pos, negsuc, ◌==◌, ◌&&◌, not, nat_lt, nat_le, slice_get, FitsSigned, IsTrue}
 use Rattle.std.specs.Fmt.{decimal, signed_decimal}
 use mir.Val.{bits}
 use mir.ValLaws.{to_z-Fits}
 use Rattle.std.specs.Int.{Width, w8, w16, w32, w64, cast_signed}
 use Rattle.std.specs.Int.Signed.{mag}
-use Rattle.std.specs.List.{AllByRecursion, flat_map}
+use Rattle.std.specs.List.{AllByRecursion, flat_map, list_all}
 use Rattle.std.specs.Str.{is_utf8}
 use Rattle.std.proofs.lemmas.Bool.{ltb-true, lt-ltb, leb-true}
 use Rattle.std.proofs.lemmas.List.{append-nil}
@@ -19,6 +19,7 @@ use Rattle.cd_types.specs.declared.primitive.Primitive.TheVariants as primitives
 use Rattle.cd_types.specs.declared.entry.TyRef.{TyRef}
 use Rattle.cd_types.specs.declared.entry.Entry.{Entry}
 use Rattle.cd_types.specs.declared.entry.Entry.TheVariants.{Opt, Seq, Rec, Var}
+use Rattle.cd_types.specs.FieldId.{field_id_of}
 use Rattle.cd_types.specs.IsOrdered.{ids_rise_from}
 use Rattle.cd_types.specs.IsTable.{is_table}
 use Rattle.cd_types.specs.Shape.{Shape, primitive, compound, shape}
@@ -28,12 +29,15 @@ use Rattle.cd_codec.specs.Measure.{nesting, nesting_all, nesting_parts, nesting_
 use Rattle.cd_codec.specs.Plain.{HasShape, SpellsPlain}
 use Rattle.cd_codec.specs.Wire.{Wire, WireAll, WireParts}
 use Rattle.cd_codec.proofs.ValueAgain.{items_in, contents_in, parts_in, parts_made}
+use Rattle.cd_names.specs.Names.{IdNames, name_for, HaveIds, AreTexts}
+use Rattle.cd_tokens.specs.Bytes.{is_digit, is_word_byte}
+use Rattle.cd_tokens.specs.Label.{is_name, IsLabel}
 use Rattle.cd_tokens.specs.Lexed.{IsTokens}
 use Rattle.cd_tokens.specs.ReadNumeral.{is_between}
 use Rattle.cd_tokens.specs.Token.{Token, run, quoted, mark, is_run}
 use Rattle.cd_text.specs.HoldsBytes.{HoldsBytes, HoldsBytesAll, HoldsBytesParts, NamesPrincipal}
-use Rattle.cd_plain.specs.Printed.{hex_escape, escape, joined, braced, labelled as labelled_text, plain_text, value_text, item_texts, field_texts, argument_texts, printed}
-use Rattle.cd_text.specs.Said.{Annotated, bare, SaysParts, no_place, type_of, SaysField, labelled, value_of, is_absent, are_distinct, filled, place_of, valued, SaysShape, Says}
+use Rattle.cd_plain.specs.Printed.{hex_escape, escape, joined, braced, labelled as labelled_text, name_text, name_or_number, label_text, is_left_out, case_text, plain_text, value_text, item_texts, field_texts, argument_texts, printed_with}
+use Rattle.cd_text.specs.Said.{Annotated, bare, SaysParts, no_place, type_of, SaysField, labelled, SaysCase, alone, value_of, is_absent, are_distinct, filled, place_of, valued, SaysShape, Says}
 use Rattle.cd_text.specs.SaysPlain.{SaysNatural, SaysInteger, SaysPrincipal, SaysFunc, IsPrincipalText}
 use Rattle.cd_plain.specs.Types.{inner_of, item_of, fields_of, nth_field, nth_type}
 use Rattle.cd_text.specs.Whole.{SaysArgument, Said}
@@ -42,7 +46,8 @@ use Rattle.cd_text.proofs.Arguments.{placed_values, placed_count}
 use Rattle.cd_text.proofs.Decimals.{decimal_run, decimal_label, decimal_natural, signed_integer, signed_run}
 use Rattle.cd_text.proofs.Escapes.{escapes_closed, escapes_utf8, escapes_text, hexes_closed, hexes_utf8, hex_says}
 use Rattle.cd_text.proofs.PrincipalTexts.{principal_text_utf8}
-use Rattle.cd_text.proofs.Prints.{Prints, no_tokens, mark_before, blank_before, run_before, run_alone, string_before, both_print, IsWritten, AreWritten, parts_written, braces_written}
+use Rattle.cd_text.proofs.Prints.{Prints, IsApart, no_tokens, mark_before, blank_before, run_before, run_alone, string_before, both_print, IsWritten, AreWritten, parts_written, braces_written}
+use Rattle.cd_tokens.proofs.Fronts.{true_or_false}
 use Rattle.cd_text.proofs.Typed.{Inside, all_inside, shape_ordered}
 use Rattle.cd_text.proofs.Values.{both, fields_distinct}
 
@@ -222,13 +227,109 @@ shaped table depth type s v bytes is w = record {
   says = inl (subst (λ (x : Shape). SaysShape depth table (Says table depth) x v w.tokens) (sym is) w.says);
 }
 
-field_written : (table : List Entry) (depth : ℕ) (fields : List (ℕ × TyRef)) (next id : ℕ) (type : TyRef) (v : Content) (bytes : List ℕ) → id < 2 ^ 32 → type_of fields id ≡ Some type → IsWritten (Says table depth type v) bytes
-    → IsWritten (SaysField (Says table depth) fields next (id, v)) (labelled_text id bytes)
-field_written table depth fields next id type v bytes small is w = record {
-  tokens = run (decimal id) ∷ mark 61 ∷ w.tokens;
-  prints = run_before (decimal id) (mark 61 ∷ w.tokens) (32 ∷ 61 ∷ 32 ∷ bytes) (decimal_run id (omega (arith, small))) (λ rest ends. refl) (blank_before _ _ (mark_before 61 w.tokens _ refl (blank_before w.tokens bytes w.prints)));
-  says = labelled type (run (decimal id)) w.tokens is (decimal_label id small) refl (bare w.says);
+-- a label with this id, and how it is printed before other tokens
+record IsLabelText (id : ℕ) (text : List ℕ) : Type 0 where
+  pub label : Token
+  pub is_label : IsLabel id label
+  pub before : (tokens : List Token) (bytes : List ℕ) → IsApart bytes → Prints tokens bytes → Prints (label ∷ tokens) (text ++ bytes)
+
+number_written : (id : ℕ) → id < 2 ^ 32 → IsLabelText id (decimal id)
+number_written id small = record {
+  label = run (decimal id);
+  is_label = decimal_label id small;
+  before = λ tokens bytes apart p. run_before (decimal id) tokens bytes (decimal_run id (omega (arith, small))) apart p;
 }
+
+name_run : (name : List ℕ) → is_name name ≡ true → is_run name ≡ true
+name_run [] is = absurd cc
+name_run (b ∷ bytes) is =
+    let h = both (is_word_byte b && not (is_digit b)) (list_all is_word_byte bytes) is in
+    let first = (both (is_word_byte b) (not (is_digit b)) h.0).0 in
+    rw (first, h.1) refl
+
+name_written : (id : ℕ) (name : List ℕ) → field_id_of name ≡ id → is_utf8 name ≡ true → IsLabelText id (name_text name)
+name_written id name has is = elim (true_or_false (is_name name)) [
+  | inl bare_is ↦ rw bare_is (record { label = run name; is_label = inr (name, (bare_is, refl), sym has); before = λ tokens bytes apart p. run_before name tokens bytes (name_run name bare_is) apart p })
+  | inr other ↦ rw other (record {
+    label = quoted (flat_map escape name);
+    is_label = inr (name, escapes_text name is, sym has);
+    before = λ tokens bytes apart p. subst (Prints (quoted (flat_map escape name) ∷ tokens)) (ap (λ (xs : List ℕ). 34 ∷ xs) (sym (append_assoc (flat_map escape name) (34 ∷ []) bytes))) (string_written name tokens bytes is p);
+  })
+]
+
+-- the names that labels are printed by have their ids, and are texts
+abbrev pub AreLabels : Option IdNames → Type 0
+AreLabels None = Unit {0}
+AreLabels (Some names) = HaveIds names × AreTexts names
+
+label_written : (names : Option IdNames) → AreLabels names → (id : ℕ) → id < 2 ^ 32 → IsLabelText id (label_text names id)
+label_written None are id small = number_written id small
+label_written (Some names) are id small = of_name (name_for names id) refl
+  where
+    of_name : (found : Option (List ℕ)) → name_for names id ≡ found → IsLabelText id (name_or_number found id)
+    of_name None e = number_written id small
+    of_name (Some name) e = name_written id name (are.0 id name e) (are.1 id name e)
+
+field_written : (names : Option IdNames) (table : List Entry) → AreLabels names → (depth : ℕ) (fields : List (ℕ × TyRef)) (next id : ℕ) (type : TyRef) (v : Content) (bytes : List ℕ) → id < 2 ^ 32 → type_of fields id ≡ Some type → IsWritten (Says table depth type v) bytes
+    → IsWritten (SaysField (Says table depth) fields next (id, v)) (labelled_text (label_text names id) bytes)
+field_written names table are depth fields next id type v bytes small is w =
+    let l = label_written names are id small in
+    record {
+      tokens = l.label ∷ mark 61 ∷ w.tokens;
+      prints = l.before (mark 61 ∷ w.tokens) (32 ∷ 61 ∷ 32 ∷ bytes) (λ rest ends. refl) (blank_before _ _ (mark_before 61 w.tokens _ refl (blank_before w.tokens bytes w.prints)));
+      says = labelled type l.label w.tokens is l.is_label refl (bare w.says);
+    }
+
+-- ---- a case
+
+-- a label and what says the value, printed before a closing brace
+record IsCaseText (table : List Entry) (depth id : ℕ) (type : TyRef) (v : Content) (text : List ℕ) : Type 0 where
+  pub label : Token
+  pub front : List Token
+  pub is_label : IsLabel id label
+  pub says : SaysCase depth table (Says table depth) type v front
+  pub prints : Prints (label ∷ (front ++ mark 125 ∷ [])) (text ++ codes " }")
+
+ends_braces : Prints (mark 125 ∷ []) (codes " }")
+ends_braces = blank_before (mark 125 ∷ []) (125 ∷ []) (mark_before 125 [] [] refl no_tokens)
+
+left_is : (names : Option IdNames) (v : Content) → is_left_out names v ≡ true → v ≡ plain null
+left_is None v e = absurd cc
+left_is (Some names) (plain null) e = refl
+left_is (Some names) _ e = absurd cc
+
+one_less : (n : ℕ) → 0 < n → (m : ℕ) × (n ≡ suc m)
+one_less zero deep = absurd (omega (arith, deep))
+one_less (suc m) deep = (m, refl)
+
+case_written : (names : Option IdNames) (table : List Entry) → AreLabels names → (depth id : ℕ) (type : TyRef) (v : Content) (bytes wire : List ℕ) → id < 2 ^ 32 → 0 < depth → Wire table type v wire → IsWritten (Says table depth type v) bytes
+    → IsCaseText table depth id type v (case_text names id v bytes)
+case_written names table are depth id type v bytes wire small deep spelled w =
+    let l = label_written names are id small in
+    elim (true_or_false (is_left_out names v)) [
+      | inl left ↦
+          let is = left_is names v left in
+          let less = one_less depth deep in
+          let null_shape : HasShape null (shape table type) = (subst (λ u. Wire table type u wire) is spelled).0 in
+          rw left (record {
+            label = l.label;
+            front = [];
+            is_label = l.is_label;
+            says = alone less.0 less.1 null_shape is refl;
+            prints = l.before (mark 125 ∷ []) (codes " }") (λ rest ends. refl) ends_braces;
+          })
+      | inr valued_is ↦ rw valued_is (record {
+        label = l.label;
+        front = mark 61 ∷ w.tokens;
+        is_label = l.is_label;
+        says = valued w.tokens refl (bare w.says);
+        prints = subst (Prints (l.label ∷ mark 61 ∷ (w.tokens ++ mark 125 ∷ []))) (sym (append_assoc (label_text names id) (codes " = " ++ bytes) (codes " }")))
+            (l.before (mark 61 ∷ (w.tokens ++ mark 125 ∷ [])) (32 ∷ 61 ∷ 32 ∷ (bytes ++ codes " }")) (λ rest ends. refl)
+            (blank_before _ _ (mark_before 61 _ _ refl (blank_before _ _ (both_print w.tokens (mark 125 ∷ []) bytes (codes " }") (λ rest ends. refl) w.prints ends_braces)))));
+      })
+    ]
+
+-- ---- places
 
 -- from this place on, the fields are these
 abbrev StandAt : {A : Type 0} → List A → ℕ → List A → Type 0
@@ -245,40 +346,40 @@ from_start all k = let n : 0 + k ≡ k = omega arith in ap (slice_get all) n
 mutual
   unfolding value_text items_in parts_in
 
-  pub value_written : (table : List Entry) → IsTrue (is_table table) → (v : Content) (type : TyRef) (depth : ℕ) (bytes : List ℕ) → Wire table type v bytes → HoldsBytes v → nesting v ≤ depth → IsWritten (Says table depth type v) (value_text table type v)
-  value_written table formed v type zero bytes wire holds deep = let n = some_level v in absurd (omega (arith, n, deep))
-  value_written table formed (plain p) type (suc depth) bytes wire holds deep = shaped table depth type (shape table type) (plain p) (plain_text p) refl (plain_written table depth (shape table type) p bytes wire.0 wire.1 holds)
-  value_written table formed (blob s) type (suc depth) bytes wire holds deep =
+  pub value_written : (names : Option IdNames) (table : List Entry) → AreLabels names → IsTrue (is_table table) → (v : Content) (type : TyRef) (depth : ℕ) (bytes : List ℕ) → Wire table type v bytes → HoldsBytes v → nesting v ≤ depth → IsWritten (Says table depth type v) (value_text names table type v)
+  value_written names table are_labels formed v type zero bytes wire holds deep = let n = some_level v in absurd (omega (arith, n, deep))
+  value_written names table are_labels formed (plain p) type (suc depth) bytes wire holds deep = shaped table depth type (shape table type) (plain p) (plain_text p) refl (plain_written table depth (shape table type) p bytes wire.0 wire.1 holds)
+  value_written names table are_labels formed (blob s) type (suc depth) bytes wire holds deep =
       shaped table depth type (compound (Seq wire.0)) (blob s) _ wire.1 (record {
         tokens = run (codes "blob") ∷ quoted (flat_map hex_escape s) ∷ [];
         prints = run_before (codes "blob") (quoted (flat_map hex_escape s) ∷ []) _ refl (λ rest ends. refl) (blank_before _ _ (string_before (flat_map hex_escape s) [] [] (hexes_closed s) (hexes_utf8 s holds) no_tokens));
         says = inl (s, wire.2, refl, inl (flat_map hex_escape s, refl, hex_says s holds));
       })
-  value_written table formed none type (suc depth) bytes wire holds deep = shaped table depth type (compound (Opt wire.0)) none (codes "null") wire.1 (word_written (codes "null") _ refl (inl (refl, refl)))
-  value_written table formed (some v) type (suc depth) bytes wire holds deep =
+  value_written names table are_labels formed none type (suc depth) bytes wire holds deep = shaped table depth type (compound (Opt wire.0)) none (codes "null") wire.1 (word_written (codes "null") _ refl (inl (refl, refl)))
+  value_written names table are_labels formed (some v) type (suc depth) bytes wire holds deep =
       let inner = wire.0 in
-      let w = value_written table formed v inner depth wire.2 wire.4 holds (omega (arith, deep)) in
-      let text_is : codes "opt " ++ value_text table inner v ≡ value_text table type (some v) = ap (λ (s : Shape). codes "opt " ++ value_text table (inner_of s) v) (sym wire.1) in
+      let w = value_written names table are_labels formed v inner depth wire.2 wire.4 holds (omega (arith, deep)) in
+      let text_is : codes "opt " ++ value_text names table inner v ≡ value_text names table type (some v) = ap (λ (s : Shape). codes "opt " ++ value_text names table (inner_of s) v) (sym wire.1) in
       subst (IsWritten (Says table (suc depth) type (some v))) text_is (shaped table depth type (compound (Opt inner)) (some v) _ wire.1 (record {
         tokens = run (codes "opt") ∷ w.tokens;
-        prints = run_before (codes "opt") w.tokens (32 ∷ value_text table inner v) refl (λ rest ends. refl) (blank_before w.tokens (value_text table inner v) w.prints);
+        prints = run_before (codes "opt") w.tokens (32 ∷ value_text names table inner v) refl (λ rest ends. refl) (blank_before w.tokens (value_text names table inner v) w.prints);
         says = inr (v, w.tokens, refl, refl, w.says);
       }))
-  value_written table formed (list vs) type (suc depth) bytes wire holds deep =
+  value_written names table are_labels formed (list vs) type (suc depth) bytes wire holds deep =
       let item = wire.0 in
-      let are = items_written table formed vs item depth 0 wire.4 wire.7 holds (omega (arith, deep)) in
-      let w = braces_written (codes "vec") (λ next u. Annotated item (Says table depth item u)) no_place refl (items_in vs) (item_texts table item vs) are in
-      let text_is : codes "vec " ++ braced (item_texts table item vs) ≡ value_text table type (list vs) = ap (λ (s : Shape). codes "vec " ++ braced (item_texts table (item_of s) vs)) (sym wire.1) in
+      let are = items_written names table are_labels formed vs item depth 0 wire.4 wire.7 holds (omega (arith, deep)) in
+      let w = braces_written (codes "vec") (λ next u. Annotated item (Says table depth item u)) no_place refl (items_in vs) (item_texts names table item vs) are in
+      let text_is : codes "vec " ++ braced (item_texts names table item vs) ≡ value_text names table type (list vs) = ap (λ (s : Shape). codes "vec " ++ braced (item_texts names table (item_of s) vs)) (sym wire.1) in
       subst (IsWritten (Says table (suc depth) type (list vs))) text_is (shaped table depth type (compound (Seq item)) (list vs) _ wire.1
       (record { tokens = w.tokens; prints = w.prints; says = inr (items_in vs, wire.2, ap (λ us. list us) (sym (contents_in vs)), w.says) }))
-  value_written table formed (record_of ps) type (suc depth) bytes wire holds deep =
+  value_written names table are_labels formed (record_of ps) type (suc depth) bytes wire holds deep =
       let fields = wire.0 in
       let rise = shape_ordered table formed type (Rec fields) wire.1 in
-      let are = fields_written table formed ps fields fields depth 0 0 bytes rise wire.2 holds (omega (arith, deep)) (from_start fields) (all_inside fields (fields_distinct fields 0 rise)) in
-      let w = braces_written (codes "record") (SaysField (Says table depth) fields) (λ f. suc f.0) refl (parts_in ps) (field_texts table fields 0 ps) are in
+      let are = fields_written names table are_labels formed ps fields fields depth 0 0 bytes rise wire.2 holds (omega (arith, deep)) (from_start fields) (all_inside fields (fields_distinct fields 0 rise)) in
+      let w = braces_written (codes "record") (SaysField (Says table depth) fields) (λ f. suc f.0) refl (parts_in ps) (field_texts names table fields 0 ps) are in
       let ids = parts_ids table ps fields bytes wire.2 in
       let said_rise : ids_rise_from 0 (map (λ q. q.0) (parts_in ps)) ≡ true = ap (ids_rise_from 0) ids ∙ rise in
-      let text_is : codes "record " ++ braced (field_texts table fields 0 ps) ≡ value_text table type (record_of ps) = ap (λ (s : Shape). codes "record " ++ braced (field_texts table (fields_of s) 0 ps)) (sym wire.1) in
+      let text_is : codes "record " ++ braced (field_texts names table fields 0 ps) ≡ value_text names table type (record_of ps) = ap (λ (s : Shape). codes "record " ++ braced (field_texts names table (fields_of s) 0 ps)) (sym wire.1) in
       subst (IsWritten (Says table (suc depth) type (record_of ps))) text_is (shaped table depth type (compound (Rec fields)) (record_of ps) _ wire.1 (record {
         tokens = w.tokens;
         prints = w.prints;
@@ -291,78 +392,75 @@ mutual
           is = ap record_of (sym (parts_made ps));
         };
       }))
-  value_written table formed (variant i v) type (suc depth) bytes wire holds deep =
+  value_written names table are_labels formed (variant i v) type (suc depth) bytes wire holds deep =
       let cases = wire.0 in
       let case = wire.2 in
       let rise = shape_ordered table formed type (Var cases) wire.1 in
       let there = case_at cases i 0 case rise wire.3 in
-      let w = value_written table formed v case.1 depth wire.5 wire.8 holds (omega (arith, deep)) in
+      let w = value_written names table are_labels formed v case.1 depth wire.5 wire.8 holds (omega (arith, deep)) in
+      let level = some_level v in
+      let c = case_written names table are_labels depth case.0 case.1 v (value_text names table case.1 v) wire.5 there.2 (omega (arith, deep, level)) wire.8 w in
       let field : nth_field cases i ≡ case = rw wire.3 refl in
       let shape_field : nth_field (fields_of (shape table type)) i ≡ case = ap (λ (s : Shape). nth_field (fields_of s) i) wire.1 ∙ field in
-      let text_is : codes "variant { " ++ (labelled_text case.0 (value_text table case.1 v) ++ codes " }") ≡ value_text table type (variant i v) =
-      ap (λ (x : List ℕ). codes "variant { " ++ (x ++ codes " }")) (sym (append-nil (labelled_text case.0 (value_text table case.1 v))))
-      ∙ ap (λ (d : ℕ × TyRef). codes "variant " ++ braced (labelled_text d.0 (value_text table d.1 v) ∷ [])) (sym shape_field) in
-      let end : Prints (mark 125 ∷ []) (codes " }") = blank_before (mark 125 ∷ []) (125 ∷ []) (mark_before 125 [] [] refl no_tokens) in
-      let labelled_is : Prints (run (decimal case.0) ∷ mark 61 ∷ (w.tokens ++ mark 125 ∷ [])) (labelled_text case.0 (value_text table case.1 v) ++ codes " }") =
-      subst (Prints (run (decimal case.0) ∷ mark 61 ∷ (w.tokens ++ mark 125 ∷ []))) (sym (append_assoc (decimal case.0) (codes " = " ++ value_text table case.1 v) (codes " }")))
-      (run_before (decimal case.0) (mark 61 ∷ (w.tokens ++ mark 125 ∷ [])) (32 ∷ 61 ∷ 32 ∷ (value_text table case.1 v ++ codes " }")) (decimal_run case.0 (let b = there.2 in omega (arith, b))) (λ rest ends. refl)
-      (blank_before _ _ (mark_before 61 _ _ refl (blank_before _ _ (both_print w.tokens (mark 125 ∷ []) (value_text table case.1 v) (codes " }") (λ rest ends. refl) w.prints end))))) in
+      let text_is : codes "variant { " ++ (case_text names case.0 v (value_text names table case.1 v) ++ codes " }") ≡ value_text names table type (variant i v) =
+      ap (λ (x : List ℕ). codes "variant { " ++ (x ++ codes " }")) (sym (append-nil (case_text names case.0 v (value_text names table case.1 v))))
+      ∙ ap (λ (d : ℕ × TyRef). codes "variant " ++ braced (case_text names d.0 v (value_text names table d.1 v) ∷ [])) (sym shape_field) in
       subst (IsWritten (Says table (suc depth) type (variant i v))) text_is (shaped table depth type (compound (Var cases)) (variant i v) _ wire.1 (record {
-        tokens = run (codes "variant") ∷ mark 123 ∷ run (decimal case.0) ∷ mark 61 ∷ (w.tokens ++ mark 125 ∷ []);
-        prints = run_before (codes "variant") _ (32 ∷ 123 ∷ 32 ∷ (labelled_text case.0 (value_text table case.1 v) ++ codes " }")) refl (λ rest ends. refl) (blank_before _ _ (mark_before 123 _ _ refl (blank_before _ _ labelled_is)));
+        tokens = run (codes "variant") ∷ mark 123 ∷ c.label ∷ (c.front ++ mark 125 ∷ []);
+        prints = run_before (codes "variant") _ (32 ∷ 123 ∷ 32 ∷ (case_text names case.0 v (value_text names table case.1 v) ++ codes " }")) refl (λ rest ends. refl) (blank_before _ _ (mark_before 123 _ _ refl (blank_before _ _ c.prints)));
         says = record {
           id = case.0;
           place = i;
           type = case.1;
           value = v;
-          label = run (decimal case.0);
-          front = mark 61 ∷ w.tokens;
+          label = c.label;
+          front = c.front;
           end = mark 125 ∷ [];
           whole = refl;
-          is_label = decimal_label case.0 there.2;
+          is_label = c.is_label;
           at_place = there.0;
           has_type = there.1;
-          says = valued w.tokens refl (bare w.says);
+          says = c.says;
           ends = inl refl;
           is = refl;
         };
       }))
 
-  items_written : (table : List Entry) → IsTrue (is_table table) → (vs : Contents) (item : TyRef) (depth next : ℕ) (bytes : List ℕ) → WireAll table item vs bytes → HoldsBytesAll vs → nesting_all vs ≤ depth
-      → AreWritten (λ next u. Annotated item (Says table depth item u)) no_place next (items_in vs) (item_texts table item vs)
-  items_written table formed no_content item depth next bytes wire holds deep = refl
-  items_written table formed (content v vs) item depth next bytes wire holds deep =
-      let w = value_written table formed v item depth wire.0 wire.3 holds.0 (omega (arith, deep)) in
-      (value_text table item v, item_texts table item vs, refl, record { tokens = w.tokens; prints = w.prints; says = bare w.says }, items_written table formed vs item depth 0 wire.1 wire.4 holds.1 (omega (arith, deep)))
+  items_written : (names : Option IdNames) (table : List Entry) → AreLabels names → IsTrue (is_table table) → (vs : Contents) (item : TyRef) (depth next : ℕ) (bytes : List ℕ) → WireAll table item vs bytes → HoldsBytesAll vs → nesting_all vs ≤ depth
+      → AreWritten (λ next u. Annotated item (Says table depth item u)) no_place next (items_in vs) (item_texts names table item vs)
+  items_written names table are_labels formed no_content item depth next bytes wire holds deep = refl
+  items_written names table are_labels formed (content v vs) item depth next bytes wire holds deep =
+      let w = value_written names table are_labels formed v item depth wire.0 wire.3 holds.0 (omega (arith, deep)) in
+      (value_text names table item v, item_texts names table item vs, refl, record { tokens = w.tokens; prints = w.prints; says = bare w.says }, items_written names table are_labels formed vs item depth 0 wire.1 wire.4 holds.1 (omega (arith, deep)))
 
-  fields_written : (table : List Entry) → IsTrue (is_table table) → (ps : Parts) (all fields : List (ℕ × TyRef)) (depth next place : ℕ) (bytes : List ℕ) → ids_rise_from 0 (map (λ f. f.0) all) ≡ true → WireParts table fields ps bytes → HoldsBytesParts ps → nesting_parts ps ≤ depth
-      → StandAt all place fields → Inside all fields → AreWritten (SaysField (Says table depth) all) (λ f. suc f.0) next (parts_in ps) (field_texts table all place ps)
-  fields_written table formed no_part all fields depth next place bytes rise wire holds deep at inside = refl
-  fields_written table formed (part i v ps) all fields depth next place bytes rise (field, more, is, id, front, rest, whole, first, wire) holds deep at inside =
+  fields_written : (names : Option IdNames) (table : List Entry) → AreLabels names → IsTrue (is_table table) → (ps : Parts) (all fields : List (ℕ × TyRef)) (depth next place : ℕ) (bytes : List ℕ) → ids_rise_from 0 (map (λ f. f.0) all) ≡ true → WireParts table fields ps bytes → HoldsBytesParts ps → nesting_parts ps ≤ depth
+      → StandAt all place fields → Inside all fields → AreWritten (SaysField (Says table depth) all) (λ f. suc f.0) next (parts_in ps) (field_texts names table all place ps)
+  fields_written names table are_labels formed no_part all fields depth next place bytes rise wire holds deep at inside = refl
+  fields_written names table are_labels formed (part i v ps) all fields depth next place bytes rise (field, more, is, id, front, rest, whole, first, wire) holds deep at inside =
       let stand = stand_next all place field more (subst (StandAt all place) is at) in
       let inside_is = subst (Inside all) is inside in
       let there = case_at all place 0 field rise stand.0 in
-      let w = value_written table formed v field.1 depth front first holds.0 (omega (arith, deep)) in
+      let w = value_written names table are_labels formed v field.1 depth front first holds.0 (omega (arith, deep)) in
       let field_is : nth_field all place ≡ field = rw stand.0 refl in
-      let one = field_written table depth all next field.0 field.1 v (value_text table field.1 v) there.2 there.1 w in
-      let same = subst (λ (k : ℕ). IsWritten (SaysField (Says table depth) all next (k, v)) (labelled_text k (value_text table (nth_field all place).1 v))) (sym id) (subst (λ (d : ℕ × TyRef). IsWritten (SaysField (Says table depth) all next (field.0, v)) (labelled_text field.0 (value_text table d.1 v))) (sym field_is) one) in
-      (labelled_text i (value_text table (nth_field all place).1 v), field_texts table all (suc place) ps, refl, same, fields_written table formed ps all more depth (suc i) (suc place) rest rise wire holds.1 (omega (arith, deep)) stand.1 inside_is.1)
+      let one = field_written names table are_labels depth all next field.0 field.1 v (value_text names table field.1 v) there.2 there.1 w in
+      let same = subst (λ (k : ℕ). IsWritten (SaysField (Says table depth) all next (k, v)) (labelled_text (label_text names k) (value_text names table (nth_field all place).1 v))) (sym id) (subst (λ (d : ℕ × TyRef). IsWritten (SaysField (Says table depth) all next (field.0, v)) (labelled_text (label_text names field.0) (value_text names table d.1 v))) (sym field_is) one) in
+      (labelled_text (label_text names i) (value_text names table (nth_field all place).1 v), field_texts names table all (suc place) ps, refl, same, fields_written names table are_labels formed ps all more depth (suc i) (suc place) rest rise wire holds.1 (omega (arith, deep)) stand.1 inside_is.1)
 
 -- ---- the text
 
-arguments_written : (table : List Entry) → IsTrue (is_table table) → (types more : List TyRef) (vs : List Content) (place : ℕ) (bytes : List ℕ) → WireEach table more vs bytes → HoldsBytesAll (contents_of vs) → nesting_each vs ≤ 128 → StandAt types place more
-    → AreWritten (SaysArgument table types) (λ x. suc x.0) place (placed place vs) (argument_texts table types place vs)
-arguments_written table formed types more [] place bytes wire holds deep at = refl
-arguments_written table formed types more (v ∷ vs) place bytes (type, others, is, front, rest, whole, first, wire) holds deep at =
+arguments_written : (names : Option IdNames) (table : List Entry) → AreLabels names → IsTrue (is_table table) → (types more : List TyRef) (vs : List Content) (place : ℕ) (bytes : List ℕ) → WireEach table more vs bytes → HoldsBytesAll (contents_of vs) → nesting_each vs ≤ 128 → StandAt types place more
+    → AreWritten (SaysArgument table types) (λ x. suc x.0) place (placed place vs) (argument_texts names table types place vs)
+arguments_written names table are_labels formed types more [] place bytes wire holds deep at = refl
+arguments_written names table are_labels formed types more (v ∷ vs) place bytes (type, others, is, front, rest, whole, first, wire) holds deep at =
     let stand = stand_next types place type others (subst (StandAt types place) is at) in
-    let w = value_written table formed v type 128 front first holds.0 (omega (arith, deep)) in
+    let w = value_written names table are_labels formed v type 128 front first holds.0 (omega (arith, deep)) in
     let type_is : nth_type types place ≡ type = rw stand.0 refl in
-    let one : IsWritten (SaysArgument table types place (place, v)) (value_text table type v) = record { tokens = w.tokens; prints = w.prints; says = (refl, type, stand.0, bare w.says) } in (
-      value_text table (nth_type types place) v,
-      argument_texts table types (suc place) vs,
+    let one : IsWritten (SaysArgument table types place (place, v)) (value_text names table type v) = record { tokens = w.tokens; prints = w.prints; says = (refl, type, stand.0, bare w.says) } in (
+      value_text names table (nth_type types place) v,
+      argument_texts names table types (suc place) vs,
       refl,
-      subst (λ t. IsWritten (SaysArgument table types place (place, v)) (value_text table t v)) (sym type_is) one,
-      arguments_written table formed types others vs (suc place) rest wire holds.1 (omega (arith, deep)) stand.1,
+      subst (λ t. IsWritten (SaysArgument table types place (place, v)) (value_text names table t v)) (sym type_is) one,
+      arguments_written names table are_labels formed types others vs (suc place) rest wire holds.1 (omega (arith, deep)) stand.1,
     )
 
 wire_count : (table : List Entry) (types : List TyRef) (vs : List Content) (bytes : List ℕ) → WireEach table types vs bytes → length vs ≡ length types
@@ -386,11 +484,12 @@ whole_written table types (x ∷ xs) texts are =
     subst (λ ts. IsWritten (λ tokens. SaysParts (mark 44) (mark 41) (SaysArgument table types) (λ y. suc y.0) 0 (x ∷ xs) tokens) (joined (codes ", ") ts ++ 41 ∷ [])) (sym are.2) w
 
 -- within the limits, the text that is printed of values says them
-pub printed_says : (table : List Entry) (types : List TyRef) (values : List Content) → IsTrue (is_table table) → HasTypes table types values → HoldsBytesAll (contents_of values) → nesting_each values ≤ 128 → number_each values ≤ 1000000 → Said table types values (printed table types values)
-printed_says table types values formed typed holds deep many =
-    let are = arguments_written table formed types types values 0 typed.0 typed.1 holds deep (from_start types) in
-    let w = whole_written table types (placed 0 values) (argument_texts table types 0 values) are in
-    let p = all_prints (mark 40 ∷ w.tokens) (printed table types values) (mark_before 40 w.tokens _ refl w.prints) in
+pub printed_says : (names : Option IdNames) (table : List Entry) (types : List TyRef) (values : List Content) → AreLabels names → IsTrue (is_table table) → HasTypes table types values → HoldsBytesAll (contents_of values) → nesting_each values ≤ 128 → number_each values ≤ 1000000
+    → Said table types values (printed_with names table types values)
+printed_says names table types values are_labels formed typed holds deep many =
+    let are = arguments_written names table are_labels formed types types values 0 typed.0 typed.1 holds deep (from_start types) in
+    let w = whole_written table types (placed 0 values) (argument_texts names table types 0 values) are in
+    let p = all_prints (mark 40 ∷ w.tokens) (printed_with names table types values) (mark_before 40 w.tokens _ refl w.prints) in
     record {
       tokens = w.tokens;
       arguments = placed 0 values;

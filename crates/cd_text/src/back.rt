@@ -7,14 +7,33 @@ ghost use Rattle.cd_codec.specs.Content.{contents_of, parts_of};
 ghost use Rattle.cd_codec.specs.Measure.{nesting_each, number_each};
 ghost use Rattle.cd_codec.specs.View.{view, views, views_of_fields};
 ghost use Rattle.cd_text.specs.HoldsBytes.{HoldsBytes, HoldsBytesAll, HoldsBytesParts};
+ghost use Rattle.cd_text.specs.Whole.{Said};
 
 use crate::fault::TextFault;
 use crate::whole::read;
 use cd_codec::{Expected, Value, Values};
-use cd_plain::print;
+use cd_names::FieldNames;
+use cd_plain::{print, print_named};
 use ic_base::NoMemory;
 use ic_principal::Principal;
 use std::alloc::{AllocError, Global};
+
+// What a text that was printed of the values is read as.
+fn said_back(
+    alloc: Global,
+    expected: &Expected,
+    _values: &[Value],
+    text: &[u8],
+) -> Result<Values, NoMemory>
+    requires { Said expected.now.0 expected.now.1 (views _values.now) text.now }
+    ensures { IfOk result (λ again. contents again ≡ views _values.now) }
+{
+    match read(alloc, expected, text) {
+        Ok(values) => Ok(values),
+        Err(TextFault::NoMemory) => Err(AllocError),
+        Err(TextFault::NotText) => unreachable!(),
+    }
+}
 
 /// Prints values and reads what was printed: the values are the same, unless memory runs out.
 pub fn read_back(alloc: Global, expected: &Expected, values: &[Value]) -> Result<Values, NoMemory>
@@ -26,11 +45,27 @@ pub fn read_back(alloc: Global, expected: &Expected, values: &[Value]) -> Result
     let _entries = expected.table().len();
     hold_bytes(values);
     let text = print(alloc, expected.table(), expected.types(), values)?;
-    match read(alloc, expected, &text.items) {
-        Ok(values) => Ok(values),
-        Err(TextFault::NoMemory) => Err(AllocError),
-        Err(TextFault::NotText) => unreachable!(),
-    }
+    said_back(alloc, expected, values, &text.items)
+}
+
+/// Prints values with names and reads what was printed: the values are the same, unless memory runs
+/// out.
+pub fn read_named_back(
+    alloc: Global,
+    expected: &Expected,
+    values: &[Value],
+    names: &FieldNames,
+) -> Result<Values, NoMemory>
+    requires typed { HasTypes expected.now.0 expected.now.1 (views values.now) }
+    requires deep { nesting_each (views values.now) ≤ 128 }
+    requires many { number_each (views values.now) ≤ 1000000 }
+    ensures { IfOk result (λ again. contents again ≡ views values.now) }
+{
+    let _entries = expected.table().len();
+    let _name = names.name(0);
+    hold_bytes(values);
+    let text = print_named(alloc, expected.table(), expected.types(), values, names)?;
+    said_back(alloc, expected, values, &text.items)
 }
 
 // What the types say of a value: bytes are below 256, and principals are at most 29 of them.

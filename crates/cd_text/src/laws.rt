@@ -7,8 +7,9 @@ ghost use Rattle.cd_types.specs.declared.entry.TyRef.{TyRef};
 ghost use Rattle.cd_codec.specs.AreValues.{HasTypes};
 ghost use Rattle.cd_codec.specs.Content.{Content, contents_of};
 ghost use Rattle.cd_codec.specs.Measure.{nesting_each, number_each};
+ghost use Rattle.cd_names.specs.Names.{IdNames, HaveIds, AreTexts};
 ghost use Rattle.cd_text.specs.HoldsBytes.{HoldsBytesAll};
-ghost use Rattle.cd_plain.specs.Printed.{printed};
+ghost use Rattle.cd_plain.specs.Printed.{printed, printed_named};
 ghost use Rattle.cd_text.specs.ReadText.{values_of};
 ghost use Rattle.cd_text.specs.Whole.{Said};
 
@@ -29,6 +30,14 @@ pub fn print_says()
     ensures { (table : List Entry) (types : List TyRef) (values : List Content) → IsTrue (is_table table) → HasTypes table types values
         → HoldsBytesAll (contents_of values) → nesting_each values ≤ 128 → number_each values ≤ 1000000
         → Said table types values (printed table types values) }
+{}
+
+/// So does the text that is printed with names that have the ids which they are for and are UTF-8,
+/// as those of each `FieldNames`.
+pub fn print_named_says()
+    ensures { (names : IdNames) (table : List Entry) (types : List TyRef) (values : List Content) → HaveIds names → AreTexts names → IsTrue (is_table table) → HasTypes table types values
+        → HoldsBytesAll (contents_of values) → nesting_each values ≤ 128 → number_each values ≤ 1000000
+        → Said table types values (printed_named names table types values) }
 {}
 
 /// What a text says has the expected types, where the text is no longer than memory.

@@ -8,7 +8,7 @@ pub mod laws;
 mod reading;
 mod whole;
 
-pub use back::read_back;
-pub use cd_plain::print;
+pub use back::{read_back, read_named_back};
+pub use cd_plain::{print, print_named};
 pub use fault::TextFault;
 pub use whole::read;
