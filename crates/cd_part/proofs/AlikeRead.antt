@@ -18,7 +18,7 @@ use Rattle.cd_coerce.specs.Coerce.{Coerce, CoerceAll, CoerceFields}
 use Rattle.cd_part.proofs.Alike.{AlikeUnder, Alike, under_at}
 use Rattle.cd_part.proofs.AlikeValues.{has_shape}
 use Rattle.cd_part.proofs.AlikeSub.{InOrder}
-use Rattle.cd_part.proofs.Rises.{ids_rise}
+use Rattle.cd_sub.proofs.OrderLemmas.{record_rises, variant_rises}
 
 -- ---- labels that rise
 
@@ -72,7 +72,7 @@ module _ (Below : TyRef → TyRef → Type 0) (R : TyRef → TyRef → Type 0) (
         (item, k.0, is, k.1, sym (nat8s item k.0 k.2) ∙ other, values_of vs, refl, all_itself vs item k.0 rest k.2 wire)
     itself (record_of ps) t u bytes r (fields, is, wire) =
         let k = subst (λ (x : Shape). Alike R x (shape second u)) is (alike t u r) in
-        (fields, k.0, is, k.1, ps, refl, fields_itself ps fields k.0 (with_fields fields (field_values ps)) bytes (ids_rise fields (ordered t (Rec fields) is)) (λ id f found. found) k.2 wire)
+        (fields, k.0, is, k.1, ps, refl, fields_itself ps fields k.0 (with_fields fields (field_values ps)) bytes (record_rises (Rec fields) fields (ordered t (Rec fields) is) refl) (λ id f found. found) k.2 wire)
     itself (variant i v) t u bytes r (cases, is, case, at, place, rest, e, spells, wire) =
         let k = subst (λ (x : Shape). Alike R x (shape second u)) is (alike t u r) in
         let c = under_at R cases k.0 i case k.2 at in
@@ -87,7 +87,7 @@ module _ (Below : TyRef → TyRef → Type 0) (R : TyRef → TyRef → Type 0) (
           case,
           at,
           c.0,
-          case_found k.0 0 i (case.0, c.0) (ids_rise k.0 (ordered' u (Var k.0) k.1)) c.1 ∙ ap (λ (n : ℕ). Some (n, c.0)) zero_is,
+          case_found k.0 0 i (case.0, c.0) (variant_rises (Var k.0) k.0 (ordered' u (Var k.0) k.1) refl) c.1 ∙ ap (λ (n : ℕ). Some (n, c.0)) zero_is,
           itself v case.1 c.0 rest c.2 wire,
         )
 

@@ -18,7 +18,7 @@ use Rattle.cd_sub.specs.Rising.{Rising}
 use Rattle.cd_sub.specs.Rule.{HasField, HasCase, HasMethod, Sequence, Rule, same, opt, vec, record_of, variant_of, func, service}
 use Rattle.cd_sub.specs.Sub.{SubAt, Sub}
 use Rattle.cd_sub.specs.TypeUnder.{type_under}
-use Rattle.cd_part.proofs.Rises.{all_map, ids_rise, names_rise}
+use Rattle.cd_sub.proofs.OrderLemmas.{all_map, record_rises, variant_rises, service_rises}
 use Rattle.cd_part.proofs.Alike.{AlikeTypes, AlikeUnder, Alike, Turned, types_turned, under_turned, turned}
 
 less_other : (o : Ordering) → o ≡ Less → is_eq o ≡ false
@@ -71,16 +71,16 @@ module _ (R Q T : TyRef → TyRef → Type 0) (below : (a b : TyRef) → R a b �
   rule_alike (compound (Seq a)) s' ordered ordered' (b, e, r) = vec a b refl e (below a b r)
   rule_alike (compound (Rec fs)) s' ordered ordered' (gs, e, r) =
       record_of fs gs refl e
-      (all_map (Has nat_cmp R fs) (HasField Q second fs) (λ g has. inl (has.0, has.1, below has.0 g.1 has.2)) gs (found nat_cmp_total R fs gs (ids_rise fs (ordered (Rec fs) refl)) r))
+      (all_map (Has nat_cmp R fs) (HasField Q second fs) (λ g has. inl (has.0, has.1, below has.0 g.1 has.2)) gs (found nat_cmp_total R fs gs (record_rises (Rec fs) fs (ordered (Rec fs) refl) refl) r))
   rule_alike (compound (Var fs)) s' ordered ordered' (gs, e, r) =
       variant_of fs gs refl e
       (all_map (Has nat_cmp (Turned R) gs) (HasCase Q gs) (λ f has. (has.0, has.1, below f.1 has.0 has.2)) fs
-      (found nat_cmp_total (Turned R) gs fs (ids_rise gs (ordered' (Var gs) e)) (under_turned R fs gs r)))
+      (found nat_cmp_total (Turned R) gs fs (variant_rises (Var gs) gs (ordered' (Var gs) e) refl) (under_turned R fs gs r)))
   rule_alike (compound (Func args results notes)) s' ordered ordered' (args', results', e, r, r') =
       func args args' results results' notes refl e (sequence_alike (Turned R) T (λ b a r. back a b r) first args' args (types_turned R args args' r)) (sequence_alike R Q below second results results' r')
   rule_alike (compound (Service ms)) s' ordered ordered' (ns, e, r) =
       service ms ns refl e
-      (all_map (Has (slice_cmp nat_cmp) R ms) (HasMethod Q ms) (λ n has. (has.0, has.1, below has.0 n.1 has.2)) ns (found nat_list_cmp_total R ms ns (names_rise ms (ordered (Service ms) refl)) r))
+      (all_map (Has (slice_cmp nat_cmp) R ms) (HasMethod Q ms) (λ n has. (has.0, has.1, below has.0 n.1 has.2)) ns (found nat_list_cmp_total R ms ns (service_rises (Service ms) ms (ordered (Service ms) refl) refl) r))
   rule_alike dangling s' ordered ordered' e = absurd e
 
 module _ (R : TyRef → TyRef → Type 0) (first second : List Entry) (formed : IsTrue (is_table first)) (formed' : IsTrue (is_table second)) (alike : (a b : TyRef) → R a b → Alike R (shape first a) (shape second b)) where

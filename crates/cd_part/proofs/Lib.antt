@@ -8,7 +8,6 @@ pub mod Alike
 pub mod AlikePart
 pub mod AlikeValues
 pub mod PartValues
-pub mod Rises
 pub mod AlikeSub
 pub mod AlikeRead
 pub mod PartDecodes

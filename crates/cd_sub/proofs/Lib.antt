@@ -1,6 +1,6 @@
 mod LabelLemmas
 mod PartLemmas
-mod OrderLemmas
+pub mod OrderLemmas
 mod ReflexiveLemmas
 mod GreatestLemmas
 mod PartFreeLemmas
