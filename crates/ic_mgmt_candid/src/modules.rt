@@ -10,7 +10,7 @@ use sha2::{Digest, Sha256};
 use std::alloc::Global;
 use wm_decode::{ModuleFault, decode};
 use wm_tree::Module;
-use wm_valid::{Invalid, Valid, validate};
+use wm_valid::{Invalid, Refused, Valid, validate};
 
 /// The module with what validation found out, or the check that fails.
 fn checked(alloc: Global, module: Module) -> Result<Valid, Unmet>
@@ -19,8 +19,15 @@ fn checked(alloc: Global, module: Module) -> Result<Valid, Unmet>
 {
     match validate(alloc, module) {
         Ok(valid) => Ok(valid),
-        Err(Invalid::NoMemory) => Err(Unmet::NoMemory),
-        Err(fault) => Err(Unmet::Denied(Denial::ModuleRefused(Cause::Unchecked(fault)))),
+        Err(
+            Refused {
+                fault: Invalid::NoMemory,
+                ..
+            },
+        ) => Err(Unmet::NoMemory),
+        Err(Refused { fault, .. }) => Err(Unmet::Denied(Denial::ModuleRefused(Cause::Unchecked(
+            fault,
+        )))),
     }
 }
 

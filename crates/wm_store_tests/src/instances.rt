@@ -28,7 +28,7 @@ fn bytes_of(alloc: Global, sections: &[&[u8]]) -> Result<Vec<u8>, NoMemory> {
 fn instance_of(alloc: Global, module: Module) -> Result<Result<Store, InstanceFault>, Fail>
     requires { IsModule «module» }
 {
-    let valid = validate(alloc, module)?;
+    let valid = validate(alloc, module).map_err(|refused| refused.fault)?;
     Ok(instantiate(alloc, &valid))
 }
 

@@ -13,6 +13,7 @@ use crate::imports::calls_of;
 use crate::indices::index_fault;
 use crate::invalid::Invalid;
 use crate::methods::Entries;
+use crate::refused::Refused;
 use crate::scope::Scope;
 use crate::sizes::size_fault;
 use crate::space::function_types;
@@ -105,18 +106,17 @@ fn checks(alloc: Global, module: &Module) -> Result<Found, Invalid>
 /// Validates a module (WebAssembly Core 1.0, chapter 3) in this profile. The checks are tried in
 /// the order of `Invalid`. Memory is linear in the module, and so is time, but that names of exports
 /// are looked up in search trees, and locals in their runs.
-pub fn validate(alloc: Global, module: Module) -> Result<Valid, Invalid>
+pub fn validate(alloc: Global, module: Module) -> Result<Valid, Refused>
     requires { IsModule «module» }
     // The module is kept as it is, and passes every check.
     ensures same { IfOk result (λ v. v.module ≡ «module») }
     ensures passes { OnOk result (checked «module» ≡ None) }
     // It is the first check that fails.
-    ensures fault { IfErr result (λ e. Fails e (checked «module»)) }
+    ensures fault { IfErr result (λ e. Fails e.fault (checked «module»)) }
+    ensures back { IfErr result (λ e. e.module ≡ «module») }
 {
-    let Found {
-        calls,
-        codes,
-        entries,
-    } = checks(alloc, &module)?;
-    Ok(Valid::new(module, calls, codes, entries))
+    match checks(alloc, &module) {
+        Ok(found) => Ok(Valid::new(module, found.calls, found.codes, found.entries)),
+        Err(fault) => Err(Refused { module, fault }),
+    }
 }

@@ -85,7 +85,7 @@ pub fn relay_bytes(alloc: Global) -> Result<Bytes, NoMemory> {
 /// Why the module of these bytes is not valid, if it is not.
 pub fn fault_of(alloc: Global, bytes: &[u8]) -> Result<Option<Invalid>, ModuleFault> {
     match decode(alloc, bytes) {
-        Ok(module) => Ok(validate(alloc, module).err()),
+        Ok(module) => Ok(validate(alloc, module).err().map(|refused| refused.fault)),
         Err(fault) => Err(fault),
     }
 }
@@ -94,7 +94,7 @@ pub fn fault_of(alloc: Global, bytes: &[u8]) -> Result<Option<Invalid>, ModuleFa
 /// where whatever is owned is dropped at each.
 pub fn valid_of(alloc: Global, bytes: &[u8]) -> Result<Valid, Fail> {
     match decode(alloc, bytes) {
-        Ok(module) => Ok(validate(alloc, module)?),
+        Ok(module) => Ok(validate(alloc, module).map_err(|refused| refused.fault)?),
         Err(fault) => Err(Fail::from(fault)),
     }
 }
