@@ -14,7 +14,7 @@ pub const THREE_IMPORTS: &[u8] = b"\x02\x38\x03\
     \x03ic0\x15msg_reply_data_append\0\x02\
     \x03ic0\x09msg_reply\0\0";
 
-/// The same, and one that is no call of the System API.
+/// Those three, and one that is no call of the System API.
 pub const FOUR_IMPORTS: &[u8] = b"\x02\x45\x04\
     \x03ic0\x04time\0\x01\
     \x03ic0\x15msg_reply_data_append\0\x02\
@@ -26,7 +26,7 @@ const FUNCTIONS: &[u8] = b"\x03\x02\x01\0\x05\x03\x01\0\x01";
 
 pub const ONE_EXPORT: &[u8] = b"\x07\x16\x01\x12canister_query now\0\x03";
 
-/// The same, and one that is no entry point here.
+/// That query, and one that is no entry point here.
 pub const TWO_EXPORTS: &[u8] = b"\x07\x2b\x02\
     \x12canister_query now\0\x03\
     \x12canister_heartbeat\0\x03";

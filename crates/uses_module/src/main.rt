@@ -6,12 +6,12 @@ ghost use Rattle.std.specs.Prelude.{IfOk};
 ghost use Rattle.wm_tree.specs.IsModule.{IsModule};
 
 mod bytes;
-mod outside;
+mod clock;
 mod words;
 
 use anyhow::{Context, anyhow, bail};
 use bytes::{FOUR_IMPORTS, ONE_EXPORT, THREE_IMPORTS, TWO_EXPORTS, module_with};
-use outside::Outside;
+use clock::Clock;
 use std::alloc::Global;
 use wm_decode::decode;
 use wm_run::{Ended, Meter, entry_target, instantiate, invoke};
@@ -28,23 +28,22 @@ fn module_of(alloc: Global, bytes: &[u8]) -> anyhow::Result<Module>
     }
 }
 
-/// The module that bytes spell, where it is valid. `validate` takes the module, so what a refusal
-/// names is read once more.
+/// The module that bytes spell, where it is valid.
 fn valid_of(alloc: Global, bytes: &[u8]) -> anyhow::Result<Valid> {
     match validate(alloc, module_of(alloc, bytes)?) {
         Ok(valid) => Ok(valid),
-        Err(fault) => Err(words::refusal(&module_of(alloc, bytes)?, fault)),
+        Err(refused) => Err(words::refusal(&refused)),
     }
 }
 
 /// Runs a query of the module, on a store of its own and with at most 1,000 instructions.
-fn ask(alloc: Global, valid: &Valid, query: &str, outside: &mut Outside) -> anyhow::Result<Ended> {
+fn ask(alloc: Global, valid: &Valid, query: &str, clock: &mut Clock) -> anyhow::Result<Ended> {
     let Some(target) = entry_target(valid, EntryName::Query, query) else {
         bail!("there is no query {query}");
     };
     let mut meter = Meter::new(1_000);
     match instantiate(alloc, valid) {
-        Ok(mut store) => invoke(alloc, valid, &mut store, target, outside, &mut meter).context(
+        Ok(mut store) => invoke(alloc, valid, &mut store, target, clock, &mut meter).context(
             "out of memory",
         ),
         Err(fault) => Err(anyhow!("{fault:?}")),
@@ -53,9 +52,9 @@ fn ask(alloc: Global, valid: &Valid, query: &str, outside: &mut Outside) -> anyh
 
 /// Prints what the query `now` of the module replies, at the time 258.
 fn show_reply(rt: &impl Print, alloc: Global, valid: &Valid) -> anyhow::Result<()> {
-    let mut outside = Outside::new(alloc, 258);
-    match ask(alloc, valid, "now", &mut outside)? {
-        Ended::Returned => println!(rt; "replied {:?}", outside.reply)?,
+    let mut clock = Clock::new(alloc, 258);
+    match ask(alloc, valid, "now", &mut clock)? {
+        Ended::Returned => println!(rt; "replied {:?}", clock.reply)?,
         Ended::Trapped(trap) => println!(rt; "trapped: {}", trap.text())?,
     }
     Ok(())

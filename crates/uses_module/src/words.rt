@@ -1,11 +1,11 @@
 //! Why a module is refused, in words.
 
 use anyhow::anyhow;
-use wm_tree::Module;
-use wm_valid::Invalid;
+use wm_valid::{Invalid, Refused};
 
-pub fn refusal(module: &Module, fault: Invalid) -> anyhow::Error {
-    match fault {
+pub fn refusal(refused: &Refused) -> anyhow::Error {
+    let module = &refused.module;
+    match refused.fault {
         Invalid::Import { number } => match module.imports.items.get(number as usize) {
             Some(import) => anyhow!(
                 "import {number} is {}.{}",

@@ -1,6 +1,7 @@
 pub mod Texts
 pub mod Metered
 pub mod Hosts
+pub mod Rules
 pub mod Values
 pub mod Functions
 pub mod Configs

@@ -1,4 +1,4 @@
--- A host that promises of its answers what each host must, and no more.
+-- A relation for hosts that promise of their answers what each host must, and no more.
 use Rattle.std.specs.Prelude.{◌≡◌, Some, slice_get}
 use Rattle.wm_valid.specs.declared.system_api.SystemCall.{SystemCall}
 use Rattle.wm_valid.specs.SystemApi.{row_of, calls}

@@ -1,4 +1,4 @@
-//! A host of three calls: what the module asks of its outside.
+//! A host of three calls: it tells one time and takes a reply.
 
 ghost use Rattle.std.specs.Prelude.{◌≡◌, ◌<◌, ◌^◌};
 ghost use Rattle.wm_semantics.specs.declared.host.HostAnswer.TheVariants as answer;
@@ -11,15 +11,15 @@ use wm_valid::system_api::SystemCall;
 
 /// The time that is told, and what was replied so far.
 #[derive(Drop)]
-pub struct Outside {
+pub struct Clock {
     pub time: u64,
     pub reply: Vec<u8>,
     pub replied: bool,
 }
 
-impl Outside {
-    pub fn new(alloc: Global, time: u64) -> Outside {
-        Outside {
+impl Clock {
+    pub fn new(alloc: Global, time: u64) -> Clock {
+        Clock {
             time,
             reply: Vec::new(alloc),
             replied: false,
@@ -43,8 +43,8 @@ fn number(value: u64) -> HostAnswer
     HostAnswer::Number(value)
 }
 
-impl Host for Outside {
-    ghost use Rattle.uses_module.specs.Rules.{by_the_rules, are_lawful};
+impl Host for Clock {
+    ghost use Rattle.wm_semantics.specs.Rules.{by_the_rules, are_lawful};
 
     ghost answers = { by_the_rules };
 
