@@ -106,7 +106,7 @@ pub refuses_too : (e : ReadError) (P Q : Type 0) → (P → Q) → Refuses e P �
 refuses_too NoMemory P Q law p = tt
 refuses_too Refused P Q law p = law p
 
--- want of memory refuses nothing
+-- out of memory refuses nothing
 pub no_refusal : {A : Type 0} (r : Result A ReadError) (P : Type 0) → IfErr r (λ e. e ≡ NoMemory) → IfErr r (λ e. Refuses e P)
 no_refusal (Ok x) P none = tt
 no_refusal (Err NoMemory) P none = tt

@@ -1,4 +1,4 @@
-//! What every layer shares: the error for want of memory, a stack, and the tools that readers of
+//! What every layer shares: the error out of memory, a stack, and the tools that readers of
 //! binary formats are written, stated and proved with.
 //!
 //! A reader of a format is stated as a function on lists (`specs/Reader`) and its grammar as a

@@ -1,5 +1,5 @@
 use std::alloc::AllocError;
 
-/// Want of memory: the one failure that no input explains. It is std's error under a name of its
+/// Out of memory: the one failure that no input explains. It is std's error under a name of its
 /// own, so that `?` carries it through every layer.
 pub type NoMemory = AllocError;

@@ -12,7 +12,7 @@ pub fn room_for(count: usize) -> usize
     if count < MOST_ROOM { count } else { MOST_ROOM }
 }
 
-/// The same for a list that claims a count, of which each item but a few kinds takes a byte or more.
+/// For how many items room is made of a list that claims `count`, where each item but a few kinds takes a byte or more: at most 64.
 pub fn room_claimed(count: u128, bytes: &[u8]) -> usize
     ensures { result ≤ 64 }
 {

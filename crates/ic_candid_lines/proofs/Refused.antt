@@ -6,7 +6,7 @@ use Rattle.cd_coerce.specs.declared.fault.DidlFault.TheVariants.{NotHeader, Floa
 use Rattle.cd_coerce.specs.Decoded.{FailsWith}
 use Rattle.ic_candid_lines.specs.Decoding.{Types, refused_text, answer_text}
 
--- a fault that is no want of memory is that of the message
+-- a fault but out of memory is that of the message
 fault_is : (fault : DidlFault) (read : Result (List Content) DidlFault) → FailsWith fault read → fault ≢ NoMemory → read ≡ Err fault
 fault_is NotHeader read e given = e
 fault_is Float read e given = e

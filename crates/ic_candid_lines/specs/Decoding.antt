@@ -33,7 +33,7 @@ types_of bytes = if_all (header_at false bytes)
 unfoldable pub bad_expected_text : List ℕ
 bad_expected_text = codes "bad expected" ++ newline
 
--- the name of a fault; want of memory is never printed
+-- the name of a fault; out of memory is never printed
 abbrev pub fault_text : DidlFault → List ℕ
 fault_text NotHeader = codes "NotHeader"
 fault_text Float = codes "Float"

@@ -25,7 +25,7 @@ lack_name Shape = codes "Shape"
 lack_name TooMany = codes "TooMany"
 lack_name NoService = codes "NoService"
 
--- a fault as a lack; want of memory is never said
+-- a fault as a lack; out of memory is never said
 abbrev pub lack_of : DidFault → Lack
 lack_of fault.NotInterface = NotInterface
 lack_of fault.Float = Float

@@ -99,7 +99,7 @@ fn shown_text(alloc: Global, expected: &Expected, values: &Values) -> Result<Byt
     Ok(Bytes { items })
 }
 
-/// For a message that is not read. Want of memory is an error here too.
+/// For a message that is not read. Out of memory is an error here too.
 #[tactic(auto, unfolding(crate::specs::Decoding::refused_text))]
 fn refused_text(alloc: Global, fault: DidlFault) -> Result<Bytes, NoMemory>
     ensures { IfOk result (λ text. (text ≡ refused_text fault) × (fault ≢ DidlFault.NoMemory)) }

@@ -22,7 +22,7 @@ pub fn read_u(bytes: &[u8], at: usize, width: Width) -> Result<(u128, usize), Le
     ensures long { (result ≡ Err LebFault.Long) ↔ RunsOn (most_bytes width) (drop at bytes.now) }
     ensures wide { (result ≡ Err LebFault.Wide) ↔ IsTooWideUnsigned width (drop at bytes.now) }
 
-    // The same as a function, for the readers that are made of this one.
+    // What is read as a function of the bytes, for the readers that are made of this one.
     ensures exact { result ≡ read_from at (unsigned_at width (drop at bytes.now)) }
     ensures inside { IfOk result (λ x. (at < x.1) × (x.1 ≤ length bytes.now)) }
     ensures fits { IfOk result (λ x. x.0 < 2 ^ bits width) }
@@ -40,7 +40,7 @@ pub fn read_s(bytes: &[u8], at: usize, width: Width) -> Result<(i128, usize), Le
     ensures long { (result ≡ Err LebFault.Long) ↔ RunsOn (most_bytes width) (drop at bytes.now) }
     ensures wide { (result ≡ Err LebFault.Wide) ↔ IsTooWideSigned width (drop at bytes.now) }
 
-    // The same as a function, for the readers that are made of this one.
+    // What is read as a function of the bytes, for the readers that are made of this one.
     ensures exact { result ≡ read_from at (signed_at width (drop at bytes.now)) }
     ensures inside { IfOk result (λ x. (at < x.1) × (x.1 ≤ length bytes.now)) }
     ensures fits { IfOk result (λ x. FitsSigned (int_width width) x.0) }
@@ -83,7 +83,7 @@ fn unsigned(bytes: &[u8], at: usize, width: Width) -> Result<(u128, usize), LebF
     }
 }
 
-// The same, byte by byte.
+// Reads an unsigned number byte by byte.
 fn unsigned_in_full(bytes: &[u8], at: usize, width: Width) -> Result<(u128, usize), LebFault>
     requires { at ≤ length bytes.now }
     ensures exact { result ≡ read_from at (unsigned_at width (drop at bytes.now)) }
@@ -121,7 +121,7 @@ fn signed_byte(byte: u8) -> i128
     }
 }
 
-// The same, byte by byte.
+// Reads a signed number byte by byte.
 fn signed_in_full(bytes: &[u8], at: usize, width: Width) -> Result<(i128, usize), LebFault>
     requires { at ≤ length bytes.now }
     ensures exact { result ≡ read_from at (signed_at width (drop at bytes.now)) }

@@ -65,7 +65,7 @@ fn write(n: u128, negative: bool, end: u128, out: &mut Vec<u8>) -> Result<(), No
     written
 }
 
-// The same, but that after an error some of the bytes may be appended.
+// Appends the bytes of a number one by one: after an error some of them may be appended.
 fn push_each(n: u128, negative: bool, end: u128, out: &mut Vec<u8>) -> Result<(), NoMemory>
     requires { (0 < end) × (end ≤ 128) }
     ensures written { OnOk result (out.new.items ≡ out.old.items ++ seven_bits_each end negative (suc n) n) }

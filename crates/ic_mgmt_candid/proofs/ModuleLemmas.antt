@@ -46,7 +46,7 @@ none_at : (float : Bool) (bytes : List ℕ) → (HasModule float bytes → ⊥) 
 none_at float bytes h None e = e
 none_at float bytes h (Some m) e = absurd (h (m, module_takes float m bytes e))
 
--- each fault of the bytes, but want of memory
+-- each fault of the bytes, but out of memory
 pub fault_read : (bytes : List ℕ) (fault : ModuleFault) → (fault ≡ F.NoMemory → ⊥) → Comes bytes fault → module_of bytes ≡ refused (Undecoded fault)
 unfolding module_of
 fault_read bytes F.TooLarge named h = rw (too_large (length bytes) h) refl

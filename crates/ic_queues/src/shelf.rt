@@ -107,8 +107,8 @@ impl Shelf {
         self.places.is_empty()
     }
 
-    /// Puts a message behind the others. Gives its number. After 2^64 messages there is none for one more, which is
-    /// told as want of memory.
+    /// Puts a message after the others. Gives its number. After 2^64 messages there is none for one more, which is
+    /// told as out of memory.
     pub fn push(&mut self, alloc: Global, message: Message) -> Result<u64, NoMemory>
         ensures number { IfOk result (λ n. n ≡ self.old.next) }
         ensures pushed { OnOk result (self.new ≡ record { entries = self.old.entries ++ (self.old.next, message) ∷ []; next = self.old.next + 1 }) }

@@ -1,4 +1,4 @@
--- The same step from each, one after the other.
+-- One step taken from each of a list, one after the other.
 use Rattle.std.proofs.Common.{List, ◌++◌, Result, Ok}
 use Rattle.ic_script.specs.declared.line_cause.LineCause.{LineCause}
 use Rattle.ic_script.specs.Steps.{◌>>=◌}

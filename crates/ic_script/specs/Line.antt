@@ -21,7 +21,7 @@ command_of line =
     else if is_well_formed line then command_of_words (words_of line)
     else Err cause.Form
 
--- an answer that agrees with what was said, or want of memory
+-- an answer that agrees with what was said, or out of memory
 abbrev pub Agrees : {T : Type 0} → Result T LineError → Result T LineCause → Type 0
 Agrees (Ok value) said = said ≡ Ok value
 Agrees (Err Form) said = said ≡ Err cause.Form

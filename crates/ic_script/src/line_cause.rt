@@ -1,7 +1,7 @@
 ghost use Rattle.std.specs.Prelude.{◌≡◌};
 ghost use Rattle.ic_script.specs.declared.line_cause.LineError.TheVariants.{NoMemory};
 
-use ic_base::NoMemory as WantOfMemory;
+use ic_base::NoMemory as OutOfMemory;
 use std::fmt;
 
 /// Why a line is refused.
@@ -65,14 +65,14 @@ pub enum LineError {
     Number,
     /// As `LineCause::Size`.
     Size,
-    /// Want of memory.
+    /// Out of memory.
     NoMemory,
 }
 
-impl From<WantOfMemory> for LineError {
+impl From<OutOfMemory> for LineError {
     ghost from_gives = { λ _ error. error ≡ NoMemory };
 
-    fn from(_: WantOfMemory) -> LineError {
+    fn from(_: OutOfMemory) -> LineError {
         LineError::NoMemory
     }
 }

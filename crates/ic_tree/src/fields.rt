@@ -65,14 +65,14 @@ impl Pairs {
         }
     }
 
-    /// The same of a field of bytes, which are lent.
+    /// Puts a field of bytes, which are lent, among the others. After `NoMemory` they are as before.
     pub fn put_bytes(&mut self, alloc: Global, key: &str, value: &[u8]) -> Result<(), NoMemory>
         ensures { OnOk result (self.new ≡ put_in_order (sha256 key.now ++ sha256 value.now) self.old) }
     {
         self.put(alloc, key, &Sha256::digest(value))
     }
 
-    /// The same of a field of a number.
+    /// Puts a field of a number among the others. After `NoMemory` they are as before.
     pub fn put_number(&mut self, alloc: Global, key: &str, value: u64) -> Result<(), NoMemory>
         ensures { OnOk result (self.new ≡ put_in_order (sha256 key.now ++ sha256 (unsigned_spelling value)) self.old) }
     {

@@ -57,6 +57,6 @@ comes bytes fault.Float plain none why = (plain, why, none_spelled false bytes n
 comes bytes fault.NotModule plain none why = (plain, why, none_spelled false bytes none)
 comes bytes fault.NoMemory plain none why = tt
 
--- where a module is spelled, a second reading was refused for want of memory alone
+-- where a module is spelled, a second reading fails out of memory alone
 pub only_memory : (bytes : List ℕ) (e : ModuleFault) (m : Module) → module_at false bytes ≡ None → Mod false m bytes → e ≡ fault.NoMemory
 only_memory bytes e m none p = absurd (none_spelled false bytes none (m, p))

@@ -80,7 +80,7 @@ pub fn instantiate(alloc: Global, valid: &Valid) -> Result<Store, InstanceFault>
     ensures begun { IfOk result (λ s. s.begun ≡ None) }
     ensures saved { IfOk result (λ s. s.saved ≡ 0) }
     ensures out { IfErr result (λ e. e ≡ InstanceFault.SegmentOut → instance valid.now.«module» ≡ None) }
-    // Want of memory never hides that a segment is out.
+    // Out of memory never hides that a segment is out.
     ensures inside { IfErr result (λ e. e ≡ InstanceFault.NoMemory → IsSome (instance valid.now.«module»)) }
 {
     let module = valid.module();

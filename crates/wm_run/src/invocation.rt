@@ -128,7 +128,7 @@ pub fn invoke<H: Host>(
     // Nothing else is an outcome, where the host's relation is a function.
     ensures only { IfOk result (λ ended. IsFunctional H.answers → (o : Outcome H) → Invokes H.answers valid.now.«module» meter.old.limit host.old store.old.lists meter.old.used target o
         → o ≡ outcome ended host.new store.new.lists meter.new.used) }
-    // The same outcome by the function, where the host is one.
+    // The outcome is what the function gives, where the host is one.
     ensures function { IfOk result (λ ended. (reply : HostOf H) → Rises reply → AgreesWith reply H.answers
         → invoked reply valid.now.«module» meter.old.limit host.old store.old.lists meter.old.used target ≡ Some (outcome ended host.new store.new.lists meter.new.used)) }
     // No state on the way is stuck.

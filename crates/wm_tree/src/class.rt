@@ -37,7 +37,7 @@ pub enum Class {
     Closes,
     /// It takes and gives by a signature, and has no further condition.
     Fixed(Signature),
-    /// The same, where there is a memory.
+    /// It takes and gives by a signature, and needs a memory.
     Memory(Signature),
     /// A load or a store: the alignment is at most the natural one, both powers of 2.
     Access {

@@ -30,7 +30,7 @@ impl<'a> Model for Locals<'a> {
 }
 
 impl<'a> Locals<'a> {
-    /// The locals of these runs. More than 2^32 - 1 count as want of memory.
+    /// The locals of these runs. More than 2^32 - 1 count as out of memory.
     pub fn of(alloc: Global, runs: &'a [Run]) -> Result<Locals<'a>, NoMemory>
         ensures { IfOk result (λ locals. locals ≡ locals_of runs.now) }
     {

@@ -3,7 +3,7 @@ ghost use Rattle.std.specs.Prelude.{◌≡◌, IfOk};
 use ic_base::NoMemory;
 use std::alloc::AllocError;
 
-/// The number in 32 bits. What does not fit counts as want of memory.
+/// The number in 32 bits. What does not fit counts as out of memory.
 pub(crate) fn in_u32(n: usize) -> Result<u32, NoMemory>
     ensures { IfOk result (λ m. m ≡ n) }
 {

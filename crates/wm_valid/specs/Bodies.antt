@@ -85,7 +85,7 @@ typing_fault m = option_map (λ n. fault.Untyped n) (least_untyped m)
 abbrev pub bodies_fault : Module → Option Invalid
 bodies_fault m = option_or (nesting_fault m) (typing_fault m)
 
--- when a body has a fault; want of memory is free
+-- when a body has a fault; out of memory is free
 abbrev pub BodyFails : Module → ℕ × FuncCode → BodyFault → Type 0
 BodyFails m f body.Nesting = nesting_fits f ≡ false
 BodyFails m f body.Untyped = (nesting_fits f ≡ true) × (has_typing m f ≡ false)
