@@ -1,8 +1,9 @@
 -- The methods of a service, found by their names.
-use Rattle.std.proofs.Common.{◌≡◌, ℕ, zero, suc, ◌<◌, Bool, true, List, [], ◌∷◌, length, Option, Some, None, refl, sym, ap, ◌∙◌, inl, inr, arith, Bor}
+use Rattle.std.proofs.Common.{◌≡◌, ℕ, zero, suc, ◌<◌, Bool, true, List, [], ◌∷◌, ◌++◌, length, Option, Some, None, refl, sym, ap, ◌∙◌, inl, inr, arith, Bor}
 use Rattle.std.specs.Prelude.{bytes_eq, IsTrue, IfSome, MatchOption, slice_get, slice_index_or}
 use Rattle.std.specs.List.{list_all, Contains}
 use Rattle.std.specs.Option.{option_copied}
+use Rattle.std.proofs.lemmas.List.Folds.{list_all-append}
 use Rattle.std.proofs.lemmas.Slice.Eq.{bytes_eq-Decides}
 use Rattle.ic_base.specs.Reader.{◌>>=◌}
 use Rattle.ic_base.proofs.Steps.{some_is}
@@ -91,6 +92,20 @@ func_found (Some (Service ms)) e none = absurd cc
 func_at_found : (table : List Entry) (r : TyRef) → is_func_at table r ≡ true → function_at table r ≡ None → ⊥
 func_at_found table (Prim p) e none = absurd cc
 func_at_found table (Index i) e none = func_found (slice_get table i) e none
+
+-- ---- types of both lists
+
+module _ (test : TyRef → Bool) where
+  both_pass : (f : Function) → list_all test (f.args ++ f.results) ≡ true → (list_all test f.args ≡ true) × (list_all test f.results ≡ true)
+  both_pass f all = both_true (list_all test f.args) (list_all test f.results) (sym (list_all-append test f.args f.results) ∙ all)
+
+  pub args_pass : (found : Option Function) → IfSome found (λ f. list_all test (f.args ++ f.results) ≡ true) → IfSome found (λ f. list_all test f.args ≡ true)
+  args_pass None all = tt
+  args_pass (Some f) all = (both_pass f all).0
+
+  pub results_pass : (found : Option Function) → IfSome found (λ f. list_all test (f.args ++ f.results) ≡ true) → IfSome found (λ f. list_all test f.results ≡ true)
+  results_pass None all = tt
+  results_pass (Some f) all = (both_pass f all).1
 
 -- ---- names
 

@@ -2,7 +2,7 @@ use cd_types::{TyRef, TyRefs, TypeTable};
 
 /// Why a text stands for no interface. Of several reasons the first in this order is answered;
 /// `definition` is a place among the definitions of the file, counted from 0.
-#[derive(Clone, Copy, PartialEq, Eq)]
+#[derive(Clone, Copy, Debug, PartialEq, Eq)]
 pub enum DidFault {
     /// The text is no interface file, or its types nest more than 128 deep.
     NotInterface,

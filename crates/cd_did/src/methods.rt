@@ -105,7 +105,9 @@ impl Interface {
     /// Time grows with the number of the service's methods.
     pub fn method(&self, name: &str) -> Option<Method<'_>>
         ensures method { MatchOption result ((function : Function) → IsMethod self.now name.now function → ⊥) (IsMethod self.now name.now) }
-        // Its types are within the table.
+        // Its types are within the table: those of either list, and of both.
+        ensures args { IfSome result (λ function. list_all (is_inside (length self.now.table)) function.args ≡ true) }
+        ensures results { IfSome result (λ function. list_all (is_inside (length self.now.table)) function.results ≡ true) }
         ensures within { IfSome result (λ function. list_all (is_inside (length self.now.table)) (function.args ++ function.results) ≡ true) }
     {
         match self.service {

@@ -16,7 +16,7 @@ pub fn interface_of(alloc: Global, file: &str) -> anyhow::Result<Interface> {
     ensure!(file.len() < 4_294_967_296, "the file is too long");
     match read_interface(alloc, file.as_bytes()) {
         Ok(interface) => Ok(interface),
-        Err(_) => Err(anyhow!("the file is refused")),
+        Err(fault) => Err(anyhow!("{fault:?}")),
     }
 }
 
@@ -36,7 +36,6 @@ fn expected_at(alloc: Global, table: &TypeTable, types: &[TyRef]) -> anyhow::Res
 }
 
 /// The types of one side of a method, as what values are read at.
-#[tactic(auto, using(crate::proofs::Within::in_front, crate::proofs::Within::after))]
 pub fn expected_of(
     alloc: Global,
     interface: &Interface,
