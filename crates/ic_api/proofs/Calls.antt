@@ -13,11 +13,21 @@ use Rattle.ic_api.specs.Steps.{Now}
 use Rattle.ic_api.specs.IsRecord.{IsRecord}
 use Rattle.ic_api.specs.Running.{Running, Paid, api, reply_of, asked, api_reply, Meets}
 use Rattle.ic_api.specs.Kept.{RecordKept}
-use Rattle.ic_api.specs.RecordLaws.{is_record_after}
-use Rattle.ic_api.specs.HostLaws.{api_kept}
+use Rattle.ic_api.specs.Laws.Hosts.{api_kept}
 
 pub pages_from : (n : ℕ) (xs : List ℕ) → 65536 * n ≡ length xs → n ≤ 256 → HasPages 256 xs
 pages_from n xs whole few = record { whole = omega (arith, whole); within = omega (arith, whole, few) }
+
+is_record_after : (old new : Execution) → IsRecord old → RecordKept old new → IsRecord new
+is_record_after old new facts kept = record {
+  cycles = omega (arith, facts.cycles, kept.cycles facts.once);
+  outstanding = kept.few facts.outstanding;
+  numbers = kept.numbers facts.numbers;
+  once = kept.once facts.once;
+  time = omega (arith, facts.time, ap (λ v. v.time) kept.view);
+  phase = omega (arith, facts.phase, ap (λ v. v.phase_number) kept.view);
+  code = omega (arith, facts.code, ap (λ v. v.reject_code) kept.view);
+}
 
 replied : (k : EntryKind) (paid : Paid) (a : HostAnswer) (es : Execution) (t : Lists) (used : ℕ)
     → a ≡ paid.step.answer → es ≡ paid.step.after.es → t ≡ paid.step.after.lists → used ≡ paid.used

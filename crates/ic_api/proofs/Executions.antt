@@ -24,7 +24,7 @@ use Rattle.ic_api.specs.Running.{Running, starting, api_reply}
 use Rattle.ic_api.specs.Effects.{effects_of}
 use Rattle.ic_api.specs.System.{system_api}
 use Rattle.ic_api.specs.Kept.{RunKept}
-use Rattle.ic_api.specs.HostLaws.{run_kept, unchanged, joined, answer_kept}
+use Rattle.ic_api.specs.Laws.Hosts.{run_kept, unchanged, joined, answer_kept}
 use Rattle.ic_api.specs.Executed.{Executed}
 
 pub executed : (kind : EntryKind) (view : View) (h : Running) → RunKept (starting kind view) h → Executed kind view (effects_of h)

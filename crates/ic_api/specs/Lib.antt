@@ -15,7 +15,4 @@ pub mod Effects
 pub mod System
 pub mod Kept
 pub mod Executed
-pub mod RecordLaws
-pub mod ListLaws
-pub mod RowLaws
-pub mod HostLaws
+pub mod Laws

@@ -9,7 +9,7 @@ ghost use Rattle.ic_api.specs.Meaning.{meaning, callback_of as callback_in};
 
 use crate::calling::Place;
 use crate::execution::Execution;
-use crate::memory::{amount, copy, put, size_of, whole};
+use crate::memory::{amount, answer_size, copy, put, whole};
 use crate::rest::trap;
 use crate::stable;
 use ic_base::NoMemory;
@@ -50,17 +50,17 @@ impl Execution {
         ensures begun { store.new.begun ≡ store.old.begun }
     {
         match call {
-            SystemCall::MsgArgDataSize => Ok(size_of(&self.view.arg.items)),
+            SystemCall::MsgArgDataSize => Ok(answer_size(&self.view.arg.items)),
             SystemCall::MsgArgDataCopy => {
                 copy(store, &self.view.arg.items, args[0], args[1], args[2])
             }
-            SystemCall::MsgCallerSize => Ok(size_of(self.view.caller.bytes())),
+            SystemCall::MsgCallerSize => Ok(answer_size(self.view.caller.bytes())),
             SystemCall::MsgCallerCopy => {
                 copy(store, self.view.caller.bytes(), args[0], args[1], args[2])
             }
             SystemCall::MsgRejectCode => Ok(HostAnswer::Number(self.reject_code(kind) as u64)),
             SystemCall::MsgRejectMsgSize => {
-                Ok(size_of(self.view.reject_message.items.as_bytes()))
+                Ok(answer_size(self.view.reject_message.items.as_bytes()))
             }
             SystemCall::MsgRejectMsgCopy => copy(
                 store,
@@ -81,7 +81,7 @@ impl Execution {
                 let n = self.acceptable(whole(args[0], args[1]));
                 self.accept_at(n, args[2], store)
             }
-            SystemCall::CanisterSelfSize => Ok(size_of(self.view.id.bytes())),
+            SystemCall::CanisterSelfSize => Ok(answer_size(self.view.id.bytes())),
             SystemCall::CanisterSelfCopy => {
                 copy(store, self.view.id.bytes(), args[0], args[1], args[2])
             }
@@ -89,7 +89,7 @@ impl Execution {
             SystemCall::CanisterCycleBalance128 => put(store, args[0], self.view.balance),
             SystemCall::CanisterStatus => Ok(HostAnswer::Number(self.view.phase_number as u64)),
             SystemCall::IsController => Ok(self.is_controller(args[0], args[1], store)),
-            SystemCall::MsgMethodNameSize => Ok(size_of(self.view.method.items.as_bytes())),
+            SystemCall::MsgMethodNameSize => Ok(answer_size(self.view.method.items.as_bytes())),
             SystemCall::MsgMethodNameCopy => copy(
                 store,
                 self.view.method.items.as_bytes(),

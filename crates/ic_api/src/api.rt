@@ -100,7 +100,7 @@ impl Api {
 
 impl Host for Api {
     ghost use Rattle.ic_api.specs.Running.{Meets};
-    ghost use Rattle.ic_api.specs.HostLaws.{lawful as meets_lawful};
+    ghost use Rattle.ic_api.specs.Laws.Hosts.{lawful as meets_lawful};
 
     ghost answers = { Meets };
 
@@ -127,7 +127,7 @@ impl Host for Api {
 }
 
 impl Keeps for Api {
-    ghost use Rattle.ic_api.specs.HostLaws.{run_kept as run_stays, is_kept as run_is_kept};
+    ghost use Rattle.ic_api.specs.Laws.Hosts.{run_kept as run_stays, is_kept as run_is_kept};
 
     ghost kept = { run_stays };
 

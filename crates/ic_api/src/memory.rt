@@ -80,8 +80,8 @@ pub fn sixteen_bytes(n: u128) -> [u8; 16]
     n.to_le_bytes()
 }
 
-/// A length as an i32.
-pub fn size_of(bytes: &[u8]) -> HostAnswer
+/// Answers the length of the bytes as an i32.
+pub fn answer_size(bytes: &[u8]) -> HostAnswer
     ensures { result ≡ length_answer bytes.now }
 {
     match u32::try_from(bytes.len()) {

@@ -7,7 +7,6 @@ use Rattle.ic_behaviour.specs.declared.call.CallId.{CallId}
 use Rattle.ic_behaviour.specs.declared.context.Context.{Context}
 use Rattle.ic_behaviour.specs.declared.phase.Waiter.{Waiter}
 use Rattle.ic_behaviour.specs.declared.phase.Phase.{Phase}
-use Rattle.ic_behaviour.specs.declared.phase.Phase.TheVariants.{Running}
 use Rattle.ic_behaviour.specs.Totals.{total, one}
 use Rattle.ic_behaviour.specs.State.{same_id, waiting}
 use Rattle.ic_behaviour.proofs.Weights.{total-append}
@@ -32,9 +31,6 @@ phase_keeps c phase is room = record {
 
 pub waits_keep : (c : Canister) (w : Waiter) → IsCanister c → cycles_of c + w.cycles ≤ 2 ^ 127 - 1 → IsCanister (record c { phase = with_waiter w c.phase })
 waits_keep c w is room = phase_keeps c (with_waiter w c.phase) is (omega (arith, room, total-append (λ (v : Waiter). v.cycles) (waiting c.phase) (w ∷ [])))
-
-pub runs_keep : (c : Canister) → IsCanister c → IsCanister (record c { phase = Running })
-runs_keep c is = phase_keeps c Running is (omega (arith, is.cycles))
 
 -- what deletion leaves of the contexts
 all_deleted : (xs : List Context) → AllByRecursion IsContext xs → AllByRecursion IsContext (map deleted xs)

@@ -1,20 +1,16 @@
 -- A call makes a context, and an answer takes one call from its context.
-use Rattle.std.proofs.Common.{◌≡◌, ℕ, ◌+◌, ◌-◌, ◌<◌, ◌≤◌, ◌^◌, Bool, true, false, not, cond, List, [], ◌∷◌, ◌++◌, length, Option, Some, None, IsOk, slice_get, slice_set, find, refl, sym, ap, ◌∙◌, subst, arith}
+use Rattle.std.proofs.Common.{◌≡◌, ℕ, ◌+◌, ◌-◌, ◌<◌, ◌≤◌, ◌^◌, Bool, true, false, not, cond, List, [], ◌∷◌, ◌++◌, length, Option, Some, None, slice_get, slice_set, find, refl, sym, ap, ◌∙◌, subst, arith}
 use Rattle.std.specs.List.{position}
 use Rattle.std.specs.Option.{IsSome, IsSomeAnd, option_map}
 use Rattle.ic_behaviour.specs.declared.call.CallId.{CallId}
 use Rattle.ic_behaviour.specs.declared.call.Origin.{Origin}
 use Rattle.ic_behaviour.specs.declared.context.Context.{Context}
-use Rattle.ic_behaviour.specs.declared.phase.Phase.{Phase}
-use Rattle.ic_behaviour.specs.declared.phase.Phase.TheVariants.{Running, Stopping, Stopped}
 use Rattle.ic_behaviour.specs.Totals.{total}
 use Rattle.ic_behaviour.specs.State.{id_of}
 use Rattle.ic_behaviour.specs.Executing.{change, is_own}
-use Rattle.ic_behaviour.specs.Local.{admitted_by, function_of, admit, context_of, one_less}
+use Rattle.ic_behaviour.specs.Local.{context_of, one_less}
 use Rattle.ic_behaviour.proofs.Weights.{total-at, same_id-self}
 use Rattle.ic_state.specs.declared.canister.Canister.{Canister}
-use Rattle.ic_state.specs.declared.canister.Code.{Code}
-use Rattle.ic_state.specs.Seen.{code_of, seen}
 use Rattle.ic_state.specs.IsCanister.{IsContext, IsCanister, cycles_of}
 use Rattle.ic_calls.specs.Received.{is_live}
 use Rattle.ic_calls.proofs.Splits.{Split, at_place, no_place, at_end, get-split, find-split, change-split, set-split, within-split, put_there, position-split}
@@ -22,21 +18,12 @@ use Rattle.ic_calls.proofs.Keeps.{changed_keeps, made_keeps}
 
 -- ---- a call
 
--- what admits a call has code
-pub admitted_code : (c : Canister) (method : List ℕ) → IsOk (admit (seen c) method) → IsSome c.code
-admitted_code c method h = by c.phase c.code h where
-  by : (phase : Phase) (code : Option Code) → IsOk (function_of (admitted_by phase (option_map code_of code) method)) → IsSome code
-  by Running None h = absurd cc
-  by Running (Some code) h = refl
-  by (Stopping waiters) code h = absurd cc
-  by Stopped code h = absurd cc
-
 pub call_keeps : (c d : Canister) (from : Origin) (sender : List ℕ) (cycles : ℕ) → IsCanister c → find (is_own (id_of from)) c.contexts ≡ None → IsSome c.code
     → cycles_of c + cycles ≤ 2 ^ 127 - 1 → d ≡ record c { contexts = c.contexts ++ context_of from sender cycles ∷ [] } → IsCanister d
 call_keeps c d from sender cycles is fresh code room now =
     made_keeps c d (context_of from sender cycles) is now (record { id = refl; answered = λ e. absurd cc; deleted = λ e. absurd cc }) code refl fresh room
 
--- the context of the call stands at the end
+-- the context of the call is the last
 pub call_place : (c d : Canister) (from : Origin) (sender : List ℕ) (cycles : ℕ) → find (is_own (id_of from)) c.contexts ≡ None
     → d ≡ record c { contexts = c.contexts ++ context_of from sender cycles ∷ [] } → position (is_own (id_of from)) d.contexts ≡ Some (length c.contexts)
 call_place c d from sender cycles fresh now =

@@ -59,7 +59,7 @@ module _ {A : Type 0} (test : A → Bool) where
     by true is e later = absurd cc
     by false is e later = (is, later e)
 
-  -- behind a list in which none passes
+  -- after a list in which none passes
   pub at_end : (xs : List A) (x : A) → find test xs ≡ None → test x ≡ true → Split test (xs ++ x ∷ []) (length xs) x
   at_end xs x none is = record { front = xs; back = []; whole = refl; place = refl; here = is; before = none_before xs none }
 
@@ -111,7 +111,7 @@ module _ {A : Type 0} {test : A → Bool} {xs : List A} {i : ℕ} {x : A} (s : S
   pub within-split : i < length xs
   within-split = omega (arith, length-middle s.front x s.back, ap length s.whole, s.place)
 
-  -- another element that passes stands there
+  -- another element that passes takes its place
   pub put_there : (y : A) → test y ≡ true → Split test (slice_set xs i y) i y
   put_there y is = record { front = s.front; back = s.back; whole = set-split y; place = s.place; here = is; before = s.before }
 

@@ -119,8 +119,8 @@ fn release_all(
     release(alloc, waiters.items.as_slice(), answers)
 }
 
-// What the canister gives when contexts close.
-fn answers_of(
+// What the canister answers as contexts close.
+fn closing(
     alloc: Global,
     canister: &Canister,
     own: Option<&CallId>,
@@ -154,7 +154,7 @@ pub fn close(
     ensures same { OnErr result (canister.new ≡ canister.old) }
     ensures keeps { IsCanister canister.new }
 {
-    let answers = answers_of(alloc, canister, own, trap)?;
+    let answers = closing(alloc, canister, own, trap)?;
     remove_closed(&mut canister.contexts);
     stop_if_due(&mut canister.phase, &canister.contexts);
     Ok(answers)

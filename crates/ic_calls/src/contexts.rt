@@ -28,8 +28,8 @@ pub fn is_same(a: &CallId, b: &CallId) -> bool
     }
 }
 
-/// The place of the first context of this id.
-pub fn place_of(contexts: &Contexts, own: &CallId) -> Option<usize>
+/// The place of the first context with this id.
+pub fn find_context(contexts: &Contexts, own: &CallId) -> Option<usize>
     ensures { result ≡ position (is_own own.now) contexts.now }
 {
     contexts
@@ -61,8 +61,8 @@ pub fn put(contexts: &mut Contexts, place: usize, context: Context)
     contexts.items[place] = context;
 }
 
-/// The id of the call that comes from there.
-pub fn call_id_of(origin: &Origin) -> CallId
+/// The id of the call that comes from this origin.
+pub fn call_id(origin: &Origin) -> CallId
     ensures { result ≡ id_of origin.now }
 {
     match origin {
@@ -74,7 +74,7 @@ pub fn call_id_of(origin: &Origin) -> CallId
     }
 }
 
-/// Makes the context of a call, behind the others. After `NoMemory` they are as before.
+/// Makes the context of a call, after the others. After `NoMemory` they are as before.
 pub fn open_context(
     contexts: &mut Contexts,
     origin: &Origin,
@@ -85,7 +85,7 @@ pub fn open_context(
     ensures err { OnErr result (contexts.new ≡ contexts.old) }
 {
     contexts.items.push(Context {
-        id: call_id_of(origin),
+        id: call_id(origin),
         origin: *origin,
         caller: *caller,
         must_respond: true,

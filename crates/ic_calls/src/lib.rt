@@ -21,7 +21,7 @@ mod ways;
 
 pub use admission::admit;
 pub use closing::close;
-pub use contexts::{call_id_of, context_at, open_context, place_of, put};
+pub use contexts::{call_id, context_at};
 pub use phases::{await_stop, restart};
 pub use receiving::{add_context, take_call, take_refund, take_response};
 pub use responses::{empty_reply, no_canister, no_response, out_of_cycles, refused, trapped_by};

@@ -18,7 +18,7 @@ fn first(alloc: Global, waiter: Waiter) -> Result<Waiters, NoMemory>
     })
 }
 
-// A call waits behind the others.
+// A call waits after the others.
 fn append(waiters: &mut Waiters, last: Waiters) -> Result<(), NoMemory>
     ensures waits { OnOk result (waiters.new ≡ waiters.old ++ last) }
     ensures same { OnErr result (waiters.new ≡ waiters.old) }
@@ -40,8 +40,8 @@ fn wait(alloc: Global, phase: &mut Phase, waiter: Waiter) -> Result<(), NoMemory
     Ok(())
 }
 
-/// A call waits for the canister to stop, behind those that wait already. The canister is stopping from
-/// now on; that it stops where it has no context is left to `close` of `ic_calls`.
+/// A call waits for the canister to stop, after those that wait already. The canister is stopping from
+/// now on; where it has no context, `close` stops it.
 pub fn await_stop(alloc: Global, canister: &mut Canister, waiter: Waiter) -> Result<(), NoMemory>
     requires keeps { IsCanister canister.old }
     requires room { cycles_of canister.old + waiter.cycles ≤ 2 ^ 127 - 1 }
@@ -74,7 +74,8 @@ fn tell_all(alloc: Global, waiters: &[Waiter], answers: &mut AnsweredList) -> Re
     Ok(())
 }
 
-fn answers_of(alloc: Global, phase: &Phase) -> Result<AnsweredList, NoMemory>
+// Tells those who wait that the canister runs again.
+fn tell_waiting(alloc: Global, phase: &Phase) -> Result<AnsweredList, NoMemory>
     ensures { IfOk result (λ answers. answers ≡ map told (waiting phase.now)) }
 {
     let mut answers = AnsweredList {
@@ -95,7 +96,7 @@ pub fn restart(alloc: Global, canister: &mut Canister) -> Result<AnsweredList, N
     ensures same { OnErr result (canister.new ≡ canister.old) }
     ensures keeps { IsCanister canister.new }
 {
-    let answers = answers_of(alloc, &canister.phase)?;
+    let answers = tell_waiting(alloc, &canister.phase)?;
     canister.phase = Phase::Running;
     Ok(answers)
 }

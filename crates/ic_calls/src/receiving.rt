@@ -9,7 +9,7 @@ ghost use Rattle.ic_state.specs.Seen.{seen};
 ghost use Rattle.ic_state.specs.IsCanister.{IsCanister, cycles_of};
 ghost use Rattle.ic_calls.specs.Received.{IsExpected, IsAdmitted, with_call, with_response, runs_callback};
 
-use crate::contexts::{context_at, count, open_context, place_of, put};
+use crate::contexts::{context_at, count, find_context, open_context, put};
 use ic_base::NoMemory;
 use ic_principal::Principal;
 use ic_state::{CallId, Canister, Context, Message, Origin};
@@ -35,8 +35,9 @@ pub fn add_context(
     Ok(place)
 }
 
-/// The call context of a call is made, with the call's cycles (IC Interface Specification, "Call
-/// context creation").
+/// Makes the call context of a call, with the call's cycles (IC Interface Specification, "Call
+/// context creation"). This is for those who have the call as a message, as tests do: `ic_exec` takes
+/// a call apart and uses `add_context`.
 pub fn take_call(canister: &mut Canister, call: &Message) -> Result<(), NoMemory>
     requires keeps { IsCanister canister.old }
     requires expected { IsExpected (seen canister.old) call.now }
@@ -74,7 +75,7 @@ pub fn take_refund(canister: &mut Canister, own: &CallId, refund: u128) -> usize
     ensures within { result < length canister.new.contexts }
     ensures keeps { IsCanister canister.new }
 {
-    let Some(place) = place_of(&canister.contexts, own) else {
+    let Some(place) = find_context(&canister.contexts, own) else {
         unreachable!();
     };
     let context = context_at(&canister.contexts, place);
@@ -90,7 +91,8 @@ pub fn take_refund(canister: &mut Canister, own: &CallId, refund: u128) -> usize
 
 /// The refund of an answer goes to the balance, and one call less has no answer (IC Interface
 /// Specification, "Callback invocation"). Says whether a callback runs: not where the context was
-/// deleted.
+/// deleted. This is for those who have the answer as a message: `ic_exec` takes an answer apart and
+/// uses `take_refund`.
 pub fn take_response(canister: &mut Canister, answer: &Message) -> bool
     requires keeps { IsCanister canister.old }
     requires expected { IsExpected (seen canister.old) answer.now }

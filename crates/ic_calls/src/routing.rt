@@ -36,7 +36,7 @@ pub fn answer(parts: Parts, sender: &Principal, given: Answered) -> Result<Parts
     Ok(parts)
 }
 
-/// Gives an answer, as `answer`, in fields that are lent.
+/// Gives an answer, as `answer` does, in fields that are lent.
 pub fn respond(parts: &mut Parts, sender: &Principal, given: Answered) -> Result<(), NoMemory>
     ensures answered { OnOk result (parts.new ≡ answered_in sender.now given parts.old) }
     ensures rest { parts.new ≡ record parts.old { messages = parts.new.messages; requests = parts.new.requests } }
@@ -84,8 +84,8 @@ pub fn route(
     Ok(parts)
 }
 
-/// Sends what the canister `sender` sent, as `route`, in fields that are lent. After `NoMemory` some of it may be
-/// sent.
+/// Sends what the canister `sender` sent, as `route` does, in fields that are lent. After `NoMemory` some of it may
+/// be sent.
 pub fn send(
     parts: &mut Parts,
     sender: &Principal,

@@ -17,7 +17,7 @@ fn delete(contexts: &mut Contexts)
     delete_all(contexts.items.as_mut_slice());
 }
 
-fn answers_of(alloc: Global, contexts: &Contexts) -> Result<AnsweredList, NoMemory>
+fn reject_contexts(alloc: Global, contexts: &Contexts) -> Result<AnsweredList, NoMemory>
     ensures { IfOk result (λ answers. answers ≡ flat_map rejected contexts.now) }
 {
     let mut answers = AnsweredList {
@@ -38,7 +38,7 @@ pub fn uninstall(alloc: Global, canister: &mut Canister) -> Result<AnsweredList,
     ensures same { OnErr result (canister.new ≡ canister.old) }
     ensures keeps { IsCanister canister.new }
 {
-    let answers = answers_of(alloc, &canister.contexts)?;
+    let answers = reject_contexts(alloc, &canister.contexts)?;
     delete(&mut canister.contexts);
     canister.code = None;
     canister.store.put(Store::empty(alloc));

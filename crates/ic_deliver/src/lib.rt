@@ -1,4 +1,4 @@
-//! Delivery: a canister handles a message where it stands, what it sends goes on, and a call to no canister goes back.
+//! Delivery: a canister handles a message in its place, what it sends goes on, and a call to no canister goes back.
 //!
 //! All that delivers messages does it by this crate: rounds, of one worker and of several, and schedules. Only calls to
 //! the management canister are carried out elsewhere. What has to hold for a message is said in `specs/Giving`, and

@@ -13,7 +13,7 @@ ghost use Rattle.ic_entry.specs.Query.{query_of, function_in, query_response, re
 ghost use Rattle.ic_entry.specs.Inspection.{inspection_of, is_accepted};
 
 use crate::entering::{Entered, Entry, attempt};
-use crate::views::{ForCall, copies_of, view_for, with_call};
+use crate::views::{ForCall, copy_for_view, view_for, with_call};
 use ic_base::NoMemory;
 use ic_calls::{no_response, refused, trapped_by};
 use ic_principal::{Bytes, Principal, Text};
@@ -36,7 +36,7 @@ pub fn user_view(
     let method = Text {
         items: String::from_str(alloc, method)?,
     };
-    let copies = copies_of(alloc, canister)?;
+    let copies = copy_for_view(alloc, canister)?;
     let call = ForCall {
         caller: sender,
         available: 0,

@@ -103,8 +103,8 @@ fn put_draft(
     }
 }
 
-/// Installs code on a canister that is lent, as `install`. Gives why the code is not installed, if it is
-/// not, and how many instructions all entry points used together. After `NoMemory` the canister is as
+/// Installs code on a canister that is lent, as `install` does. Gives why the code is not installed, if it
+/// is not, and how many instructions all entry points used together. After `NoMemory` the canister is as
 /// before.
 pub fn install_in(
     alloc: Global,
@@ -141,7 +141,8 @@ pub fn install_in(
 /// Installs code on a canister (IC Interface Specification, "IC method `install_code`"). One meter
 /// with the limit serves all entry points, and nothing is paid for. An upgrade copies the stable
 /// memory as the old code left it, so two of them are held at most. After `NoMemory` the canister is
-/// dropped.
+/// dropped. This is for those who own the canister, as tests do: the management canister lends it to
+/// `install_in`.
 pub fn install(
     alloc: Global,
     canister: Canister,

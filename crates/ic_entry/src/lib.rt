@@ -20,4 +20,4 @@ pub use entering::{Entered, Entry, attempt};
 pub use ic_behaviour::{InstallFault, Mode};
 pub use installing::{Installed, Order, install, install_in};
 pub use placing::place_code;
-pub use views::{Copies, copies_of, view_in, with_answer, with_call};
+pub use views::{Copies, copy_for_view, view_in, with_answer, with_call};

@@ -18,7 +18,7 @@ fn phase_number(phase: &Phase) -> u32
     }
 }
 
-fn copy_of(alloc: Global, controllers: &Controllers) -> Result<Controllers, NoMemory>
+fn copy_controllers(alloc: Global, controllers: &Controllers) -> Result<Controllers, NoMemory>
     ensures { IfOk result (λ l. l ≡ controllers.now) }
 {
     Ok(Controllers {
@@ -49,13 +49,13 @@ pub struct Copies {
     pub certified: Bytes,
 }
 
-/// Copied apart from the rest of what code sees, which is large.
-pub fn copies_of(alloc: Global, canister: &Canister) -> Result<Copies, NoMemory>
+/// Copies for code what it sees of the canister's lists. They are copied apart from the rest of a view, which is large.
+pub fn copy_for_view(alloc: Global, canister: &Canister) -> Result<Copies, NoMemory>
     ensures controllers { IfOk result (λ c. c.controllers ≡ canister.now.controllers) }
     ensures certified { IfOk result (λ c. c.certified ≡ canister.now.certified) }
 {
     Ok(Copies {
-        controllers: copy_of(alloc, &canister.controllers)?,
+        controllers: copy_controllers(alloc, &canister.controllers)?,
         certified: canister.certified.copy()?,
     })
 }

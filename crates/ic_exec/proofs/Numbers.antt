@@ -22,7 +22,7 @@ pub record IsNumbered (key : List ℕ) (own : CallId) (next : ℕ) (messages : L
   pub whole : all ≡ done ++ rest
 
 module _ (key : List ℕ) (own : CallId) (next : ℕ) (messages : List Message) (number : ℕ) (done rest all : List OutCall) (so_far : IsNumbered key own next messages number done rest all) where
-  -- there is a number for the call, and one behind it
+  -- there is a number for the call, and one after it
   pub next_fits : (c : OutCall) (rest' : List OutCall) → rest ≡ c ∷ rest' → next + length all < 2 ^ 64 → number + 1 < 2 ^ 64
   next_fits c rest' e few = omega (arith, so_far.number_so_far, ap length (so_far.whole ∙ ap (λ l. done ++ l) e), length-append done (c ∷ rest'))
 

@@ -62,7 +62,7 @@ module _ (c : Canister) (place : ℕ) (x : Context) (v : View) (is : IsCanister 
     answered = λ r. omega (arith, lawful.gift, sees.available, answered_there r);
   }
 
-  -- the same, where the result of the run is known
+  -- there is room for the effects, where the result of the run is known
   pub room_of : (s : Held) (kind : EntryKind) (ended : Result Effects Trap) (e : Effects) → Sees c x v → c.next_call < 2 ^ 64 → IfOk ended (Executed kind v) → ended ≡ Ok e → HasRoomFor (seen (record c { store = s })) x e
   room_of s kind ended e sees small lawful is = room_for s kind e sees small (subst (λ r. IfOk r (Executed kind v)) is lawful)
 

@@ -13,7 +13,7 @@ ghost use Rattle.ic_exec.specs.Cleanups.{after_cleanup};
 use crate::effects::returned;
 use crate::work::{Work, silent};
 use ic_base::NoMemory;
-use ic_entry::{Entered, Entry, attempt, copies_of, view_in, with_answer};
+use ic_entry::{Entered, Entry, attempt, copy_for_view, view_in, with_answer};
 use ic_state::{BoundedEnv, Callback, Canister, Context, EntryKind, Env, Response};
 use std::alloc::Global;
 use wm_semantics::Target;
@@ -70,7 +70,7 @@ fn clean_up(
     let Some((index, argument)) = cleanup else {
         return Ok(0);
     };
-    let copies = copies_of(alloc, canister)?;
+    let copies = copy_for_view(alloc, canister)?;
     let view = view_in(alloc, env, canister, copies, context);
     let Some(code) = &canister.code else {
         unreachable!();
@@ -121,7 +121,7 @@ pub fn run_callback(
     } = answer;
     let target = target_of(&callback, &response);
     let kind = kind_of(&response);
-    let copies = copies_of(alloc, canister)?;
+    let copies = copy_for_view(alloc, canister)?;
     let view = with_answer(
         view_in(alloc, env, canister, copies, context),
         response,

@@ -12,7 +12,7 @@ ghost use Rattle.ic_exec.specs.Executed.{parts_of, work_of};
 use crate::effects::{answer_alone, returned};
 use crate::work::{Work, silent};
 use ic_base::NoMemory;
-use ic_entry::{Entered, Entry, attempt, copies_of, view_in, with_call};
+use ic_entry::{Entered, Entry, attempt, copy_for_view, view_in, with_call};
 use ic_principal::{Bytes, Text};
 use ic_state::{Admitted, Canister, Context, EntryKind, Env};
 use std::alloc::Global;
@@ -36,7 +36,7 @@ fn parts_of(entry: Admitted) -> (u32, EntryKind, bool)
     }
 }
 
-/// Runs a method in the context of its call, which stands at that place.
+/// Runs a method in the context of its call, which is at that place.
 pub fn run_call(
     alloc: Global,
     canister: &mut Canister,
@@ -56,7 +56,7 @@ pub fn run_call(
 {
     let _next_call = canister.next_call;
     let PublicMethod { name, entry, arg } = method;
-    let copies = copies_of(alloc, canister)?;
+    let copies = copy_for_view(alloc, canister)?;
     let view = with_call(view_in(alloc, env, canister, copies, context), name, arg);
     let (function, kind, keeps) = parts_of(entry);
     let Some(code) = &canister.code else {

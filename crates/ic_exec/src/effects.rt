@@ -17,7 +17,7 @@ use ic_state::{
 use std::alloc::Global;
 
 // A call that goes out, with its number.
-fn message_of(id: Principal, own: &CallId, number: u64, call: OutCall) -> Message
+fn number_call(id: Principal, own: &CallId, number: u64, call: OutCall) -> Message
     ensures { result ≡ Call (FromCanister id number own.now call.callback) id call.callee call.method call.arg call.cycles }
 {
     let OutCall {
@@ -58,14 +58,14 @@ fn number_all(
     };
     let mut number = next;
     for call in calls.items {
-        messages.push(message_of(id, own, number, call))?;
+        messages.push(number_call(id, own, number, call))?;
         number += 1;
     }
     Ok(messages)
 }
 
-// As `number_all`. Most messages send nothing, which is seen where this is called; the id is lent on as a copy, so
-// that else it need not stand in memory.
+// As `number_all`. Most messages send nothing, which is seen where this is called. The id is lent on as a copy, so
+// that it need not be in memory otherwise.
 #[inline(always)]
 fn numbered(
     alloc: Global,
@@ -87,7 +87,7 @@ fn numbered(
     number_all(alloc, id, &copy, next, calls)
 }
 
-fn count_of(calls: &OutCalls) -> usize
+fn count_calls(calls: &OutCalls) -> usize
     ensures { result ≡ length calls.now }
 {
     calls.items.len()
@@ -130,7 +130,7 @@ fn serve(context: &mut Context, answered: bool, available: u128, calls: u32)
     context.outstanding += calls;
 }
 
-// This context, which stands at that place, was served.
+// This context, which is at that place, was served.
 fn serve_at(
     contexts: &mut Contexts,
     place: usize,
@@ -203,7 +203,7 @@ pub fn returned(
         certified,
         ..
     } = effects;
-    let count = count_of(&calls);
+    let count = count_calls(&calls);
     let answered = answer.is_some();
     let answers = given_answer(alloc, &context.origin, answer)?;
     let calls = numbered(alloc, canister.id, &context.id, canister.next_call, calls)?;

@@ -20,7 +20,7 @@ use crate::work::{Done, Work, silent};
 use ic_api::entries_are_lawful;
 use ic_base::NoMemory;
 use ic_calls::{
-    add_context, admit, call_id_of, close, context_at, out_of_cycles, refused as refusal_of,
+    add_context, admit, call_id, close, context_at, out_of_cycles, refused as refusal_of,
     take_refund,
 };
 use ic_entry::discard;
@@ -116,7 +116,7 @@ fn context_of(origin: &Origin, sender: &Principal, cycles: u128) -> Context
     ensures { result ≡ context_of origin.now sender.now cycles }
 {
     Context {
-        id: call_id_of(origin),
+        id: call_id(origin),
         origin: *origin,
         caller: *sender,
         must_respond: true,
@@ -224,8 +224,8 @@ fn execute_answer(
     }
 }
 
-/// Executes a message on a canister that is lent, as `execute`. After `NoMemory` a part of the message may be
-/// done.
+/// Executes a message on a canister that is lent, as `execute` does. After `NoMemory` a part of the message may
+/// be done.
 pub fn execute_in(
     alloc: Global,
     canister: &mut Canister,
@@ -284,7 +284,7 @@ pub fn execute_in(
 /// Executes a message (IC Interface Specification, "Message execution" and "Callback invocation").
 /// Calls take the numbers from `next_call` on in the order in which they were performed. The
 /// argument of a call is moved and not copied. After `NoMemory` the canister is dropped. This is for those who own
-/// the canister: the program's rounds lend it to `execute_in`.
+/// the canister, as tests do: `ic_deliver` lends it to `execute_in`.
 pub fn execute(
     alloc: Global,
     canister: Canister,

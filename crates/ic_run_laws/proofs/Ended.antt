@@ -144,10 +144,6 @@ module _ (s : State) (place : ℕ) (m : Message) (is_m : slice_get s.messages pl
     kept (call_id.Canister caller n) g = let parts = split_next s place m is_m key a p sound caller n g.0 in
         given_end (call_id.Canister caller n) ((λ is. (let small = parts.1 is in omega (arith, small, amid.later))), parts.0, g.1)
 
-  -- a message changes the counts of its own context alone
-  pub own_alone : (id : CallId) → same_id own id ≡ false → outstanding ended key id ≡ outstanding s key id
-  own_alone id differs = same (awaited key id) ∙ amid.alone_changes id differs
-
   -- the counts that the canister stores are those of the state after
   pub stores_counts : counted ended key (dropped c) ≡ c
   stores_counts = ap₂ (λ xs n. record c { contexts = xs; outstanding = n }) (back c.contexts counts) many where

@@ -1,5 +1,5 @@
 -- What a world keeps, over the changes of its parts.
-use Rattle.std.proofs.Common.{◌≡◌, ℕ, ◌+◌, ◌<◌, ◌≤◌, ◌^◌, ◌==◌, Bool, true, false, not, List, [], ◌∷◌, ◌++◌, map, length, None, refl, sym, ap, ap₂, ◌∙◌, subst, arith, true≢false, not-suc-le-zero}
+use Rattle.std.proofs.Common.{◌≡◌, ℕ, ◌+◌, ◌<◌, ◌^◌, ◌==◌, Bool, true, false, not, List, [], ◌∷◌, ◌++◌, map, length, None, refl, sym, ap, ap₂, ◌∙◌, subst, arith, true≢false, not-suc-le-zero}
 use Rattle.std.specs.List.{AllByRecursion, list_all}
 use Rattle.std.specs.Bool.{OnTrue, OnFalse}
 use Rattle.std.specs.Map.{values_of}
@@ -20,11 +20,11 @@ use Rattle.ic_behaviour.specs.State.{at, waiting, is_awaited, CallContext, Canis
 use Rattle.ic_behaviour.specs.Items.{outstanding, Drained}
 use Rattle.ic_behaviour.specs.Counted.{CountedCanister, bare, with_count, counted, dropped}
 use Rattle.ic_behaviour.specs.Sound.{Sound}
-use Rattle.ic_behaviour.specs.Submitted.{empty, submitted, timed, added, IsNew, HasRoom}
+use Rattle.ic_behaviour.specs.Submitted.{submitted, added, IsNew, HasRoom}
 use Rattle.ic_behaviour.proofs.Weights.{each-map, each-back, nat-is}
 use Rattle.ic_behaviour.proofs.Ties.{tallied, sound}
 use Rattle.ic_behaviour.proofs.Inserts.{gap}
-use Rattle.ic_behaviour.proofs.Changes.{empty_tallied, submitted_tallied, submitted_counts, timed_tallied, added_tallied, added_counts, new_key}
+use Rattle.ic_behaviour.proofs.Changes.{submitted_tallied, submitted_counts, added_tallied, added_counts, new_key}
 use Rattle.ic_state.specs.declared.canister.Canister.{Canister as StoredCanister}
 use Rattle.ic_state.specs.declared.world.Parts.{Parts}
 use Rattle.ic_state.specs.Seen.{seen, is_calm, entry_of, state_of}
@@ -37,20 +37,6 @@ use Rattle.ic_state.specs.IsWorld.{HasCounts, IsWorld}
 kept : (p q : Parts) (es : List (List ℕ × StoredCanister)) → ((key : List ℕ) (b : Canister) → counted (state_of q) key b ≡ counted (state_of p) key b)
     → AllByRecursion (HasCounts (state_of p)) es → AllByRecursion (HasCounts (state_of q)) es
 kept p q es same counts = each-map (HasCounts (state_of p)) (HasCounts (state_of q)) (λ e is. same e.0 (dropped (seen e.1)) ∙ is) es counts
-
-pub new_world : (p : Parts) → p.canisters.entries ≡ [] → state_of p ≡ empty → IsWorld p
-new_world p none is = record {
-  sound = subst Sound (sym is) (sound empty empty_tallied);
-  counts = subst (AllByRecursion (HasCounts (state_of p))) (sym none) tt;
-  canisters = subst (AllByRecursion (λ (e : List ℕ × StoredCanister). IsCanister e.1)) (sym none) tt;
-}
-
-pub timed_world : (p : Parts) (time : ℕ) → IsWorld p → p.time ≤ time → time ≤ 9223372036854775807 → IsWorld (record p { time = time })
-timed_world p time is later small = record {
-  sound = sound (timed (state_of p) time) (timed_tallied (state_of p) time (tallied (state_of p) is.sound) later small);
-  counts = kept p (record p { time = time }) p.canisters.entries (λ key b. refl) is.counts;
-  canisters = is.canisters;
-}
 
 pub submitted_world : (p q : Parts) (sender callee method arg : List ℕ) → IsWorld p → length p.requests < 2 ^ 20
     → q.canisters.entries ≡ p.canisters.entries → state_of q ≡ submitted (state_of p) sender callee method arg → IsWorld q

@@ -75,7 +75,7 @@ impl Messages {
         self.items.is_empty()
     }
 
-    /// Puts a message behind the others. After `NoMemory` it is dropped.
+    /// Puts a message after the others. After `NoMemory` it is dropped.
     pub fn push(&mut self, message: Message) -> Result<(), NoMemory>
         ensures { OnOk result (self.new ≡ self.old ++ message ∷ []) }
     {
@@ -116,7 +116,7 @@ impl Requests {
         self.items.len()
     }
 
-    /// Puts a request behind the others. After `NoMemory` it is dropped.
+    /// Puts a request after the others. After `NoMemory` it is dropped.
     pub fn push(&mut self, request: Request) -> Result<(), NoMemory>
         ensures { OnOk result (self.new ≡ self.old ++ request ∷ []) }
     {

@@ -17,7 +17,7 @@ overflow_add-number c =
 pub loop-call-preserved : goal.loop-call-preserved
 loop-call-preserved c =
     let l = c.loop-call in
-    next_numbered _ _ _ _ _ _ _ _ l.invariant c.in-Some.call c.next.new.self.rest.items c.push.new.self c.message_of.result c.in-Some.ensures.steps.0 c.in_ok-push.ensures c.message_of.ensures
+    next_numbered _ _ _ _ _ _ _ _ l.invariant c.in-Some.call c.next.new.self.rest.items c.push.new.self c.number_call.result c.in-Some.ensures.steps.0 c.in_ok-push.ensures c.number_call.ensures
 
 pub returns : goal.returns
 returns c = all_numbered _ _ _ _ _ _ _ _ c.loop-call.invariant (sym c.loop-call.call-iterator.rest.ok.0 ∙ c.in-None.ensures.steps.0)

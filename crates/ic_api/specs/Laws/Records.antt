@@ -23,7 +23,7 @@ use Rattle.ic_api.specs.Answering.{most_bytes, appends, responded, rejects, msg_
 use Rattle.ic_api.specs.Cycles.{accepted}
 use Rattle.ic_api.specs.Calling.{begun_cycles, abandoned, begun_to, new_call, call_new, with_call, cleans_up, call_on_cleanup, grows_arg, call_data_append, adds, call_cycles_add, is_full, performs, call_perform}
 use Rattle.ic_api.specs.Rest.{accept_message, certifies, certified_data_set}
-use Rattle.ic_api.specs.IsRecord.{execution_cycles, calls_cycles, refund_of, IsRecord}
+use Rattle.ic_api.specs.IsRecord.{execution_cycles, calls_cycles, refund_of}
 use Rattle.ic_api.specs.Kept.{unchanging, RecordKept, Quiet}
 
 -- ---- changes of the record
@@ -211,16 +211,3 @@ certify_step src size memory es =
     when_so None false es (nat_le size 32) (with_bytes (part src size memory) es next) (fails es) (λ e.
     when_bytes None false es (part src size memory) next (λ bytes.
     did false es (certifies bytes es) (changed es (certifies bytes es) refl refl refl refl refl (omega arith)) (record { balance = refl; begun = refl; performed = refl }))) (λ e. failed None false es)
-
--- ---- facts that stay
-
-pub is_record_after : (old new : Execution) → IsRecord old → RecordKept old new → IsRecord new
-is_record_after old new facts kept = record {
-  cycles = omega (arith, facts.cycles, kept.cycles facts.once);
-  outstanding = kept.few facts.outstanding;
-  numbers = kept.numbers facts.numbers;
-  once = kept.once facts.once;
-  time = omega (arith, facts.time, ap (λ v. v.time) kept.view);
-  phase = omega (arith, facts.phase, ap (λ v. v.phase_number) kept.view);
-  code = omega (arith, facts.code, ap (λ v. v.reject_code) kept.view);
-}

@@ -30,8 +30,8 @@ use Rattle.ic_api.specs.Rest.{msg_reject_code, controls, answer_of, is_controlle
 use Rattle.ic_api.specs.Meaning.{meaning, copies, puts, callback_of}
 use Rattle.ic_api.specs.IsRecord.{IsRecord}
 use Rattle.ic_api.specs.Kept.{RecordKept, Quiet}
-use Rattle.ic_api.specs.RecordLaws.{StepKept, same, as_it_is, accepted_kept, append_step, reply_step, reject_step, new_step, cleanup_step, data_step, add_step, perform_step, inspect_step, certify_step}
-use Rattle.ic_api.specs.ListLaws.{ListsKept, ListStepKept, same_lists, IsLong, written_long, with_memory, write_step, copy_step, stable_write_step, grow_step}
+use Rattle.ic_api.specs.Laws.Records.{StepKept, same, as_it_is, accepted_kept, append_step, reply_step, reject_step, new_step, cleanup_step, data_step, add_step, perform_step, inspect_step, certify_step}
+use Rattle.ic_api.specs.Laws.Lists.{ListsKept, ListStepKept, same_lists, IsLong, written_long, with_memory, write_step, copy_step, stable_write_step, grow_step}
 
 -- ---- whole rows
 

@@ -1,6 +1,7 @@
--- The laws of the host: it keeps the rules of hosts, it is a function, and what each answer keeps a run keeps.
+-- The laws of the host: it keeps the rules of hosts (`lawful`, which `Host` cites), and what each answer keeps a run keeps (`is_kept`, which
+-- `Keeps` cites).
 use Rattle.std.specs.Prelude.{◌≡◌, ℕ, ◌+◌, ◌≤◌, List, Option, Some, None, nat_le, slice_get, refl}
-use Rattle.std.proofs.Common.{sym, subst, ap, arith, ◌∙◌}
+use Rattle.std.proofs.Common.{subst, ap, arith, ◌∙◌}
 use Rattle.std.proofs.lemmas.Bool.{cond_both, leb-true}
 use Rattle.wm_tree.specs.declared.types.ValType.{ValType}
 use Rattle.wm_valid.specs.declared.system_api.SystemCall.{SystemCall}
@@ -11,7 +12,7 @@ use Rattle.wm_semantics.specs.declared.trap.Trap.TheVariants as trap
 use Rattle.wm_semantics.specs.declared.host.HostAnswer.{HostAnswer}
 use Rattle.wm_semantics.specs.Hosts.{IsAnswer, HasPages, StoreKept, Lawful}
 use Rattle.wm_semantics.specs.Keeps.{Change, IsKept}
-use Rattle.wm_semantics.specs.Fuel.{Reply, answers_of, IsFunctional, AgreesWith, Rises}
+use Rattle.wm_semantics.specs.Fuel.{Reply, answers_of}
 use Rattle.ic_behaviour.specs.declared.execution.EntryKind.{EntryKind}
 use Rattle.ic_api.specs.declared.execution.Execution.{Execution}
 use Rattle.ic_api.specs.Steps.{Step, Now, fails, traps}
@@ -20,9 +21,9 @@ use Rattle.ic_api.specs.Meaning.{meaning}
 use Rattle.ic_api.specs.IsRecord.{IsRecord}
 use Rattle.ic_api.specs.Running.{Running, Paid, cost, permitted, api, reply_of, asked, api_reply, Meets}
 use Rattle.ic_api.specs.Kept.{RecordKept, Quiet, RunKept}
-use Rattle.ic_api.specs.RecordLaws.{same, as_it_is, trap_for}
-use Rattle.ic_api.specs.ListLaws.{ListsKept, same_lists, same_pages}
-use Rattle.ic_api.specs.RowLaws.{is_calling_not, row_kept}
+use Rattle.ic_api.specs.Laws.Records.{same, as_it_is, trap_for}
+use Rattle.ic_api.specs.Laws.Lists.{ListsKept, same_lists, same_pages}
+use Rattle.ic_api.specs.Laws.Rows.{is_calling_not, row_kept}
 
 -- ---- signatures, sizes and charges
 
@@ -89,29 +90,6 @@ lawful h import call args s limit used a h' t used' is values meets =
       within = kept.within;
     }
 
--- ---- the host is a function
-
-pub agrees : AgreesWith api_reply Meets
-agrees h import args s limit used a h' t used' meets = meets.replies
-
-pub is_functional : IsFunctional Meets
-is_functional h import args s limit used a a' h' h'' t t' used' used'' p q = sym p.replies ∙ q.replies
-
-api_rises : (k : EntryKind) (c : SystemCall) (args : List ℕ) (limit used : ℕ) (now : Now) → used ≤ (api k c args limit used now).used
-api_rises k c args limit used now =
-    cond_both {A = Paid} (nat_le (used + cost c args now.lists) limit)
-    (record { step = permitted k c args now; used = used + cost c args now.lists })
-    (record { step = traps trap.Limit now; used = used })
-    (λ paid. used ≤ paid.used) (λ e. omega arith) (λ e. omega arith)
-
-asked_rises : (h : Running) (o : Option SystemCall) (args : List ℕ) (s : Lists) (limit used : ℕ) → used ≤ (asked h o args s limit used).used
-asked_rises h None args s limit used = omega arith
-asked_rises h (Some c) args s limit used = api_rises h.kind c args limit used (record { es = h.es; lists = s })
-
-pub rises : Rises api_reply
-unfolding api_reply
-rises h import args s limit used = asked_rises h (slice_get calls import) args s limit used
-
 -- ---- what a run keeps
 
 pub unchanged : (h : Running) → RunKept h h
@@ -165,7 +143,7 @@ pub reply_kept : (h : Running) (import : ℕ) (args : List ℕ) (s : Lists) (lim
 unfolding api_reply
 reply_kept h import args s limit used = asked_kept h (slice_get calls import) args s limit used
 
--- the same, of an answer: what a run of any module asks of its host
+-- each answer of the host keeps what its reply keeps: what a run of any module asks of its host
 pub answer_kept : (h : Running) (import : ℕ) (args : List ℕ) (s : Lists) (limit used : ℕ) (a : HostAnswer) (h' : Running) (t : Lists) (used' : ℕ)
     → answers_of api_reply h import args s limit used a h' t used' → RunKept h h'
 answer_kept h import args s limit used a h' t used' said = subst (RunKept h) (ap (λ (r : Reply Running). r.host) said) (reply_kept h import args s limit used)
