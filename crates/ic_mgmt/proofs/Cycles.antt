@@ -1,18 +1,15 @@
 -- A sound state has cycles in each place, and no more than were created.
-use Rattle.std.proofs.Common.{◌≡◌, ℕ, zero, suc, ◌+◌, ◌-◌, ◌≤◌, ◌^◌, List, [], ◌∷◌, ◌++◌, map, slice_get, Some, refl, sym, ap, ◌∙◌, subst, arith}
-use Rattle.std.specs.List.{AllByRecursion, flat_map}
+use Rattle.std.proofs.Common.{◌≡◌, ℕ, zero, suc, ◌+◌, ◌-◌, ◌≤◌, List, [], ◌∷◌, map, slice_get, Some, ap, arith}
+use Rattle.std.specs.List.{flat_map}
 use Rattle.ic_behaviour.specs.declared.call.Message.{Message}
-use Rattle.ic_behaviour.specs.declared.context.Context.{Context}
-use Rattle.ic_behaviour.specs.declared.phase.Waiter.{Waiter}
 use Rattle.ic_behaviour.specs.Totals.{total}
 use Rattle.ic_behaviour.specs.State.{waiting, CallContext, Canister, State}
 use Rattle.ic_behaviour.specs.Items.{InContext, InWaiter, items_at, item_of, cycles_in}
-use Rattle.ic_behaviour.specs.Counted.{bare, dropped}
-use Rattle.ic_behaviour.specs.Deliver.{without}
+use Rattle.ic_behaviour.specs.Counted.{bare}
 use Rattle.ic_behaviour.proofs.Weights.{total-append, total-map, total-plus, total-flat, each-within}
 use Rattle.ic_state.specs.declared.canister.Canister.{Canister as StoredCanister}
 use Rattle.ic_state.specs.declared.world.Parts.{Parts}
-use Rattle.ic_state.specs.Seen.{seen, entry_of, state_of}
+use Rattle.ic_state.specs.Seen.{entry_of}
 use Rattle.ic_state.specs.IsCanister.{cycles_of}
 use Rattle.ic_mgmt_laws.specs.Moves.{message_of}
 use Rattle.ic_behaviour.specs.declared.call.IncomingCall.{IncomingCall}

@@ -1,5 +1,5 @@
 -- What code does to a canister that code is installed on is what the row says.
-use Rattle.std.proofs.Common.{◌≡◌, ℕ, List, Option, Some, None, refl, sym, ap, ◌∙◌, subst}
+use Rattle.std.proofs.Common.{◌≡◌, ℕ, Option, Some, None, refl, sym, ap, ◌∙◌}
 use Rattle.std.specs.Prelude.{Result, Ok, Err}
 use Rattle.std.specs.Option.{IsSome}
 use Rattle.ic_behaviour.specs.declared.install.InstallFault.{InstallFault}

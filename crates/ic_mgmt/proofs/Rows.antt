@@ -1,15 +1,14 @@
 -- What code does to one canister is what the method's row says.
-use Rattle.std.proofs.Common.{◌≡◌, ℕ, true, false, List, [], ◌∷◌, ◌++◌, map, Option, Some, None, refl, sym, ap, ◌∙◌, subst}
-use Rattle.std.specs.Prelude.{Result, Ok, Err, option_map}
+use Rattle.std.proofs.Common.{◌≡◌, ℕ, List, [], ◌∷◌, ◌++◌, map, Option, Some, None, refl, sym, ap, ◌∙◌}
+use Rattle.std.specs.Prelude.{option_map}
 use Rattle.std.specs.List.{flat_map}
 use Rattle.std.specs.Map.{lookup}
 use Rattle.ic_behaviour.specs.declared.call.Response.{Response}
 use Rattle.ic_behaviour.specs.declared.call.Answered.{Answered}
 use Rattle.ic_behaviour.specs.declared.context.Context.{Context}
-use Rattle.ic_behaviour.specs.declared.phase.Phase.{Phase}
-use Rattle.ic_behaviour.specs.declared.phase.Phase.TheVariants.{Running, Stopping, Stopped}
-use Rattle.ic_behaviour.specs.State.{at, waiting, CallContext, Code, Canister, State}
-use Rattle.ic_behaviour.specs.Counted.{CountedCanister, bare, counted, dropped}
+use Rattle.ic_behaviour.specs.declared.phase.Phase.TheVariants.{Stopped}
+use Rattle.ic_behaviour.specs.State.{at, Code, Canister, State}
+use Rattle.ic_behaviour.specs.Counted.{CountedCanister, bare, dropped}
 use Rattle.ic_behaviour.specs.Closing.{empty_reply, closed, closing}
 use Rattle.ic_state.specs.declared.canister.Code.{Code as StoredCode}
 use Rattle.ic_state.specs.declared.canister.Canister.{Canister as StoredCanister}
@@ -17,12 +16,12 @@ use Rattle.ic_state.specs.Seen.{seen, code_of}
 use Rattle.ic_mgmt_candid.specs.Replies.{memory_size, status_told, status_reply}
 use Rattle.ic_calls.specs.Texts.{uninstalled}
 use Rattle.ic_calls.specs.Changes.{awaiting as now_awaiting, rejected, deleted as now_deleted, emptied as now_emptied}
-use Rattle.ic_mgmt_laws.specs.Moves.{with_canister, answered, replied, all_answered, awaiting, waiter_of, to_context, deleted, emptied, shut}
+use Rattle.ic_mgmt_laws.specs.Moves.{with_canister, answered, replied, all_answered, waiter_of, to_context, deleted, emptied, shut}
 use Rattle.ic_behaviour.specs.declared.call.IncomingCall.{IncomingCall}
 use Rattle.ic_mgmt_laws.specs.Rows.{uninstalls, stops_in, stops}
 use Rattle.ic_mgmt_laws.proofs.Changed.{set_twice}
 use Rattle.ic_mgmt.specs.declared.ending.Ending.{Ending}
-use Rattle.ic_mgmt.specs.Ending.{ended_by, Does}
+use Rattle.ic_mgmt.specs.Ending.{ended_by}
 use Rattle.ic_mgmt.specs.Changes.{waits}
 use Rattle.ic_mgmt.proofs.Numbers.{IsTrueOf, emptied_true}
 use Rattle.ic_mgmt.proofs.Sends.{with_same, both_answered, only, answers_only}

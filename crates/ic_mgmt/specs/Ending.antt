@@ -1,5 +1,5 @@
 -- What is sent once a method has changed the canisters. No standard has this.
-use Rattle.std.specs.Prelude.{◌≡◌, ℕ, List, Option, Some, None, Result, Ok, Err}
+use Rattle.std.specs.Prelude.{◌≡◌, ℕ, Option, Some, None, Result, Ok, Err}
 use Rattle.ic_behaviour.specs.declared.call.Response.{Response}
 use Rattle.ic_behaviour.specs.State.{State}
 use Rattle.ic_mgmt_candid.specs.declared.denial.Denial.{Denial}

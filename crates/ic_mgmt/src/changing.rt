@@ -7,13 +7,13 @@ ghost use Rattle.ic_mgmt.specs.Ending.{IfMemory};
 ghost use Rattle.ic_mgmt.specs.Changes.{IsOfOne, changes, DoesAt, KeepsCounts};
 
 use crate::ending::Ending;
-use crate::installing::install_code;
+use crate::installing::{InstallEnv, install_code};
 use crate::phases::{start, stop};
 use crate::settings::{deposit, status, update_settings};
 use crate::uninstalling::uninstall_code;
 use ic_mgmt_candid::{Demand, Unmet};
 use ic_principal::Principal;
-use ic_state::{Canister, Env, IncomingCall};
+use ic_state::{Canister, IncomingCall};
 use std::alloc::Global;
 
 /// Does what is demanded of this canister, which has this id, and changes nothing beside it.
@@ -23,7 +23,7 @@ pub fn change(
     id: Principal,
     call: &IncomingCall,
     demand: Demand,
-    env: Env,
+    env: InstallEnv,
 ) -> Result<Ending, Unmet>
     requires keeps { IsCanister canister.old }
     requires room { cycles_of canister.old + call.now.cycles ≤ 2 ^ 127 - 1 }

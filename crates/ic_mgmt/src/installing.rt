@@ -19,6 +19,15 @@ use ic_principal::Bytes;
 use ic_state::{Canister, Code, CodePlace, Env, IncomingCall};
 use std::alloc::Global;
 
+/// What an installation runs under. It has no price, since nothing is charged.
+#[derive(Clone, Copy)]
+pub struct InstallEnv {
+    /// Nanoseconds since 1970-01-01.
+    pub time: u64,
+    /// The most instructions that all its entry points may use together.
+    pub limit: u64,
+}
+
 fn code_of(alloc: Global, bytes: &Bytes) -> Result<Code, Unmet>
     ensures { MeetsBy seen_code result (code_of bytes.now) }
 {
@@ -49,13 +58,13 @@ fn unless_refused(refusal: Option<InstallFault>) -> Result<(), Denial>
     }
 }
 
-/// Installs code (IC Interface Specification, "IC method install_code"). Nothing is paid for.
+/// Installs code (IC Interface Specification, "IC method install_code").
 pub fn install_code(
     alloc: Global,
     canister: &mut Canister,
     call: &IncomingCall,
     install: InstallCode,
-    env: Env,
+    env: InstallEnv,
 ) -> Result<Ending, Unmet>
     requires keeps { IsCanister canister.old }
     ensures does { DoesAt result call.now install.canister_id canister.old canister.new

@@ -3,7 +3,7 @@
 //!
 //! A method of the management canister changes the canisters of a world's parts, and tells in an `Ending` what is to be
 //! sent; what is refused changes nothing. That this is what `ic_mgmt_laws` defines is proved. `manage` is the delivery of
-//! one such call.
+//! one such call, wherever it is in the list.
 //!
 //! In the second phase one pass goes through the list (`specs/Sweeping`) and knows from whom to whom a message has stayed,
 //! so that none is handled before an earlier one. A call to the management canister is carried out, and every other

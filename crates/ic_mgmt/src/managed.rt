@@ -10,7 +10,7 @@ use ic_base::NoMemory;
 use ic_state::{MOST_INSTRUCTIONS, World};
 use std::alloc::Global;
 
-/// Carries out the call to the management canister that stands at a place of the list of messages.
+/// Carries out the call to the management canister that is at a place of the list of messages.
 /// `limit` is the most instructions that an installation may use; nothing is charged.
 pub fn manage(alloc: Global, world: World, place: usize, limit: u64) -> Result<World, NoMemory>
     requires limit { limit ≤ MOST_INSTRUCTIONS }

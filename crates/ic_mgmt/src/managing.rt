@@ -11,12 +11,13 @@ ghost use Rattle.ic_mgmt.specs.Changes.{obeyed};
 
 use crate::changing::change;
 use crate::ending::{Ending, replied, send};
+use crate::installing::InstallEnv;
 use crate::making::{create, provisional_create};
 use crate::moving::{delete, top_up};
 use ic_base::NoMemory;
 use ic_mgmt_candid::{Demand, Denial, Unmet, demanded, permitted};
 use ic_principal::Principal;
-use ic_state::{Env, IncomingCall, Parts};
+use ic_state::{IncomingCall, Parts};
 use std::alloc::{AllocError, Global};
 
 // What a canister gets that is made without an amount, in cycles.
@@ -70,10 +71,9 @@ fn obey(alloc: Global, parts: &mut Parts, call: &IncomingCall, limit: u64) -> Re
             let Some(id) = demand.target() else {
                 unreachable!();
             };
-            let env = Env {
+            let env = InstallEnv {
                 time: parts.time,
                 limit,
-                price: 0,
             };
             match parts.canisters.get_mut(&id) {
                 Some(place) => change(alloc, place.get_mut(), id, call, demand, env),
@@ -91,10 +91,10 @@ fn denied(alloc: Global, call: &IncomingCall, denial: &Denial) -> Result<Ending,
     Ok(replied(alloc, response, call.cycles))
 }
 
-/// Handles a call to the management canister that has left the list of messages: what it changes, and
+/// Carries out a call to the management canister that has left the list of messages: what it changes, and
 /// what it sends, is what `ic_mgmt_laws` says. `limit` is the most instructions that an installation
 /// may use.
-pub fn manage(
+pub fn carry_out(
     alloc: Global,
     parts: Parts,
     call: IncomingCall,

@@ -5,7 +5,7 @@ ghost use Rattle.ic_behaviour.specs.State.{at, callee_of};
 ghost use Rattle.ic_state.specs.IsWorld.{IsWorld};
 ghost use Rattle.ic_mgmt.specs.Sweeping.{among, Meets, Delivers};
 
-use crate::managing::manage;
+use crate::managing::carry_out;
 use ic_base::NoMemory;
 use ic_calls::is_management;
 use ic_deliver::send_back;
@@ -43,7 +43,7 @@ pub fn deliver_outside(
                     arg,
                     cycles,
                 };
-                manage(alloc, parts, call, limit)
+                carry_out(alloc, parts, call, limit)
             } else {
                 let mut parts = parts;
                 send_back(alloc, &mut parts, &callee, origin, cycles)?;

@@ -98,7 +98,7 @@ view_two x = (view x.0, view x.1)
 abbrev pub view_four : Value × Value × Value × Value → Content × Content × Content × Content
 view_four x = (view x.0, view x.1, view x.2, view x.3)
 
--- what is read, behind what was read before
+-- what is read, after what was read before
 abbrev pub with_front : List (List ℕ) → Option (List (List ℕ)) → Option (List (List ℕ))
 with_front front None = None
 with_front front (Some ids) = Some (front ++ ids)

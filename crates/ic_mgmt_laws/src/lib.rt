@@ -2,9 +2,9 @@
 //!
 //! A method is a chain of moves (`specs/Moves`), each of which keeps a state sound; `specs/Rows` has
 //! them one by one, and `specs/Manage` all together. The laws say that no call is lost by them, so that
-//! the laws of every run hold with calls to the management canister among its messages. `ic_mgmt` has the code; the two
-//! are apart for the gate's sake, since rounds and the top call rest on these definitions and on no code that carries
-//! them out.
+//! the laws of every run hold with calls to the management canister among its messages. `ic_mgmt` has the code. The two
+//! are apart for the gate's sake: the contracts of rounds and of the top call cite these definitions, and the laws need
+//! no code.
 #![tactic(auto)]
 
 mod laws;

@@ -9,7 +9,7 @@ use std::alloc::Global;
 pub trait Manager {
     ghost manages: { Self → Manages };
 
-    /// Carries out the call to the management canister that stands at a place of the list of messages.
+    /// Carries out the call to the management canister that is at a place of the list of messages.
     /// `limit` is the most instructions that an installation may use.
     fn manage(
         &self,

@@ -1,4 +1,4 @@
-use Rattle.std.proofs.Common.{◌≡◌, ℕ, List, Some, sym, ap, ◌∙◌, subst}
+use Rattle.std.proofs.Common.{ℕ, List, sym, ap, ◌∙◌, subst}
 use Rattle.ic_behaviour.specs.State.{Canister, State}
 use Rattle.ic_behaviour.specs.Installing.{enters_after}
 use Rattle.ic_api.specs.System.{system_api}

@@ -1,7 +1,6 @@
-use Rattle.std.proofs.Common.{◌≡◌, ℕ, List, Some, sym, ap, ◌∙◌, subst, rules}
+use Rattle.std.proofs.Common.{◌≡◌, ℕ, Some, sym, ap, ◌∙◌, subst, rules}
 use Rattle.std.specs.Prelude.{Ok, Err}
-use Rattle.std.specs.Map.{lookup}
-use Rattle.ic_behaviour.specs.State.{at, Canister, State}
+use Rattle.ic_behaviour.specs.State.{Canister, State}
 use Rattle.ic_behaviour.specs.Installing.{enters_after}
 use Rattle.ic_api.specs.System.{system_api}
 use Rattle.ic_state.specs.declared.canister.Canister.{Canister as StoredCanister}

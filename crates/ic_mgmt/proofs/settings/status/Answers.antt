@@ -3,7 +3,6 @@ use Rattle.std.specs.Prelude.{Ok}
 use Rattle.ic_behaviour.specs.declared.call.Response.TheVariants.{Reply}
 use Rattle.ic_behaviour.specs.Counted.{dropped}
 use Rattle.ic_state.specs.Seen.{seen}
-use Rattle.ic_mgmt_candid.specs.Replies.{status_reply}
 use Rattle.ic_mgmt_laws.specs.Moves.{replied}
 use Rattle.ic_mgmt.specs.Ending.{ended_by}
 use Rattle.ic_mgmt.proofs.Sends.{with_same, answers_only}

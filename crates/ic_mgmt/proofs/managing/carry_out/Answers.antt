@@ -1,4 +1,4 @@
-use Rattle.std.proofs.Common.{◌≡◌, ℕ, List, sym, ◌∙◌, subst}
+use Rattle.std.proofs.Common.{ℕ, List, sym, ◌∙◌, subst}
 use Rattle.std.specs.Prelude.{Err}
 use Rattle.std.specs.List.{AllByRecursion}
 use Rattle.std.specs.BTreeMap.{BTreeMap}
@@ -15,7 +15,7 @@ use Rattle.ic_mgmt.specs.Ending.{IfMemory, Does, Keeps}
 use Rattle.ic_mgmt.specs.Changes.{obeyed}
 use Rattle.ic_mgmt.proofs.Cycles.{holds}
 use Rattle.ic_mgmt.proofs.Orders.{is_met, is_refused}
-use Rattle.ic_mgmt.proofs.managing.manage.Goals as goal
+use Rattle.ic_mgmt.proofs.managing.carry_out.Goals as goal
 
 pub obey-requires : goal.obey-requires
 obey-requires c = record { holds = holds c.args.parts c.args.call c.requires.taken }
