@@ -1,5 +1,5 @@
 -- A canister keeps what it keeps by itself.
-use Rattle.std.proofs.Common.{◌≡◌, ◌+◌, ◌-◌, ◌≤◌, ◌^◌, false, List, [], ◌∷◌, map, None, refl, sym, ap, subst, arith, true≢false}
+use Rattle.std.proofs.Common.{◌≡◌, ℕ, ◌+◌, ◌-◌, ◌≤◌, ◌^◌, false, List, [], ◌∷◌, map, None, refl, sym, ap, subst, arith, true≢false}
 use Rattle.std.specs.List.{AllByRecursion}
 use Rattle.std.specs.Option.{IsSome}
 use Rattle.std.specs.Prelude.{Result, Ok, Err, OnOk, OnErr}
@@ -14,9 +14,10 @@ use Rattle.ic_state.specs.declared.canister.Canister.{Canister}
 use Rattle.ic_state.specs.IsCanister.{IsContext, IsCanister, cycles_of}
 use Rattle.ic_calls.specs.Changes.{with_waiter, deleted}
 
--- a phase in which those who wait have no more cycles than there is room for
-pub phase_keeps : (c : Canister) (phase : Phase) → IsCanister c → cycles_of (record c { phase = phase }) ≤ 2 ^ 127 - 1 → IsCanister (record c { phase = phase })
-phase_keeps c phase is room = record {
+-- another phase and another balance, with no more cycles than there is room for
+pub renewed_keeps : (c : Canister) (phase : Phase) (balance : ℕ) → IsCanister c → cycles_of (record c { phase = phase; balance = balance }) ≤ 2 ^ 127 - 1
+    → IsCanister (record c { phase = phase; balance = balance })
+renewed_keeps c phase balance is room = record {
   contexts = is.contexts;
   once = is.once;
   has_code = is.has_code;
@@ -30,7 +31,7 @@ phase_keeps c phase is room = record {
 }
 
 pub waits_keep : (c : Canister) (w : Waiter) → IsCanister c → cycles_of c + w.cycles ≤ 2 ^ 127 - 1 → IsCanister (record c { phase = with_waiter w c.phase })
-waits_keep c w is room = phase_keeps c (with_waiter w c.phase) is (omega (arith, room, total-append (λ (v : Waiter). v.cycles) (waiting c.phase) (w ∷ [])))
+waits_keep c w is room = renewed_keeps c (with_waiter w c.phase) c.balance is (omega (arith, room, total-append (λ (v : Waiter). v.cycles) (waiting c.phase) (w ∷ [])))
 
 -- what deletion leaves of the contexts
 all_deleted : (xs : List Context) → AllByRecursion IsContext xs → AllByRecursion IsContext (map deleted xs)

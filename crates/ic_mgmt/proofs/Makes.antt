@@ -23,6 +23,7 @@ use Rattle.ic_mgmt_candid.specs.declared.denial.Denial.{Denial}
 use Rattle.ic_mgmt_candid.specs.declared.denial.Denial.TheVariants as D
 use Rattle.ic_mgmt_candid.specs.Checks.{◌>>=◌, unless}
 use Rattle.ic_mgmt_candid.specs.Replies.{canister_reply}
+use Rattle.ic_calls.proofs.PhaseKeeps.{renewed_keeps}
 use Rattle.ic_mgmt_laws.specs.Moves.{with_balance, granted, gone, answered, replied, kept_by}
 use Rattle.ic_behaviour.specs.declared.call.IncomingCall.{IncomingCall}
 use Rattle.ic_mgmt_laws.specs.Rows.{controllers_or, unless_full, unless_above, next_canister, creates, tops_up, unless_stopped, deletes}
@@ -105,20 +106,6 @@ alone x = (tt, tt)
 
 -- ---- cycles and the end of a canister
 
-pub balance_keeps : (c : StoredCanister) (n : ℕ) → IsCanister c → cycles_of (record c { balance = n }) ≤ 2 ^ 127 - 1 → IsCanister (record c { balance = n })
-balance_keeps c n is room = record {
-  contexts = is.contexts;
-  once = is.once;
-  has_code = is.has_code;
-  counts = is.counts;
-  few = is.few;
-  cycles = room;
-  controllers = is.controllers;
-  rising = is.rising;
-  fits = is.fits;
-  idle = is.idle;
-}
-
 module _ (call : IncomingCall) (p : Parts) (id : List ℕ) (c : StoredCanister) (m : BTreeMap (List ℕ) StoredCanister) where
   abbrev a : Canister
   a = dropped (seen c)
@@ -173,7 +160,7 @@ module _ (p : Parts) (id : List ℕ) (cycles : ℕ) (holds : HoldsCycles p cycle
   pub keeps_granted : (amount : ℕ) (q : Parts) → p.created + amount ≤ 2 ^ 127 - 1 → q.canisters.entries ≡ set_value (at id) p.canisters.entries (record d { balance = d.balance + amount }) → Keeps p q
   keeps_granted amount q few set =
       keeps_set p id d found (record d { balance = d.balance + amount }) q set holds.canisters
-      (balance_keeps d (d.balance + amount) (is_canister p id d found holds.canisters) (omega (arith, room_there, few)))
+      (renewed_keeps d d.phase (d.balance + amount) (is_canister p id d found holds.canisters) (omega (arith, room_there, few)))
       (λ now h. same_true now id (seen d) (record (seen d) { balance = d.balance + amount }) refl refl h)
 
 -- a canister goes

@@ -1,4 +1,4 @@
--- A world whose messages stand in queues. No standard has this.
+-- A world whose messages are in queues. No standard has this.
 use Rattle.std.specs.Prelude.{◌≡◌, List, []}
 use Rattle.std.specs.Map.{keys_of}
 use Rattle.ic_behaviour.specs.declared.call.Message.{Message}

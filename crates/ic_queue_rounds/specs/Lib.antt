@@ -1,3 +1,4 @@
 pub mod InQueues
 pub mod Drawing
 pub mod Passing
+pub mod Rounds

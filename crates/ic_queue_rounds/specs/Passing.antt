@@ -7,7 +7,7 @@ use Rattle.ic_state.specs.declared.world.Parts.{Parts}
 use Rattle.ic_mgmt.specs.Sweeping.{Reaches}
 use Rattle.ic_queues.specs.Queued.{is_steady, is_inside}
 
--- whether a message is to one of the canisters that stood at the start
+-- whether a message is to one of the canisters that were there at the start
 abbrev pub is_in : (start : Parts) → Message → Bool
 is_in start m = is_inside (keys_of start.canisters.entries) m
 

@@ -25,7 +25,7 @@ impl Model for Drawn {
 }
 
 impl Drawn {
-    // With room for so many messages.
+    // With room for this many messages.
     fn new(alloc: Global, queues: Queues, count: usize) -> Result<Drawn, NoMemory>
         ensures { IfOk result (λ w. w ≡ none_drawn queues) }
     {

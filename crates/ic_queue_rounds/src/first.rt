@@ -14,8 +14,8 @@ use ic_state::Charge;
 use std::alloc::Global;
 use std::thread::Threads;
 
-/// The first phase of a round, as that of `ic_rounds`: the first messages are drawn from the queues, in
-/// place of a pass over the list.
+/// The first phase of a round. The first messages are drawn from the queues, where that of `ic_rounds` goes
+/// through the list.
 pub fn canister_turns<R: Threads + Sync, G: Gate + Sync>(
     alloc: Global,
     world: QueuedWorld,

@@ -1,8 +1,8 @@
 ghost use Rattle.std.specs.Prelude.{◌≡◌, ◌<◌, ◌≤◌, length, IfOk};
-ghost use Rattle.std.specs.List.{concat};
 ghost use Rattle.ic_behaviour.specs.Steps.{along};
-ghost use Rattle.ic_behaviour.specs.Round.{round, rounds};
+ghost use Rattle.ic_behaviour.specs.Round.{round};
 ghost use Rattle.ic_mgmt_laws.specs.Managed.{managed_rules};
+ghost use Rattle.ic_queue_rounds.specs.Rounds.{after_rounds, rounds_made};
 
 use ic_base::NoMemory;
 use ic_mgmt::outside_turns;
@@ -48,11 +48,8 @@ pub(crate) fn listed_rounds<R: Threads + Sync, G: Gate + Sync>(
     crew: &Crew<'_, R, G>,
     charge: Charge,
 ) -> Result<(World, u32), NoMemory>
-    ensures state { IfOk result (λ r. r.0
-        ≡ along (managed_rules charge.limit charge.price) world
-        (concat (rounds (managed_rules charge.limit charge.price) count world))) }
-    ensures made { IfOk result (λ r. r.1
-        ≡ length (rounds (managed_rules charge.limit charge.price) count world)) }
+    ensures state { IfOk result (λ r. r.0 ≡ after_rounds charge.limit charge.price count world) }
+    ensures made { IfOk result (λ r. r.1 ≡ rounds_made charge.limit charge.price count world) }
 {
     let mut world = world;
     for made in 0..count {

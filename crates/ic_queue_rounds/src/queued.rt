@@ -89,7 +89,7 @@ impl QueuedWorld {
         (rest, queues)
     }
 
-    /// The world whose messages stand in these queues.
+    /// The world whose messages are in these queues.
     pub fn seal(rest: Parts, queues: Queues) -> QueuedWorld
         requires { IsInQueues rest queues }
         ensures { result ≡ state_of (with_messages rest queues.messages) }

@@ -3,6 +3,7 @@ ghost use Rattle.std.specs.List.{concat};
 ghost use Rattle.ic_behaviour.specs.Steps.{along};
 ghost use Rattle.ic_behaviour.specs.Round.{round, rounds};
 ghost use Rattle.ic_mgmt_laws.specs.Managed.{managed_rules};
+ghost use Rattle.ic_queue_rounds.specs.Rounds.{after_rounds, rounds_made};
 
 use crate::first::canister_turns;
 use crate::over_list::{listed_rounds, round};
@@ -19,7 +20,7 @@ use std::thread::Threads;
 /// list back: a script that makes a round or two a line would else pay for all messages at each line.
 const FEW: u32 = 8;
 
-/// A list of at most so many messages is gone through sooner than the queues of 64 canisters are looked
+/// A list of at most this many messages is gone through sooner than the queues of 64 canisters are looked
 /// at: a script that drains after each line would else make queues at each line.
 const SHORT: usize = 64;
 
@@ -47,11 +48,8 @@ fn queued_rounds<R: Threads + Sync, G: Gate + Sync>(
     crew: &Crew<'_, R, G>,
     charge: Charge,
 ) -> Result<(QueuedWorld, u32), NoMemory>
-    ensures state { IfOk result (λ r. r.0
-        ≡ along (managed_rules charge.limit charge.price) world
-        (concat (rounds (managed_rules charge.limit charge.price) count world))) }
-    ensures made { IfOk result (λ r. r.1
-        ≡ length (rounds (managed_rules charge.limit charge.price) count world)) }
+    ensures state { IfOk result (λ r. r.0 ≡ after_rounds charge.limit charge.price count world) }
+    ensures made { IfOk result (λ r. r.1 ≡ rounds_made charge.limit charge.price count world) }
     ensures few { IfOk result (λ r. r.1 ≤ count) }
 {
     let mut world = world;
@@ -81,12 +79,10 @@ fn short_rounds<R: Threads + Sync, G: Gate + Sync>(
     crew: &Crew<'_, R, G>,
     charge: Charge,
 ) -> Result<(World, u32), NoMemory>
-    ensures state { IfOk result (λ r.
-        along (managed_rules charge.limit charge.price) r.0 (concat (rounds (managed_rules charge.limit charge.price) (count - r.1) r.0))
-        ≡ along (managed_rules charge.limit charge.price) world (concat (rounds (managed_rules charge.limit charge.price) count world))) }
-    ensures made { IfOk result (λ r.
-        r.1 + length (rounds (managed_rules charge.limit charge.price) (count - r.1) r.0)
-        ≡ length (rounds (managed_rules charge.limit charge.price) count world)) }
+    ensures state { IfOk result (λ r. after_rounds charge.limit charge.price (count - r.1) r.0
+        ≡ after_rounds charge.limit charge.price count world) }
+    ensures made { IfOk result (λ r. r.1 + rounds_made charge.limit charge.price (count - r.1) r.0
+        ≡ rounds_made charge.limit charge.price count world) }
     ensures few { IfOk result (λ r. r.1 ≤ count) }
 {
     let mut world = world;
@@ -116,11 +112,8 @@ fn long_rounds<R: Threads + Sync, G: Gate + Sync>(
     crew: &Crew<'_, R, G>,
     charge: Charge,
 ) -> Result<(World, u32), NoMemory>
-    ensures state { IfOk result (λ r. r.0
-        ≡ along (managed_rules charge.limit charge.price) world
-        (concat (rounds (managed_rules charge.limit charge.price) count world))) }
-    ensures made { IfOk result (λ r. r.1
-        ≡ length (rounds (managed_rules charge.limit charge.price) count world)) }
+    ensures state { IfOk result (λ r. r.0 ≡ after_rounds charge.limit charge.price count world) }
+    ensures made { IfOk result (λ r. r.1 ≡ rounds_made charge.limit charge.price count world) }
     ensures few { IfOk result (λ r. r.1 ≤ count) }
 {
     if world.parts().messages.is_empty() {

@@ -63,8 +63,8 @@ fn second_phase_over_list(
     QueuedWorld::new(alloc, world)
 }
 
-/// The second phase of a round, as that of `ic_mgmt`: the messages to no canister are taken out of their
-/// queue, unless one of these may make or delete a canister. Then it is a pass over the list.
+/// The second phase of a round. The messages to no canister are taken out of their queue, unless one of these
+/// may make or delete a canister. Then it goes through the list, as that of `ic_mgmt` does.
 pub fn outside_turns(
     alloc: Global,
     world: QueuedWorld,

@@ -1,5 +1,5 @@
 -- Places with and without messages, and the messages under their numbers.
-use Rattle.std.proofs.Common.{◌≡◌, ℕ, zero, suc, ◌<◌, ◌+◌, ◌==◌, true, false, List, [], ◌∷◌, ◌++◌, length, Some, None, refl, sym, ap, ◌∙◌, subst, arith, slice_set}
+use Rattle.std.proofs.Common.{◌≡◌, ℕ, zero, suc, ◌<◌, ◌+◌, true, false, List, [], ◌∷◌, ◌++◌, length, Some, None, refl, sym, ap, ◌∙◌, subst, arith, slice_set}
 use Rattle.std.specs.Prelude.{Option, Bool, not, slice_index_or}
 use Rattle.std.specs.Option.{is_some, option_to_list}
 use Rattle.std.specs.declared.cmp.Ordering.TheVariants.{Less, Greater}
@@ -7,7 +7,6 @@ use Rattle.std.specs.Ordering.{is_eq}
 use Rattle.std.specs.Cmp.{nat_cmp_is}
 use Rattle.std.specs.Map.{lookup, remove_entry, values_of}
 use Rattle.std.proofs.lemmas.Bool.{false≢true}
-use Rattle.std.proofs.Math.Dec.{eqb-suc-zero}
 use Rattle.ic_behaviour.specs.declared.call.Message.{Message}
 use Rattle.ic_queues.specs.Lines.{is_number}
 use Rattle.ic_queues.specs.Shelved.{Shelved, entries_from, starts_empty, IsShelf, messages_of, message_at, emptied}
@@ -100,11 +99,6 @@ still-trimmed [] x full = refl
 still-trimmed (None ∷ ps) x full = full
 still-trimmed (Some y ∷ ps) x full = refl
 
-pub none-there : (n : ℕ) (ps : List (Option Message)) → starts_empty ps ≡ false → (length ps == 0) ≡ (length (entries_from n ps) == 0)
-none-there n [] full = refl
-none-there n (None ∷ ps) full = absurd (false≢true (sym full))
-none-there n (Some y ∷ ps) full = eqb-suc-zero (length ps) ∙ sym (eqb-suc-zero (length (entries_from (suc n) ps)))
-
 pub front-is : (ps : List (Option Message)) (p : Option Message) (b : Bool) → 0 < length ps → p ≡ slice_index_or ps 0 p → is_some p ≡ not b → b ≡ starts_empty ps
 front-is [] p b inside is e = absurd (omega (arith, inside))
 front-is (None ∷ ps) p true inside is e = refl
@@ -115,16 +109,6 @@ front-is (Some x ∷ ps) p false inside is e = refl
 pub no-front : (ps : List (Option Message)) (n : ℕ) → n ≡ length ps → (0 < n → false ≡ true) → false ≡ starts_empty ps
 no-front [] n e none = refl
 no-front (p ∷ ps) n e none = absurd (false≢true (none (omega (arith, e))))
-
--- an empty place in front goes
-pub popped-front : (n : ℕ) (ps qs : List (Option Message)) (r : Option (Option Message)) (k : ℕ) → starts_empty ps ≡ true → ps ≡ option_to_list r ++ qs → k ≡ length ps → (0 < k → is_some r ≡ true)
-    → (entries_from (n + 1) qs ≡ entries_from n ps) × (n + 1 + length qs ≡ n + length ps)
-popped-front n [] qs r k empty e len some = absurd (false≢true empty)
-popped-front n (Some x ∷ ps) qs r k empty e len some = absurd (false≢true empty)
-popped-front n (None ∷ ps) qs None k empty e len some = absurd (false≢true (some (omega (arith, len))))
-popped-front n (None ∷ ps) qs (Some p) k empty e len some =
-    let rest : ps ≡ qs = cc in
-    (ap (λ l. entries_from (n + 1) l) (sym rest) ∙ ap (λ (j : ℕ). entries_from j ps) (omega arith), omega (arith, ap length rest))
 
 length-last : (ps : List (Option Message)) (p : Option Message) → length (ps ++ p ∷ []) ≡ length ps + 1
 length-last [] p = refl

@@ -12,11 +12,11 @@ use Rattle.ic_behaviour.specs.State.{at}
 use Rattle.ic_state.specs.declared.canister.Canister.{Canister as StoredCanister}
 use Rattle.ic_state.specs.IsCanister.{IsCanister}
 use Rattle.ic_rounds.specs.declared.slot.Slot.{Slot as StoredSlot}
-use Rattle.ic_rounds.specs.Dealing.{Dealing, deal, none_dealt, AreFirsts, pairs_of, IsTheirs}
+use Rattle.ic_rounds.specs.Dealing.{Dealing, deal, none_dealt, AreFirsts}
 use Rattle.ic_rounds.specs.Slots.{Stored, Slot, seen_entry, slot_of, after_slot, after_slot_in_place}
 use Rattle.ic_rounds.proofs.Batches.{AreDistinct, keys_of_slots}
 use Rattle.ic_rounds.proofs.PutBacks.{Rises, minus, put_back}
-use Rattle.ic_rounds.proofs.Deals.{Deals, deals, each-minus}
+use Rattle.ic_rounds.proofs.Deals.{pairs_of, IsTheirs, Deals, deals, each-minus}
 
 seen-remove : (key : List ℕ) (es : List (List ℕ × StoredCanister)) → map seen_entry (remove_entry (at key) es) ≡ remove_entry (at key) (map seen_entry es)
 seen-remove key [] = refl

@@ -13,9 +13,16 @@ use Rattle.ic_behaviour.specs.State.{at}
 use Rattle.ic_behaviour.proofs.Weights.{laws, at-is, at-self}
 use Rattle.ic_state.specs.declared.canister.Canister.{Canister}
 use Rattle.ic_rounds.specs.declared.slot.Slot.{Slot}
-use Rattle.ic_rounds.specs.Dealing.{Dealing, deal, deal_to, pairs_of, IsTheirs}
+use Rattle.ic_rounds.specs.Dealing.{Dealing, deal, deal_to}
 use Rattle.ic_rounds.proofs.Batches.{AreDistinct}
 use Rattle.ic_rounds.proofs.PutBacks.{Rises, minus, sorted-remove}
+
+-- the messages of slots, under their canisters
+abbrev pub pairs_of : List Slot → List (List ℕ × Message)
+pairs_of slots = map (λ (slot : Slot). (slot.key, slot.message)) slots
+
+abbrev pub IsTheirs : List (List ℕ × Canister) → Slot → Type 0
+IsTheirs es slot = lookup (at slot.key) es ≡ Some slot.canister
 
 abbrev IsThere : List (List ℕ × Canister) → List ℕ × Message → Type 0
 IsThere es e = is_some (lookup (at e.0) es) ≡ true

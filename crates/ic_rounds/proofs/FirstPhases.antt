@@ -29,12 +29,13 @@ use Rattle.ic_run_laws.specs.System.{system_rules}
 use Rattle.ic_rounds.specs.Slots.{entering}
 use Rattle.ic_rounds.specs.declared.slot.Slot.{Slot as StoredSlot}
 use Rattle.ic_rounds.specs.Taking.{Taking, is_key, sort_out, none_taken}
-use Rattle.ic_rounds.specs.Dealing.{AreFirsts, slots_of, pairs_of, IsTheirs}
+use Rattle.ic_rounds.specs.Dealing.{AreFirsts, slots_of}
 use Rattle.ic_rounds.specs.Slots.{Stored, Slot, stored_of, slot_of, after_slot_in_place, IsReady, AreReady, AreCanisters}
 use Rattle.ic_run_laws.proofs.Systems.{entries_keep}
 use Rattle.ic_rounds.proofs.Slots.{left, IsSlot}
 use Rattle.ic_rounds.proofs.Batches.{AreDistinct, counted_state, batch}
 use Rattle.ic_rounds.proofs.PutBacks.{Rises}
+use Rattle.ic_rounds.proofs.Deals.{pairs_of, IsTheirs}
 use Rattle.ic_rounds.proofs.Dealings.{pairs, theirs, keys_are, distinct}
 use Rattle.ic_rounds.proofs.Takes.{left_by}
 use Rattle.ic_rounds.proofs.Firsts.{find_self, left_is, sorted, found, firsts_busy, left_taken, slot_message}

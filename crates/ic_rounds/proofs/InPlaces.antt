@@ -19,9 +19,10 @@ use Rattle.ic_exec.specs.Executed.{done_of}
 use Rattle.ic_deliver.specs.Giving.{CanTake}
 use Rattle.ic_deliver.specs.Delivered.{HasHandled}
 use Rattle.ic_rounds.specs.declared.slot.Slot.{Slot}
-use Rattle.ic_rounds.specs.Dealing.{AreFirsts, slots_of, pairs_of, IsTheirs}
+use Rattle.ic_rounds.specs.Dealing.{AreFirsts, slots_of}
 use Rattle.ic_rounds.specs.Slots.{Stored, seen_entry, stored_of, slot_of, ran, after_slot, put_in, after_slot_in_place, AreReady, AreCanisters}
 use Rattle.ic_rounds.specs.InPlace.{slot_at, IsNext, HasGone}
+use Rattle.ic_rounds.proofs.Deals.{pairs_of, IsTheirs}
 use Rattle.ic_rounds.proofs.Dealings.{pairs, theirs}
 
 -- ---- the map of canisters

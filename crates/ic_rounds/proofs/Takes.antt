@@ -66,9 +66,6 @@ pub rest_none : (ms : List Message) → rest_of (λ _. false) ms ≡ ms
 rest_none [] = refl
 rest_none (m ∷ ms) = ap (λ l. m ∷ l) (rest_none ms)
 
-and_not : (a b : Bool) → ((false || b) && not a) ≡ (b && not a)
-and_not a b = refl
-
 -- one more to be taken out
 pub rest_more : (key : List ℕ) (p : List ℕ → Bool) (ms : List Message) → p key ≡ false → rest_of (λ k. at key k || p k) ms ≡ rest_of p (without_first key ms)
 rest_more key p [] apart_from = refl

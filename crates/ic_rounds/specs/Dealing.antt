@@ -1,5 +1,5 @@
 -- Canisters are put into slots with their first messages. No standard has this.
-use Rattle.std.specs.Prelude.{◌≡◌, ℕ, true, is_some, List, [], ◌∷◌, ◌++◌, map, Option, Some, None}
+use Rattle.std.specs.Prelude.{◌≡◌, ℕ, true, is_some, List, [], ◌∷◌, ◌++◌, Option, Some, None}
 use Rattle.std.specs.List.{fold, AllByRecursion, IsDistinct}
 use Rattle.std.specs.List.Sorted.{IsStrictlySortedBy}
 use Rattle.std.specs.Ordering.{nat_cmp, eq_by_cmp}
@@ -38,11 +38,3 @@ pub record AreFirsts (es : List (List ℕ × Canister)) (firsts : List (List ℕ
   pub rising : IsStrictlySortedBy (slice_cmp nat_cmp) (keys_of es)
   pub distinct : IsDistinct (eq_by_cmp (slice_cmp nat_cmp)) (keys_of firsts)
   pub there : AllByRecursion (λ (e : List ℕ × Message). is_some (lookup (at e.0) es) ≡ true) firsts
-
--- ---- slots and the list of first messages
-
-abbrev pub pairs_of : List Slot → List (List ℕ × Message)
-pairs_of slots = map (λ (slot : Slot). (slot.key, slot.message)) slots
-
-abbrev pub IsTheirs : List (List ℕ × Canister) → Slot → Type 0
-IsTheirs es slot = lookup (at slot.key) es ≡ Some slot.canister

@@ -1,5 +1,6 @@
--- First messages are handled one after another, each where its canister stands. No standard has this.
-use Rattle.std.specs.Prelude.{◌≡◌, ℕ, ◌+◌, ◌-◌, ◌≤◌, ◌^◌, false, List, Some}
+-- First messages are handled one after another, each canister in its place. No standard has this.
+use Rattle.std.specs.Prelude.{◌≡◌, ℕ, ◌+◌, ◌-◌, ◌≤◌, ◌^◌, false, List, map, Some}
+use Rattle.std.specs.List.{fold}
 use Rattle.std.specs.Map.{lookup}
 use Rattle.ic_behaviour.specs.declared.call.Message.{Message}
 use Rattle.ic_behaviour.specs.declared.env.Env.{Env}
@@ -7,7 +8,12 @@ use Rattle.ic_behaviour.specs.State.{at}
 use Rattle.ic_state.specs.declared.canister.Canister.{Canister}
 use Rattle.ic_state.specs.declared.world.Parts.{Parts}
 use Rattle.ic_rounds.specs.declared.slot.Slot.{Slot}
-use Rattle.ic_rounds.specs.Slots.{stored_of, slot_of, ran, after_slot_in_place, IsReady}
+use Rattle.ic_rounds.specs.Dealing.{slots_of}
+use Rattle.ic_rounds.specs.Slots.{Stored, stored_of, slot_of, ran, after_slot_in_place, IsReady}
+
+-- what first messages come to: each canister handles its own, and what it sends comes last
+abbrev pub after_firsts : Env → Parts → List (List ℕ × Message) → Stored
+after_firsts env p firsts = fold (after_slot_in_place env) (stored_of p) (map slot_of (slots_of p.canisters.entries firsts))
 
 -- a canister with its first message
 abbrev pub slot_at : (key : List ℕ) → Canister → Message → Slot

@@ -27,7 +27,7 @@ impl Model for Dealt {
 }
 
 impl Dealt {
-    // With room for so many slots, which are large.
+    // With room for this many slots, which are large.
     fn new(
         alloc: Global,
         canisters: BTreeMap<Principal, CanisterPlace>,

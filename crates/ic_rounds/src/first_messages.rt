@@ -1,7 +1,7 @@
-ghost use Rattle.std.specs.Prelude.{◌≡◌, ◌≤◌, map, IfOk, vec_len};
-ghost use Rattle.std.specs.List.{fold};
+ghost use Rattle.std.specs.Prelude.{◌≡◌, ◌≤◌, IfOk, vec_len};
 ghost use Rattle.ic_rounds.specs.Dealing.{slots_of, AreFirsts};
-ghost use Rattle.ic_rounds.specs.Slots.{stored_of, slot_of, after_slot_in_place, AreReady, AreCanisters};
+ghost use Rattle.ic_rounds.specs.Slots.{stored_of, AreReady, AreCanisters};
+ghost use Rattle.ic_rounds.specs.InPlace.{after_firsts};
 
 use crate::crew::Crew;
 use crate::dealt::deal_out;
@@ -26,8 +26,7 @@ fn handle_in_slots<R: Threads + Sync, G: Gate + Sync>(
     requires firsts { AreFirsts parts.canisters.entries firsts.items }
     requires ready { AreReady env (stored_of parts) (slots_of parts.canisters.entries firsts.items) }
     requires keep { AreCanisters parts }
-    ensures stored { IfOk result (λ p. stored_of p
-        ≡ fold (after_slot_in_place env) (stored_of parts) (map slot_of (slots_of parts.canisters.entries firsts.items))) }
+    ensures stored { IfOk result (λ p. stored_of p ≡ after_firsts env parts firsts.items) }
     ensures keep { IfOk result AreCanisters }
 {
     let Parts {
@@ -67,8 +66,7 @@ pub fn handle_firsts<R: Threads + Sync, G: Gate + Sync>(
     requires firsts { AreFirsts parts.canisters.entries firsts.items }
     requires ready { AreReady env (stored_of parts) (slots_of parts.canisters.entries firsts.items) }
     requires keep { AreCanisters parts }
-    ensures stored { IfOk result (λ p. stored_of p
-        ≡ fold (after_slot_in_place env) (stored_of parts) (map slot_of (slots_of parts.canisters.entries firsts.items))) }
+    ensures stored { IfOk result (λ p. stored_of p ≡ after_firsts env parts firsts.items) }
     ensures keep { IfOk result AreCanisters }
 {
     if crew.workers == 1 || firsts.len() <= 1 {

@@ -1,8 +1,7 @@
-ghost use Rattle.std.specs.Prelude.{◌≡◌, ◌+◌, ◌-◌, ◌<◌, ◌≤◌, ◌^◌, length, map, IfOk, OnOk, IfSome, vec_len};
-ghost use Rattle.std.specs.List.{fold};
+ghost use Rattle.std.specs.Prelude.{◌≡◌, ◌+◌, ◌-◌, ◌<◌, ◌≤◌, ◌^◌, length, IfOk, OnOk, IfSome, vec_len};
 ghost use Rattle.ic_rounds.specs.Dealing.{slots_of, AreFirsts};
-ghost use Rattle.ic_rounds.specs.Slots.{stored_of, slot_of, after_slot_in_place, AreReady, AreCanisters};
-ghost use Rattle.ic_rounds.specs.InPlace.{IsNext, HasGone};
+ghost use Rattle.ic_rounds.specs.Slots.{stored_of, AreReady, AreCanisters};
+ghost use Rattle.ic_rounds.specs.InPlace.{IsNext, HasGone, after_firsts};
 
 use crate::permit::Permit;
 use ic_base::NoMemory;
@@ -35,7 +34,7 @@ fn deliver_first(
     Ok(permit.number() + 1)
 }
 
-/// Handles the first messages to canisters one after another, each where its canister stands. Before each
+/// Handles the first messages to canisters one after another, each canister in its place. Before each
 /// message worker 0 passes the gate, with the message's place among them.
 pub fn handle_in_place<G: Gate>(
     alloc: Global,
@@ -48,8 +47,7 @@ pub fn handle_in_place<G: Gate>(
     requires firsts { AreFirsts parts.canisters.entries firsts.items }
     requires ready { AreReady env (stored_of parts) (slots_of parts.canisters.entries firsts.items) }
     requires keep { AreCanisters parts }
-    ensures stored { IfOk result (λ p. stored_of p
-        ≡ fold (after_slot_in_place env) (stored_of parts) (map slot_of (slots_of parts.canisters.entries firsts.items))) }
+    ensures stored { IfOk result (λ p. stored_of p ≡ after_firsts env parts firsts.items) }
     ensures keep { IfOk result AreCanisters }
 {
     let mut parts = parts;

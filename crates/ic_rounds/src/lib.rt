@@ -1,7 +1,7 @@
 //! The first phase of a round: each canister that has a message handles its first one.
 //!
 //! One pass takes the first messages out of the list (`specs/Taking`). One worker handles them one after
-//! another, each where its canister stands (`specs/InPlace`). For several, each message goes into a slot with
+//! another, each canister in its place (`specs/InPlace`). For several, each message goes into a slot with
 //! its canister (`specs/Dealing`), workers draw slots by tickets, side by side (`specs/Workers`), and what came
 //! of them is put where it belongs in the order of canisters (`specs/Slots`). That this is the first
 //! phase of a round as `ic_behaviour` defines it, one delivery after another, is proved, for any number of

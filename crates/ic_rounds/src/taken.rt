@@ -115,7 +115,7 @@ impl Taken {
         Ok(taken)
     }
 
-    // Leaves messages behind the others.
+    // Leaves messages after the others.
     fn leave_all(self, messages: VecDeque<Message>) -> Result<Taken, NoMemory>
         ensures { IfOk result (λ w. w ≡ with_left self messages.items) }
     {
@@ -136,7 +136,7 @@ fn put_before(front: Vec<Message>, back: &mut VecDeque<Message>) -> Result<(), N
     Ok(())
 }
 
-// Messages and others behind them. Those that are fewer are moved to the others.
+// Messages and others after them. Those that are fewer are moved to the others.
 fn joined(front: Vec<Message>, back: VecDeque<Message>) -> Result<Vec<Message>, NoMemory>
     ensures { IfOk result (λ all. all.items ≡ front.items ++ back.items) }
 {
