@@ -3,7 +3,9 @@ pub mod Fronts
 pub mod Gaps
 pub mod Firsts
 pub mod Streams
+pub mod Places
 pub mod Numerals
+pub mod AnySize
 pub mod Strings
 pub mod Labels
 pub mod Starts

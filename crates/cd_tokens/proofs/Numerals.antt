@@ -129,7 +129,7 @@ pub underscore : (limit base : ℕ) (acc b : ℕ) (needs : Bool) → b ≡ 95 �
 unfolding digits_from
 underscore limit base acc b needs under free bytes = rw (under, free) refl
 
-at_place : (bytes : List ℕ) (i d : ℕ) → i < length bytes → drop i bytes ≡ get_or bytes i d ∷ drop (i + 1) bytes
+pub at_place : (bytes : List ℕ) (i d : ℕ) → i < length bytes → drop i bytes ≡ get_or bytes i d ∷ drop (i + 1) bytes
 at_place bytes i d inside = rw add-one (drop-cons bytes i d inside)
 
 -- one byte of the list

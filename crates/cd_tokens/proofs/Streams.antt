@@ -140,16 +140,16 @@ none_some : {A : Type 0} (x : A) (read : Option A) → read ≡ None → read �
 none_some x read e f = cc
 
 -- no token stands where one should
-no_token : (comments : Bool) (done : List Token) (rest text : List ℕ) → Read comments done rest text → 0 < length rest → token_at rest ≡ None → (tokens : List Token) → IsTokens comments tokens text → ⊥
+pub no_token : (comments : Bool) (done : List Token) (rest text : List ℕ) → Read comments done rest text → 0 < length rest → token_at rest ≡ None → (tokens : List Token) → IsTokens comments tokens text → ⊥
 no_token comments done rest text r some e tokens is =
     let m = r.only tokens is in
     let f = first_of comments m.0 rest r.starts some m.2 in
     none_some (f.first, f.rest) (token_at rest) e f.read
 
-no_gap : (comments : Bool) (text : List ℕ) → past_gap comments text ≡ None → (tokens : List Token) → IsTokens comments tokens text → ⊥
+pub no_gap : (comments : Bool) (text : List ℕ) → past_gap comments text ≡ None → (tokens : List Token) → IsTokens comments tokens text → ⊥
 no_gap comments text e tokens is = let p = past comments tokens text is in none_some p.rest (past_gap comments text) e p.passed
 
-no_gap_behind : (comments : Bool) (done : List Token) (rest text : List ℕ) (t : Token) (after : List ℕ) → Read comments done rest text → 0 < length rest → token_at rest ≡ Some (t, after) → past_gap comments after ≡ None
+pub no_gap_behind : (comments : Bool) (done : List Token) (rest text : List ℕ) (t : Token) (after : List ℕ) → Read comments done rest text → 0 < length rest → token_at rest ≡ Some (t, after) → past_gap comments after ≡ None
     → (tokens : List Token) → IsTokens comments tokens text → ⊥
 no_gap_behind comments done rest text t after r some e none tokens is =
     let m = r.only tokens is in

@@ -17,3 +17,4 @@ pub mod Unescaped
 pub mod ReadString
 pub mod Label
 pub mod ReadLabel
+pub mod Placed

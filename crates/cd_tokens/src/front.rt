@@ -1,8 +1,32 @@
 ghost use Rattle.std.specs.Prelude.{◌≡◌, drop};
-ghost use Rattle.cd_tokens.specs.View.{token_views};
+ghost use Rattle.cd_tokens.specs.View.{token_view, token_views};
 ghost use Rattle.cd_tokens.specs.Front.{is_mark, is_word, starts};
 
 use crate::token::Token;
+
+/// Whether the token is this mark.
+pub fn is_mark(token: &Token<'_>, mark: u8) -> bool
+    ensures { result ≡ is_mark mark (token_view token.now) }
+{
+    match token {
+        Token::Mark(other) => *other == mark,
+        Token::Run(_) => false,
+        Token::Quoted(_) => false,
+        Token::Arrow => false,
+    }
+}
+
+/// Whether the token is this word.
+pub fn is_word(token: &Token<'_>, word: &[u8]) -> bool
+    ensures { result ≡ is_word word.now (token_view token.now) }
+{
+    match token {
+        Token::Run(run) => run.bytes == word,
+        Token::Mark(_) => false,
+        Token::Quoted(_) => false,
+        Token::Arrow => false,
+    }
+}
 
 /// Whether the mark comes first.
 pub fn starts_mark(tokens: &[Token<'_>], mark: u8) -> bool
@@ -10,12 +34,7 @@ pub fn starts_mark(tokens: &[Token<'_>], mark: u8) -> bool
 {
     match tokens {
         [] => false,
-        [first, ..] => match first {
-            Token::Mark(other) => *other == mark,
-            Token::Run(_) => false,
-            Token::Quoted(_) => false,
-            Token::Arrow => false,
-        },
+        [first, ..] => is_mark(first, mark),
     }
 }
 
@@ -25,12 +44,7 @@ pub fn starts_word(tokens: &[Token<'_>], word: &[u8]) -> bool
 {
     match tokens {
         [] => false,
-        [first, ..] => match first {
-            Token::Run(run) => run.bytes == word,
-            Token::Mark(_) => false,
-            Token::Quoted(_) => false,
-            Token::Arrow => false,
-        },
+        [first, ..] => is_word(first, word),
     }
 }
 

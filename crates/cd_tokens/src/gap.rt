@@ -1,4 +1,4 @@
-ghost use Rattle.std.specs.Prelude.{◌≡◌, ◌==◌, ◌&&◌, option_map};
+ghost use Rattle.std.specs.Prelude.{◌≡◌, ◌≤◌, ◌==◌, ◌&&◌, length, option_map};
 ghost use Rattle.cd_tokens.specs.Bytes.{is_blank};
 ghost use Rattle.cd_tokens.specs.ReadGap.{step, may_end, may_stop, past_gap};
 
@@ -104,4 +104,25 @@ pub(crate) fn past_gap(comments: bool, text: &[u8]) -> Option<&[u8]>
         }
     }
     if place.may_end() { Some(&[]) } else { None }
+}
+
+/// How far the gap reaches that the text begins with: up to a token, to a comment that does not end,
+/// or to a byte that begins neither.
+pub(crate) fn gap_len(comments: bool, text: &[u8]) -> usize
+    ensures bound { result ≤ length text.now }
+{
+    let mut len = 0;
+    let mut place = Place::Between;
+    for (index, byte) in text.iter().enumerate() {
+        match place.step(comments, *byte) {
+            None => return len,
+            Some(next) => {
+                place = next;
+                if place.may_stop() {
+                    len = index + 1;
+                }
+            }
+        }
+    }
+    len
 }

@@ -13,12 +13,14 @@ mod label;
 pub mod laws;
 mod number;
 mod piece;
+mod placed;
 mod string;
 mod token;
 
-pub use front::{rest_of, starts_mark, starts_word};
+pub use front::{is_mark, is_word, rest_of, starts_mark, starts_word};
 pub use label::{is_name, label_of, name_of, text_of};
-pub use number::{integer_of, natural_of};
+pub use number::{integer_of, natural_of, numeral_of, says_integer};
 pub use piece::Piece;
+pub use placed::{PlacedToken, PlacedTokens, placed_tokens_of};
 pub use string::{says_bytes, unescaped_of};
 pub use token::{Token, tokens_of};

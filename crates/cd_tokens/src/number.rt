@@ -1,7 +1,9 @@
-ghost use Rattle.std.specs.Prelude.{ℕ, List, ◌∷◌, ◌≡◌, ◌≤◌, ◌<◌, ◌*◌, ◌+◌, ◌^◌, true, false, Some, IfSome, pos, neg_ℤ, option_map};
+ghost use Rattle.std.specs.Prelude.{ℕ, List, ◌∷◌, is_some, ◌≡◌, ◌≤◌, ◌<◌, ◌*◌, ◌+◌, ◌^◌, true, false, Some, IfSome, pos, neg_ℤ, option_map};
 ghost use Rattle.cd_tokens.specs.Numeral.{digit_of};
 ghost use Rattle.cd_tokens.specs.ReadNumeral.{digits_from, numeral_of, natural_of, integer_of, below, between};
-ghost use Rattle.cd_tokens.specs.GoOn.{go_on};
+ghost use Rattle.cd_tokens.specs.GoOn.{go_on, ends_well};
+
+use crate::bytes::is_sign;
 
 pub(crate) fn digit_of(base: u32, byte: u8) -> Option<u32>
     requires least { 2 ≤ base }
@@ -87,8 +89,10 @@ fn digits_of(base: u32, bytes: &[u8]) -> Option<u128>
     }
 }
 
+/// The natural number that a token without a sign says: decimal digits, or `0x` and hex digits, with
+/// single `_` between digits. `None` where it says none below 2^128.
 #[tactic(auto, unfolding(crate::specs::ReadNumeral::numeral_of))]
-pub(crate) fn numeral_of(bytes: &[u8]) -> Option<u128>
+pub fn numeral_of(bytes: &[u8]) -> Option<u128>
     ensures { result ≡ below (2 ^ 128) (numeral_of bytes.now) }
 {
     match bytes {
@@ -163,6 +167,72 @@ pub fn integer_of(bytes: &[u8], half: u128) -> Option<i128>
                 negated(numeral_of(rest), half)
             } else {
                 positive(natural_of(bytes), half)
+            }
+        }
+    }
+}
+
+// Whether a digit must follow the byte. `None`: no number has the byte there.
+#[tactic(auto, using(crate::proofs::AnySize::no_digit, crate::proofs::AnySize::one_digit, crate::proofs::AnySize::two_underscores, crate::proofs::AnySize::underscore))]
+fn needs_after(base: u32, needs_digit: bool, byte: u8) -> Option<bool>
+    requires least { 2 ≤ base }
+    requires most { base ≤ 36 }
+    ensures { (number : ℕ) (bytes : List ℕ) → is_some (digits_from base needs_digit number (byte ∷ bytes)) ≡ ends_well base result bytes }
+{
+    if byte != b'_' {
+        return match digit_of(base, byte) {
+            None => None,
+            Some(_) => Some(false),
+        };
+    }
+    if needs_digit { None } else { Some(true) }
+}
+
+// Whether the bytes are digits with single `_` between them.
+fn are_digits(base: u32, bytes: &[u8]) -> bool
+    requires least { 2 ≤ base }
+    requires most { base ≤ 36 }
+    ensures { result ≡ is_some (digits_from base true 0 bytes.now) }
+{
+    let mut needs_digit = true;
+    for byte in bytes {
+        match needs_after(base, needs_digit, *byte) {
+            None => return false,
+            Some(needs) => needs_digit = needs,
+        }
+    }
+    !needs_digit
+}
+
+#[tactic(auto, unfolding(crate::specs::ReadNumeral::numeral_of))]
+fn says_numeral(bytes: &[u8]) -> bool
+    ensures { result ≡ is_some (numeral_of bytes.now) }
+{
+    match bytes {
+        [] => false,
+        [_] => are_digits(10, bytes),
+        [first, second, digits @ ..] => {
+            if *first == b'0' && *second == b'x' {
+                are_digits(16, digits)
+            } else {
+                are_digits(10, bytes)
+            }
+        }
+    }
+}
+
+/// Whether a token says an integer, of any size.
+#[tactic(auto, using(crate::proofs::AnySize::without_sign))]
+pub fn says_integer(bytes: &[u8]) -> bool
+    ensures { result ≡ is_some (integer_of bytes.now) }
+{
+    match bytes {
+        [] => false,
+        [first, rest @ ..] => {
+            if is_sign(*first) {
+                says_numeral(rest)
+            } else {
+                says_numeral(bytes)
             }
         }
     }

@@ -98,7 +98,7 @@ fn is_arrow(byte: u8, rest: &[u8]) -> bool
 }
 
 #[tactic(auto, unfolding(crate::specs::ReadToken::token_at))]
-fn token_of(bytes: &[u8]) -> Option<(Token<'_>, &[u8])>
+pub(crate) fn token_of(bytes: &[u8]) -> Option<(Token<'_>, &[u8])>
     ensures { option_map (λ x. (token_view x.0, x.1.now)) result ≡ token_at bytes.now }
 {
     match bytes {
