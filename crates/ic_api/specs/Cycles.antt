@@ -9,7 +9,7 @@ use Rattle.ic_api.specs.Memory.{sixteen}
 abbrev pub whole : ℕ → ℕ → ℕ
 whole high low = high * 2 ^ 64 + low
 
--- so many of the available cycles move to the balance
+-- this many of the available cycles move to the balance
 abbrev pub accepted : ℕ → Execution → Execution
 accepted n es = record es { view = record es.view { balance = es.view.balance + n; available = es.view.available - n } }
 

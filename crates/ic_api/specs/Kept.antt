@@ -16,7 +16,7 @@ pub record RecordKept (old new : Execution) : Type 0 where
   pub once : IsOnceAnswered old → IsOnceAnswered new
   -- what is available, and what an answer sends back, are never more
   pub gift : new.view.available + refund_of new.answer ≤ old.view.available + refund_of old.answer
-  -- an answer stands
+  -- an answer stays
   pub late : old.view.responded ≡ true → (new.view.responded ≡ true) × (new.answer ≡ old.answer)
   pub spent : IsSpent old → IsSpent new
   pub few : old.view.outstanding + length old.performed ≤ 500 → new.view.outstanding + length new.performed ≤ 500

@@ -1,5 +1,5 @@
 -- The System API (IC Interface Specification, "System API"), row by row: what each call does, where
--- its kind may use it. The arguments stand in the order of the table's signature.
+-- its kind may use it. The arguments are in the order of the table's signature.
 use Rattle.std.specs.Prelude.{ℕ, ◌-◌, ◌^◌, List, None, slice_index}
 use Rattle.wm_store.specs.Lists.{pages_of}
 use Rattle.wm_valid.specs.declared.system_api.SystemCall.{SystemCall}

@@ -12,7 +12,7 @@ pub record Now : Type 0 where
   pub es : Execution
   pub lists : Lists
 
--- the answer, and what stands after it
+-- the answer, and what there is after it
 pub record Step (S : Type 0) : Type 0 where
   pub answer : HostAnswer
   pub after : S

@@ -19,7 +19,7 @@ use wm_valid::system_api::SystemCall;
 /// record.
 #[derive(Debug, Drop)]
 pub struct Api {
-    // Large, and first, so that no gap stands before it where it is moved.
+    // Large, and first, so that there is no gap before it where it is moved.
     es: Execution,
     kind: EntryKind,
     alloc: Global,

@@ -19,7 +19,7 @@ const LONGEST_NAME: usize = 20_000;
 /// The most calls of a canister that have no answer yet.
 const MOST_CALLS: u64 = 500;
 
-/// Where bytes stand in memory.
+/// Where bytes are in memory.
 #[derive(Clone, Copy)]
 pub struct Place {
     pub src: u64,

@@ -24,7 +24,7 @@ use Rattle.ic_behaviour.specs.Views.{user_view}
 
 -- ---- code on a meter that runs on
 
--- the outcome of code on a store, at what it sees, where so many of the instructions of the limit were used before
+-- the outcome of code on a store, at what it sees, where this many of the instructions of the limit were used before
 abbrev pub EntersAfter : Type 0
 EntersAfter = Code → Lists → Target → EntryKind → View → (limit spent : ℕ) → Outcome
 
@@ -143,7 +143,7 @@ installation_by c new (Goes now) = record {
 }
 installation_by c new (Refused cause used) = record { canister = c; refusal = Some cause; used = used }
 
--- the canister stands with the counts of the state that still has the call that asks for the installation
+-- the canister has the counts of the state that still has the call that asks for the installation
 unfoldable pub installed : EntersAfter → Env → CountedCanister → Mode → Code → (arg sender : List ℕ) → Installation
 installed enters env c mode new arg sender =
     installation_by c new (steps (record { enters = enters; env = env; canister = c; sender = sender }) mode c.code new arg (first_stage c))

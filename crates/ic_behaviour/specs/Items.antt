@@ -1,4 +1,4 @@
--- Where calls, cycles and call contexts stand, and how they are counted (IC Interface Specification, "Abstract state").
+-- Where calls, cycles and call contexts are, and how they are counted (IC Interface Specification, "Abstract state").
 use Rattle.std.specs.Prelude.{◌≡◌, ℕ, ◌+◌, ◌<◌, ◌^◌, Bool, true, false, ◌&&◌, cond, List, [], ◌++◌, Option, Some, None, is_some, slice_get, length, map}
 use Rattle.std.specs.List.{flat_map, AllByRecursion}
 use Rattle.ic_principal.specs.CanisterId.{canister_id_of}
@@ -61,7 +61,7 @@ abbrev pub answered : List Request → CallId → ℕ
 answered requests (call_id.Ingress k) = one (is_answered (slice_get requests k))
 answered requests (call_id.Canister caller n) = 0
 
--- in how many places a call stands; an answered request is one
+-- how many places a call has; an answered request is one
 abbrev pub places : State → CallId → ℕ
 places s id = total (bears id) (items s) + answered s.requests id
 

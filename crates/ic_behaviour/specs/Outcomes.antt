@@ -17,7 +17,7 @@ pub data Outcome : Type 0 where
   Returns : Lists → Effects → (used : ℕ) → Outcome
   Traps : Trap → (used : ℕ) → Outcome
 
--- the outcome of code on a store, at what it sees, where it may use so many instructions
+-- the outcome of code on a store, at what it sees, where it may use this many instructions
 abbrev pub Enters : Type 0
 Enters = Code → Lists → Target → EntryKind → View → (limit : ℕ) → Outcome
 

@@ -34,7 +34,7 @@ abbrev pub goes : State → (place : ℕ) → Option Message → Bool
 goes s place None = false
 goes s place (Some m) = not (is_some (lookup (at (callee_of m)) s.canisters)) && not (list_any (same_way m) (take place s.messages))
 
--- so many messages are gone through, from this place on, and those that go are delivered; the places
+-- this many messages are gone through, from this place on, and those that go are delivered; the places
 unfoldable pub sweep : Rules → (count place : ℕ) → State → List ℕ
 sweep rules zero place s = []
 sweep rules (suc count) place s =
@@ -52,7 +52,7 @@ second_phase rules s = sweep rules (length s.messages) 0 s
 unfoldable pub round : Rules → State → List ℕ
 round rules s = first_phase rules s ++ second_phase rules (along rules s (first_phase rules s))
 
--- up to so many rounds, the places of each: they end where no message is under way
+-- up to this many rounds, the places of each: they end where no message is under way
 unfoldable pub rounds : Rules → (count : ℕ) → State → List (List ℕ)
 rounds rules zero s = []
 rounds rules (suc count) s =

@@ -52,13 +52,13 @@ abbrev pub IsNamed : ℕ → List ℕ → Type 0
 IsNamed next key = (k : ℕ) × (k < next) × (k < 2 ^ 64) × (key ≡ canister_id_of k)
 
 pub record NamesStand (s : State) : Type 0 where
-  -- a call without answer names a context that stands
+  -- a call without answer names a context that is there
   pub names : (key : List ℕ) (id : CallId) → 0 < outstanding s key id → Stands s key id
   pub own_ids : Each HasOwnId s
   -- no two contexts have the same id, and no call that may make one has the id of a context
   pub begun : (id : CallId) → total (begins id) (items s) ≤ 1
   pub answers : Each IsToCanister s
-  -- canisters stand under their ids, which rise
+  -- canisters are under their ids, which rise
   pub rises : IsStrictlySortedBy (slice_cmp nat_cmp) (keys_of s.canisters)
   pub keys : EachCanister (λ e. e.1.id ≡ e.0) s
   pub named : EachCanister (λ e. IsNamed s.next_canister e.0) s
@@ -69,7 +69,7 @@ abbrev pub HasFlags : Item → Type 0
 HasFlags (InContext key x) = (x.must_respond ≡ false → x.available ≡ 0) × (x.deleted ≡ true → x.must_respond ≡ false)
 HasFlags _ = Unit {0}
 
--- a context that is not deleted stands where there is code
+-- a context that is not deleted is only where there is code
 abbrev pub HasCode : Option Code → List CallContext → Type 0
 HasCode code contexts = AllByRecursion (λ (x : CallContext). x.deleted ≡ false → IsSome code) contexts
 
@@ -99,7 +99,7 @@ abbrev pub StandsBehind : List CallId → Item → Type 0
 StandsBehind list (InContext key x) = x.must_respond ≡ true → IsBehind list x.id x.origin
 StandsBehind list _ = Unit {0}
 
--- each context stands in the list, once, and each one that must respond to a canister stands behind the one that its
+-- each context is in the list, once, and each one that must respond to a canister comes after the one that its
 -- origin names
 pub record IsListing (s : State) (list : List CallId) : Type 0 where
   pub complete : (key : List ℕ) (id : CallId) → Stands s key id → 0 < total (λ i. one (same_id id i)) list

@@ -32,7 +32,7 @@ pub record Code : Type 0 where
   pub «module» : Module
   pub hash : List ℕ
 
--- contexts stand in the order in which they were made
+-- contexts are in the order in which they were made
 pub record Canister : Type 0 where
   pub id : List ℕ
   pub controllers : List (List ℕ)
@@ -55,7 +55,7 @@ is_awaited phase = false
 
 -- ---- the state
 
--- canisters stand under their ids, which rise; a request's number is its place
+-- canisters are under their ids, which rise; a request's number is its place
 pub record State : Type 0 where
   pub canisters : List (List ℕ × Canister)
   pub messages : List Message
@@ -71,19 +71,19 @@ pub record State : Type 0 where
 abbrev pub at : List ℕ → List ℕ → Bool
 at key = is_at (slice_cmp nat_cmp key)
 
--- the one that is looked for stands first
+-- the one that is looked for comes first
 abbrev pub same_id : CallId → CallId → Bool
 same_id (call_id.Ingress k) (call_id.Ingress l) = k == l
 same_id (call_id.Ingress k) (call_id.Canister caller n) = false
 same_id (call_id.Canister caller n) (call_id.Ingress k) = false
 same_id (call_id.Canister caller n) (call_id.Canister other m) = at caller other && (n == m)
 
--- the id of the call that comes from there
+-- the id of the call that comes from this origin
 abbrev pub id_of : Origin → CallId
 id_of (origin.Ingress k) = call_id.Ingress k
 id_of (origin.Canister caller n context callback) = call_id.Canister caller n
 
--- the caller; no bytes stand for a user, whose answers go into the request
+-- the caller; a user, whose answers go into the request, has no bytes
 abbrev pub caller_of : Origin → List ℕ
 caller_of (origin.Ingress k) = []
 caller_of (origin.Canister caller n context callback) = caller

@@ -22,7 +22,7 @@ submitted s sender callee method arg = record s {
 abbrev pub timed : State → ℕ → State
 timed s time = record s { time = time }
 
--- a new canister stands under its id, and its balance was created
+-- a new canister comes under its id, and its balance was created
 abbrev pub added : State → Canister → State
 added s c = record s {
   canisters = insert_entry (slice_cmp nat_cmp) s.canisters c.id c;

@@ -2,7 +2,7 @@
 //! of calls, and the definitions that every layer of the host is held to.
 //!
 //! A state (`specs/State`) has canisters with their call contexts, messages under way, and the
-//! requests of users. `specs/Sound` says what every state keeps: a call stands in one place, each
+//! requests of users. `specs/Sound` says what every state keeps: a call has one place, each
 //! context that is still open awaits a call, and cycles are neither made nor lost. `specs/Deliver`
 //! says what the delivery of a message changes. `specs/Steps` says which messages may be delivered next,
 //! `specs/Round` in which order rounds deliver them, and `specs/Runs` what a run is: messages are delivered one

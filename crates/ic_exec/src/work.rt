@@ -24,7 +24,7 @@ pub struct Done {
     pub trapped: Option<Trap>,
 }
 
-/// Nothing is sent, and so much was used.
+/// Nothing is sent, and this many instructions were used.
 pub fn silent(alloc: Global, used: u64, trapped: Option<(CallId, Trap)>) -> Work
     ensures { result ≡ record { calls = []; answers = []; used = used; trapped = trapped } }
 {

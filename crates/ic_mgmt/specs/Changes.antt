@@ -47,12 +47,12 @@ obeyed enters limit now s call = ordered (controllers_in s) call.origin call.sen
 abbrev pub waits : (now s : State) → IncomingCall → (id : List ℕ) → Canister → State
 waits now s call id c = shut now id (awaiting call c) (with_canister id (awaiting call c) s)
 
--- a stored canister stands in a state under its id, with its numbers of `now`
+-- a state has a stored canister under its id, with its numbers of `now`
 pub record Stands (now s : State) (id : List ℕ) (c : StoredCanister) : Type 0 where
   pub found : lookup (at id) s.canisters ≡ Some (dropped (seen c))
   pub counts : counted now id (dropped (seen c)) ≡ seen c
 
--- wherever the canister stands, what code did to it is what the row says
+-- wherever the canister is, what code did to it is what the row says
 abbrev pub DoesAt : Result Ending Unmet → IncomingCall → (id : List ℕ) → (c d : StoredCanister) → (State → State → Canister → Result State Denial) → Type 0
 DoesAt result call id c d row = (now s : State) → Stands now s id c → Does result call s (with_canister id (dropped (seen d)) s) (row now s (dropped (seen c)))
 

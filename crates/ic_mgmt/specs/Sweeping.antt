@@ -41,7 +41,7 @@ pub record Delivers (limit : ℕ) (kept : List Message) (m : Message) (todo : Li
 abbrev pub ahead : Rules → (kept todo : List Message) → Parts → List ℕ
 ahead rules kept todo p = sweep rules (length todo) (length kept) (state_of (among kept todo p))
 
--- so many messages were handled since the phase began at a world, and what is left to do leads to its end
+-- this many messages were handled since the phase began at a world, and what is left to do leads to its end
 pub record Reaches (limit : ℕ) (start : Parts) (kept todo : List Message) (p : Parts) (count : ℕ) : Type 0 where
   pub keeps : IsWorld (among kept todo p)
   pub state : (price : ℕ)

@@ -15,7 +15,7 @@ use Rattle.ic_behaviour.specs.Closing.{closed, closing}
 use Rattle.ic_behaviour.specs.Deliver.{filled, routed, answered_by}
 use Rattle.ic_state.specs.IsCanister.{no_lists}
 
--- as a message, to the management canister by whatever principal stands for it
+-- as a message, to the management canister by whatever principal names it
 abbrev pub message_of : IncomingCall → (callee : List ℕ) → Message
 message_of call callee = Call call.origin call.sender callee call.method call.arg call.cycles
 
@@ -42,7 +42,7 @@ gone id c s = record s { canisters = remove_entry (at id) s.canisters; burned = 
 
 -- ---- answers
 
--- the call is answered by the management canister, which has no bytes, and so many of its cycles go back
+-- the call is answered by the management canister, which has no bytes, and this many of its cycles go back
 abbrev pub answered : IncomingCall → Response → (refund : ℕ) → State → State
 answered call response refund s = answered_by [] (record { origin = call.origin; response = response; refund = refund }) s
 

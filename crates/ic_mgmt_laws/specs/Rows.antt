@@ -44,7 +44,7 @@ controllers_or otherwise (Some ids) = do
 abbrev pub unless_full : State → Result (Unit {0}) Denial
 unless_full s = unless (nat_lt (length s.canisters) 64 && nat_lt s.next_canister (2 ^ 64 - 1)) D.TooManyCanisters
 
--- so many cycles more may be created
+-- this many cycles more may be created
 abbrev pub unless_above : State → (amount : ℕ) → Result (Unit {0}) Denial
 unless_above s amount = unless (nat_le (s.created + amount) (2 ^ 127 - 1)) D.TooManyCycles
 

@@ -18,7 +18,7 @@ unfolding round
 round_handled rules s mid first second is is_first is_second =
     omega (arith, is_first, is_second, ap (λ (t : State). length (second_phase rules t)) is, length-append (first_phase rules s) (second_phase rules (along rules s (first_phase rules s))))
 
--- so many rounds of some were made
+-- this many rounds of some were made
 pub record Rounding (rules : Rules) (count made : ℕ) (start now : State) : Type 0 where
   pub state : along rules start (concat (rounds rules count start)) ≡ along rules now (concat (rounds rules (count - made) now))
   pub many : length (rounds rules count start) ≡ made + length (rounds rules (count - made) now)

@@ -1,4 +1,4 @@
--- How queues stand in memory: messages under numbers that rise, and queues of numbers. No standard has this.
+-- How queues are in memory: messages under numbers that rise, and queues of numbers. No standard has this.
 use Rattle.std.specs.Prelude.{◌≡◌, ℕ, ◌<◌, Bool, true, cond, not, List, [], ◌∷◌, ◌++◌, drop, slice_get, Option, Some, None}
 use Rattle.std.specs.Option.{option_to_list}
 use Rattle.std.specs.List.{fold, AllByRecursion}

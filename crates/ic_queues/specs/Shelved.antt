@@ -18,7 +18,7 @@ starts_empty [] = false
 starts_empty (None ∷ places) = true
 starts_empty (Some m ∷ places) = false
 
--- each number below the next has a place, and no empty place stands before all messages
+-- each number below the next has a place, and no empty place is before all messages
 pub record IsShelf (first : ℕ) (places : List (Option Message)) (next : ℕ) : Type 0 where
   pub numbers : first + length places ≡ next
   pub trimmed : starts_empty places ≡ false

@@ -29,7 +29,7 @@ impl Line {
         }
     }
 
-    /// Puts a number behind the others.
+    /// Puts a number after the others.
     pub fn push(&mut self, number: u64) -> Result<(), NoMemory>
         ensures { OnOk result (self.new ≡ self.old ++ number ∷ []) }
     {

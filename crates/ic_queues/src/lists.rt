@@ -106,7 +106,7 @@ impl Lists {
         taken(&mut self.messages, number)
     }
 
-    /// Puts a message behind the others.
+    /// Puts a message after the others.
     pub fn push(&mut self, alloc: Global, message: Message) -> Result<(), NoMemory>
         requires { AreQueued self.old }
         ensures keeps { OnOk result (AreQueued self.new) }

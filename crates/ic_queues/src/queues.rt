@@ -20,7 +20,7 @@ use std::alloc::Global;
 use std::collections::BTreeMap;
 use std::marker::Model;
 
-/// The messages under way, with a queue for each canister. What it keeps stands in `specs/Lines`.
+/// The messages under way, with a queue for each canister. What it keeps is said in `specs/Lines`.
 #[derive(Drop)]
 pub struct Queues {
     lists: Lists,
@@ -88,7 +88,7 @@ impl Queues {
         self.lists.pop(key)
     }
 
-    /// Puts messages behind the others.
+    /// Puts messages after the others.
     pub fn append(self, alloc: Global, messages: Messages) -> Result<Queues, NoMemory>
         ensures messages { IfOk result (λ w. w.messages ≡ self.messages ++ messages) }
         ensures canisters { IfOk result (λ w. w.canisters ≡ self.canisters) }

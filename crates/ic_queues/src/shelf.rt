@@ -32,7 +32,7 @@ impl Model for Shelf {
     ghost invariant = { λ s. IsShelf s.first s.places.items s.next };
 }
 
-// Whether an empty place stands first.
+// Whether the first place is empty.
 fn starts_empty(places: &VecDeque<Option<MessagePlace>>) -> bool
     ensures { result ≡ starts_empty places.now.items }
 {
@@ -67,7 +67,7 @@ fn empty(places: &mut VecDeque<Option<MessagePlace>>, place: usize) -> Option<Me
     }
 }
 
-// Puts the message of a place, if there is one, behind the others.
+// Puts the message of a place, if there is one, after the others.
 fn put(items: &mut Vec<Message>, place: Option<MessagePlace>) -> Result<(), NoMemory>
     ensures { OnOk result (items.new.items ≡ items.old.items ++ option_to_list place) }
 {

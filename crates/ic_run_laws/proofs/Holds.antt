@@ -1,4 +1,4 @@
--- What stands while a message is handled, and the moves that keep it. A move takes some items and gives others; each fact
+-- What holds while a message is handled, and the moves that keep it. A move takes some items and gives others; each fact
 -- is about totals, so the places of items in their list do not matter.
 use Rattle.std.proofs.Common.{◌≡◌, ℕ, zero, suc, ◌+◌, ◌<◌, ◌≤◌, Bool, true, false, cond, not, ◌&&◌, ◌⊎◌, List, [], ◌∷◌, ◌++◌, length, Some, None, refl, sym, ap, ◌∙◌, subst, arith, inl, inr, true≢false, ap₂, not-suc-le-zero}
 use Rattle.std.proofs.lemmas.Bool.{cases_Bool, and_parts}
@@ -84,7 +84,7 @@ module _ (s : State) (key : List ℕ) (off : List ℕ → CallId → Bool) (less
       others_few = λ k differs. omega (arith, h.others_few k differs, swaps (calls_of k));
     }
 
-  -- the items may stand in another order
+  -- the items may be in another order
   module _ {given : CallId → Type 0} {xs ys : List Item} {rs : List Request} {funds : ℕ} where
     pub sorted_anew : ((w : Item → ℕ) → total w ys ≡ total w xs) → Holds given xs rs funds → Holds given ys rs funds
     sorted_anew same h = record {

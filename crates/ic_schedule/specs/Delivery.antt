@@ -22,7 +22,7 @@ abbrev pub is_managed_message : Option Message → Bool
 is_managed_message None = false
 is_managed_message (Some m) = is_to_management m
 
--- whether a call to the management canister stands at the place
+-- whether a call to the management canister is at the place
 abbrev pub is_managed : State → (place : ℕ) → Bool
 is_managed s place = is_managed_message (slice_get s.messages place)
 

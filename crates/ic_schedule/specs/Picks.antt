@@ -24,7 +24,7 @@ Chain manages limit price s [] t = t ≡ s
 Chain manages limit price s (place ∷ places) t =
     IsEligible s place × ((u : State) × Delivers manages limit price s place u × Chain manages limit price u places t)
 
--- so many of the picks were delivered: all of them, or the next one is not eligible
+-- this many of the picks were delivered: all of them, or the next one is not eligible
 pub record Picks (manages : Manages) (limit price : ℕ) (s : State) (picks : List ℕ) (t : State) (count : ℕ) : Type 0 where
   pub few : count ≤ length picks
   pub delivered : Chain manages limit price s (take count picks) t

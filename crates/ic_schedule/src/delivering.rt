@@ -20,7 +20,7 @@ fn is_to_management(message: &Message) -> bool
     }
 }
 
-// Whether a call to the management canister stands at the place.
+// Whether a call to the management canister is at the place.
 fn is_managed(world: &World, place: usize) -> bool
     ensures { result ≡ is_managed world.now place }
 {

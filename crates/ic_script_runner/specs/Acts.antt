@@ -42,7 +42,7 @@ abbrev pub Concludes : Taken → Taken → Output → Status → Type 0
 Concludes old new output status =
     ((status ≡ output.status) × Sent old new output.bytes) ⊎ Interrupts old new output.bytes status
 
--- an output behind what was gathered
+-- an output after what was gathered
 abbrev pub behind_gathered : List ℕ → Output → Output
 behind_gathered gathered output = record output { bytes = gathered ++ output.bytes }
 
@@ -55,13 +55,13 @@ DoesAndGathers old new gathered left number said (Err status) =
     ⊎ ((cause : LineCause) × (said ≡ Err cause) × Concludes old new (behind_gathered gathered (bad_output number cause)) status)
     ⊎ Interrupts old new gathered status
 
--- the state behind a line, or that it is bad, unless memory was wanting
+-- the state after a line, or that it is bad, unless out of memory
 abbrev pub Does : ℕ → Result (State × List ℕ) LineCause → Result State Status → Type 0
 Does number said (Ok state) = (text : List ℕ) × (said ≡ Ok (state, text))
 Does number said (Err (BadLine line cause)) = (line ≡ number) × (said ≡ Err cause)
 Does number said (Err status) = status ≡ NoMemory
 
--- the state behind the last line of a script, or its first bad line, unless memory was wanting
+-- the state after the last line of a script, or its first bad line, unless out of memory
 abbrev pub Ends : Result State Bad → Result State Status → Type 0
 Ends last (Ok state) = last ≡ Ok state
 Ends last (Err (BadLine line cause)) = (bad : Bad) × (last ≡ Err bad) × (bad.line ≡ line) × (bad.cause ≡ cause)

@@ -27,7 +27,7 @@ use Rattle.ic_candid_lines.specs.Upgrading.{upgrade_text}
 
 -- ---- rounds
 
--- the deliveries of up to so many rounds
+-- the deliveries of up to this many rounds
 unfoldable pub acts_of_rounds : Options → ℕ → State → List Act
 acts_of_rounds options count s = map Delivers (concat (rounds (rules_of options) count s))
 

@@ -9,12 +9,12 @@ use Rattle.ic_generate.specs.Script.{script as generated}
 use Rattle.ic_behaviour.specs.State.{State}
 use Rattle.ic_script_runner.specs.Walk.{Bad, Walk, start, walk}
 
--- how many of so many lines there are up to the first bad one
+-- how many of this many lines there are up to the first bad one
 abbrev pub lines_until : ℕ → Result State Bad → ℕ
 lines_until all (Ok state) = all
 lines_until all (Err bad) = bad.line
 
--- the script that runs: the bytes that are read, or the one that a number stands for
+-- the script that runs: the bytes that are read, or the one that a number makes
 abbrev pub script_for : Option ℕ → List ℕ → List ℕ
 script_for None bytes = bytes
 script_for (Some n) bytes = generated n

@@ -44,7 +44,7 @@ abbrev pub Prints : {T : Type 0} → Taken → Taken → List ℕ → Result T S
 Prints old new text (Ok done) = Sent old new text
 Prints old new text (Err status) = Interrupts old new text status
 
--- Of what was gathered and a text behind it a front was sent, and the rest is gathered now; or a status says why not all
+-- Of what was gathered and a text after it a front was sent, and the rest is gathered now; or a status says why not all
 -- of it was sent.
 abbrev pub Gathers : {T : Type 0} → Taken → Taken → (gathered text left : List ℕ) → Result T Status → Type 0
 Gathers old new gathered text left (Ok done) = (sent : List ℕ) × Sent old new sent × (gathered ++ text ≡ sent ++ left)

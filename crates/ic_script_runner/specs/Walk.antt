@@ -9,7 +9,7 @@ use Rattle.ic_script_runner.specs.AfterLine.{after_line}
 use Rattle.ic_behaviour.specs.State.{State}
 use Rattle.ic_behaviour.specs.Submitted.{empty}
 
--- where a way stands: before the line of this number, with so many bytes of the script behind it
+-- where a way is: before the line of this number, after this many bytes of the script
 pub record Place : Type 0 where
   pub options : Options
   pub state : State
@@ -20,7 +20,7 @@ pub record Place : Type 0 where
 abbrev pub start : Options → Place
 start options = record { options = options; state = empty; number = 1; offset = 0 }
 
--- the place behind a line whose piece of the script has so many bytes
+-- the place after a line whose piece of the script has this many bytes
 abbrev pub behind_line : Place → ℕ → State → Place
 behind_line at size state = record at { state = state; number = at.number + 1; offset = at.offset + size }
 

@@ -297,7 +297,7 @@ fn make_rounds<R: Threads + Sync, G: Gate + Sync>(
     Ok((world, text))
 }
 
-/// Makes up to so many rounds, as the options say: the world after them, and how many handled a
+/// Makes up to this many rounds, as the options say: the world after them, and how many handled a
 /// message.
 pub fn run_rounds_by<R: Threads + Sync, G: Gate + Sync>(
     alloc: Global,

@@ -95,7 +95,7 @@ impl Gathered {
         }
     }
 
-    /// Sends what is gathered and a text behind it, and answers the status.
+    /// Sends what is gathered and a text after it, and answers the status.
     pub fn conclude<K: Sink>(&mut self, sink: &mut K, text: &[u8], status: Status) -> Status
         ensures { Concludes (sink_at K.taken K.fits K.faults sink.old) (sink_at K.taken K.fits K.faults sink.new)
             (record { bytes = self.old ++ text.now; status = status }) result }

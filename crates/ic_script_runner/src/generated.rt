@@ -25,7 +25,7 @@ use std::thread::Threads;
 // How many bytes of the script are read at once.
 const PIECE: usize = 65_536;
 
-/// Runs the script that a number stands for, and prints the short end part. Nothing is printed before the end.
+/// Runs the script that a number makes, and prints the short end part. Nothing is printed before the end.
 pub fn run_generated<R: Threads + Sync, K: Sink, G: Gate + Sync>(
     alloc: Global,
     rt: &R,
@@ -50,7 +50,7 @@ pub fn run_generated<R: Threads + Sync, K: Sink, G: Gate + Sync>(
     }
 }
 
-// Does the lines of a script, of which nothing is printed: the world behind the last one.
+// Does the lines of a script, of which nothing is printed: the world after the last one.
 fn do_lines<R: Threads + Sync, G: Gate + Sync>(
     alloc: Global,
     rt: &R,

@@ -37,7 +37,7 @@ cycles_of c = c.balance + total (λ (x : Context). x.available) c.contexts + tot
 pub record IsCanister (c : Canister) : Type 0 where
   pub contexts : AllByRecursion IsContext c.contexts
   pub once : (id : CallId) → total (λ (x : Context). one (same_id id x.id)) c.contexts ≤ 1
-  -- one that is not deleted stands only where there is code
+  -- one that is not deleted is only where there is code
   pub has_code : AllByRecursion (λ (x : Context). x.deleted ≡ false → IsSome c.code) c.contexts
   pub counts : c.outstanding ≡ total (λ (x : Context). x.outstanding) c.contexts
   pub few : c.outstanding ≤ 500

@@ -144,7 +144,7 @@ impl CanisterPlace {
     }
 }
 
-/// A canister. What it keeps stands in `specs/IsCanister`.
+/// A canister. What it keeps is said in `specs/IsCanister`.
 #[derive(Debug, Drop)]
 pub struct Canister {
     pub id: Principal,

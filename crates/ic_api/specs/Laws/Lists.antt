@@ -81,7 +81,7 @@ stable_write_step offset src size s =
 
 -- ---- stable memory that grows
 
--- whole pages, so many more and not too many
+-- whole pages, this many more and not too many
 abbrev IsGrown : List ℕ → Option (List ℕ) → Type 0
 IsGrown xs None = Unit {0}
 IsGrown xs (Some ys) = (length xs ≤ length ys) × (HasPages 256 xs → HasPages 256 ys)
