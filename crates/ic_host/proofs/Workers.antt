@@ -20,14 +20,14 @@ use Rattle.ic_script_runner.specs.Walk.{Place, Bad, Walk, start, behind_line, be
 use Rattle.ic_host.specs.Trace.{acts_of_spelled, acts_of_line, acting, acts_from, trace_of, trace, rules}
 use Rattle.ic_host.specs.Printed.{ButForWorkers}
 
--- the same with other workers
+-- the options with other workers
 abbrev crew : Options → ℕ → Options
 crew options n = record options { workers = n }
 
 abbrev crewed : Place → ℕ → Place
 crewed at n = record at { options = crew at.options n }
 
--- a command does and prints the same
+-- with other workers a command does and prints what it did
 same : (options : Options) (n : ℕ) (s : State) (c : Command)
     → (acts_of options s c ≡ acts_of (crew options n) s c) × (text_of options s c ≡ text_of (crew options n) s c)
 unfolding acts_of_rounds accepts_now answer_now
@@ -63,7 +63,7 @@ acting_same : (acts : List Act) (j : Result (State × List ℕ) Bad) (f g : Stat
 acting_same acts (Ok done) f g each = ap (λ rest. acts ++ rest) (each done.0)
 acting_same acts (Err bad) f g each = refl
 
--- the way and the run are the same
+-- the way and the run stay as they are
 walk_same : (at : Place) (n : ℕ) (ps : List (List ℕ)) → walk script_limits at ps ≡ walk script_limits (crewed at n) ps
 unfolding walk
 walk_same at n [] = refl

@@ -96,7 +96,7 @@ abbrev pub turned_away_at : Rules → Canister → Result Admitted Refusal → O
 turned_away_at rules c (Err refusal) = Some (refuses refusal)
 turned_away_at rules c (Ok function) = cond (nat_lt c.balance (rules.limit * rules.price)) (Some out_of_cycles) None
 
--- the same of the canister that is there, or that none is; the management canister is not asked here
+-- what the canister that is there tells the caller, or what is told where none is; the management canister is not asked here
 abbrev pub turned_away_by : Rules → State → (callee method : List ℕ) → Option Canister → Option Response
 turned_away_by rules s callee method (Some c) = turned_away_at rules c (admit (counted s callee c) method)
 turned_away_by rules s callee method None = cond (is_management callee) None (Some (no_canister callee))

@@ -35,7 +35,7 @@ acts_from limits at (piece ∷ pieces) =
     acting (acts_of_line at.options at.state (line_of piece)) (judge limits at piece (excess_of limits at.offset piece))
     (λ state. acts_from limits (behind_line at (length piece) state) pieces)
 
--- the same of the script that runs with the options; where the words are refused nothing happens
+-- what the script makes happen that runs with the options; where the words are refused nothing happens
 abbrev pub trace_of : Option Options → List ℕ → List Act
 trace_of None bytes = []
 trace_of (Some options) bytes = acts_from script_limits (start options) (pieces (script_for options.generate bytes))

@@ -81,7 +81,7 @@ module _ (options : Options) (p : Parts) (keeps : IsWorld p) (ask : Ask) where
       ap told_of (sym (found_counts (state_of p) ask.callee p.canisters.entries c is keeps.counts))
       ∙ sym (ap (accepts options (state_of p) ask) (lookup-seen ask.callee p.canisters.entries ∙ ap (option_map (λ c. dropped (seen c))) is))
 
--- the same canisters, in a map of another layout
+-- canisters that are now in a map of another layout
 module _ (p : Parts) (m : BTreeMap (List ℕ) StoredCanister) (same : m.entries ≡ p.canisters.entries) where
   pub state_same : state_of (record p { canisters = m }) ≡ state_of p
   state_same = ap (λ es. record (state_of p) { canisters = map entry_of es }) same

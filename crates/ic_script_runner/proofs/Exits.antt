@@ -87,7 +87,7 @@ prepend_known-nil : (known : Option (List ℕ)) → prepend_known [] known ≡ k
 prepend_known-nil None = refl
 prepend_known-nil (Some bytes) = refl
 
--- memory was wanting before anything was read
+-- out of memory before anything was read
 pub explain-at_once : (words : List (List ℕ)) (left : Option (List ℕ)) (now : Taken) → Explained words left left now now NoMemory
 explain-at_once words left now =
     explain-interrupted words left left now now [] (sym (prepend_known-nil left)) NoMemory (Interrupts-at_once now (out words (rest_of left)).bytes)

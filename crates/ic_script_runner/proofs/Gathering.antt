@@ -15,7 +15,7 @@ module _ {T : Type 0} where
       subst P (sym none) interrupted
 
 module _ {T : Type 0} (u : T) (old mid new : Taken) (gathered text left : List ℕ) (one : Gathers old mid gathered text left (Ok u)) where
-  -- what is left behind the text
+  -- what is left after the text
   onward : (more : List ℕ) → (gathered ++ text) ++ more ≡ one.0 ++ (left ++ more)
   onward more = ap (λ l. l ++ more) one.2 ∙ append_assoc one.0 left more
 
@@ -28,7 +28,7 @@ module _ {T : Type 0} (u : T) (old mid new : Taken) (gathered text left : List �
   Gathers-more v more rest two =
       (one.0 ++ two.0, Sent-append old mid new one.0 two.0 one.1 two.1, onward more ∙ ap (λ l. one.0 ++ l) two.2 ∙ sym (append_assoc one.0 two.0 rest))
 
--- a text behind what was flushed
+-- a text after what was flushed
 pub Gathers-behind : {T V : Type 0} (u : T) (r : Result V Status) (old mid new : Taken) (gathered left text rest : List ℕ) → Gathers old mid gathered [] left (Ok u) → Gathers mid new left text rest r
     → Gathers old new gathered text rest r
 Gathers-behind u (Ok v) old mid new gathered left text rest one two =
@@ -38,7 +38,7 @@ Gathers-behind u (Err status) old mid new gathered left text rest one two =
     let P = λ (l : List ℕ). Interrupts old new (l ++ text) status in
     subst P (append-nil gathered) (Gathers-interrupted u old mid new gathered [] left one text status two)
 
--- an output behind a text that was gathered
+-- an output after a text that was gathered
 pub Concludes-behind : (old mid new : Taken) (sent gathered text left more : List ℕ) (last status : Status) → Sent old mid sent → gathered ++ text ≡ sent ++ left
     → Concludes mid new (record { bytes = left ++ more; status = last }) status → Concludes old new (record { bytes = gathered ++ (text ++ more); status = last }) status
 Concludes-behind old mid new sent gathered text left more last status one cut two =

@@ -8,7 +8,7 @@ use Rattle.ic_script_runner.specs.declared.status.Status.{Status}
 use Rattle.ic_output.specs.Texts.{answer_text}
 use Rattle.ic_script_runner.proofs.SendLaws.{Sent-nil, Sent-append, Interrupts-after, Interrupts-more}
 
--- the answers before a number were sent behind what was gathered at first, but for what is gathered now
+-- the answers before a number were sent after what was gathered at first, but for what is gathered now
 pub record Printed (requests : List Request) (start at : Taken) (gathered pending : List ℕ) (number : ℕ) : Type 0 where
   pub printed : List ℕ
   pub sent : Sent start at printed
@@ -27,7 +27,7 @@ unfolding answers_from
 answers_from-nil number = refl
 
 module _ (requests : List Request) (start at : Taken) (gathered pending : List ℕ) (number : ℕ) (so_far : Printed requests start at gathered pending number) where
-  -- memory was wanting for the next answer
+  -- there was no memory for the next answer
   pub Printed-wanting : (new : Taken) (status : Status) → Interrupts at new pending status → Interrupts start new (gathered ++ answers_from 0 requests) status
   Printed-wanting new status interrupted =
       let rest = answers_from number (drop number requests) in

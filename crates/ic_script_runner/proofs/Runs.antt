@@ -96,7 +96,7 @@ Runs-ready u options left_before left before now after state reader pending left
 
 module _ (options : Options) (left_before left left_after : Option (List ℕ)) (before now after : Taken) (state : State) (old new : LineReader) (pending : List ℕ)
     (runs : Runs options left_before left before now state old pending) where
-  -- what is printed behind what was sent
+  -- what is printed after what was sent
   printed-more : (text : List ℕ) → runs.printed ++ text ≡ runs.front ++ (pending ++ text)
   printed-more text = ap (λ l. l ++ text) runs.parts ∙ append_assoc runs.front pending text
 

@@ -112,13 +112,13 @@ Interrupts-more old new text more status one = record {
   ];
 }
 
--- memory that is wanting at once interrupts any text
+-- to be out of memory at once interrupts any text
 pub Interrupts-at_once : (at : Taken) (text : List ℕ) → Interrupts at at text NoMemory
 Interrupts-at_once at text = record {
   cause = inr (refl, record { front = []; is_front = (text, refl); sent = Sent-nil at });
 }
 
--- an output behind a text that was sent
+-- an output after a text that was sent
 pub Concludes-after : (old at new : Taken) (text : List ℕ) (output : Output) (status : Status) → Sent old at text → Concludes at new output status
     → Concludes old new (record output { bytes = text ++ output.bytes }) status
 Concludes-after old at new text output status one two = elim two [

@@ -19,7 +19,7 @@ use Rattle.ic_behaviour.specs.State.{State}
 use Rattle.ic_output.specs.Texts.{bad_text}
 use Rattle.ic_script_runner.specs.Walk.{Bad}
 
--- a step gives what was said, unless memory was wanting
+-- a step gives what was said, unless out of memory
 abbrev pub Acts : Result (State × List ℕ) LineCause → Result (State × List ℕ) NotDone → Type 0
 Acts said (Ok done) = said ≡ Ok done
 Acts said (Err (undone.Bad cause)) = said ≡ Err cause

@@ -19,6 +19,6 @@ end_state options state = after_rounds options options.rounds state
 abbrev pub end_part : Options → State → List ℕ
 end_part options state = answers_from 0 (end_state options state).requests ++ closing (end_state options state)
 
--- the same of a generated script, whose answers are only counted
+-- the end part of a generated script, whose answers are only counted
 abbrev pub short_end_part : Options → State → List ℕ
 short_end_part options state = calls_line (end_state options state).requests ++ closing (end_state options state)

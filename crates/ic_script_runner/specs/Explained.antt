@@ -20,7 +20,7 @@ abbrev pub stop_of : Result State Bad → ℕ
 stop_of (Ok state) = 0
 stop_of (Err bad) = bad.stop
 
--- the same of the script that runs with the options, where the words are accepted
+-- how many bytes show the bad line of the script that runs with the options, where the words are accepted
 abbrev pub bad_stop_of : Option Options → List ℕ → ℕ
 bad_stop_of None bytes = 0
 bad_stop_of (Some options) bytes = stop_of (walk_of options (script_for options.generate bytes)).last
@@ -75,7 +75,7 @@ pub record Explained (words : List (List ℕ)) (left_before left : Option (List 
   pub fitting : IfSome before.fits (λ room. length (out words (read ++ rest_of left)).bytes ≤ room
       → (after.faults ≡ before.faults) × (status ≢ WriteFault))
 
--- The sink took the output and the status is its status, or memory was wanting.
+-- The sink took the output and the status is its status, or it is out of memory.
 abbrev pub GivesOutput : Output → Option (List ℕ) → Option (List ℕ) → Status → Type 0
 GivesOutput output before after status =
     (status ≡ NoMemory) ⊎ ((status ≡ output.status) × (after ≡ append_known before output.bytes))

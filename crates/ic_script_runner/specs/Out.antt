@@ -20,7 +20,7 @@ abbrev pub ended_output : Options → List ℕ → Result State Bad → Output
 ended_output options text (Ok state) = record { bytes = text ++ end_part options state; status = Done }
 ended_output options text (Err bad) = record { bytes = text ++ bad_text bad.line bad.cause; status = BadLine bad.line bad.cause }
 
--- the same of a generated script, whose lines print nothing
+-- the end of a way through a generated script, whose lines print nothing: the short end part, or the bad line
 abbrev pub short_output : Options → Result State Bad → Output
 short_output options (Ok state) = record { bytes = short_end_part options state; status = Done }
 short_output options (Err bad) = record { bytes = bad_text bad.line bad.cause; status = BadLine bad.line bad.cause }

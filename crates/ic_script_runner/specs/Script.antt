@@ -28,7 +28,7 @@ abbrev pub lines_of : Options → List ℕ → List (ℕ × List ℕ)
 lines_of options script =
     take (lines_until (length (pieces script)) (walk_of options script).last) (enumerate_from 1 (map line_of (pieces script)))
 
--- the same of the script that runs, where the words are accepted; else there is none
+-- the numbered lines of the script that runs, where the words are accepted; else there is none
 abbrev pub script_of : Option Options → List ℕ → List (ℕ × List ℕ)
 script_of None bytes = []
 script_of (Some options) bytes = lines_of options (script_for options.generate bytes)

@@ -29,7 +29,7 @@ pub record Broke (old new : Taken) (text : List ℕ) : Type 0 where
   pub counted : new.faults ≡ next_count old.faults
   pub fitting : IfSome old.fits (λ room. length text ≤ room → ⊥)
 
--- memory was wanting before all of the text was sent
+-- out of memory before all of the text was sent
 pub record RanOut (old new : Taken) (text : List ℕ) : Type 0 where
   pub front : List ℕ
   pub is_front : IsFront front text

@@ -109,7 +109,7 @@ impl Gathered {
         }
     }
 
-    /// Sends what is gathered where memory was wanting for more.
+    /// Sends what is gathered where there is no memory for more.
     pub fn give_up<K: Sink>(&mut self, sink: &mut K) -> Status
         ensures { Interrupts (sink_at K.taken K.fits K.faults sink.old) (sink_at K.taken K.fits K.faults sink.new)
             self.old result }

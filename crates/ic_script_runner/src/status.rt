@@ -19,7 +19,7 @@ pub enum Status {
     ReadFault,
     /// The sink failed. It has taken a front of the output.
     WriteFault,
-    /// Memory was wanting. The sink has taken a front of the output.
+    /// Out of memory. The sink has taken a front of the output.
     NoMemory,
 }
 

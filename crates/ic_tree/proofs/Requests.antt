@@ -10,7 +10,7 @@ use Rattle.ic_behaviour.specs.declared.request.Request.{Request}
 use Rattle.ic_tree.specs.RequestId.{put_in_order}
 use Rattle.ic_tree.specs.StateTree.{by_id, id_of_request, request_part}
 
--- the requests behind one, with this one
+-- the requests after one, with this one
 pub one_more : (rs : List Request) (r : Request) (number : ℕ) → number < length rs → r ≡ slice_index_or rs number r
     → insert_entry (slice_cmp nat_cmp) (by_id (number + 1) (drop (number + 1) rs)) (id_of_request number r) (request_part r.answer) ≡ by_id number (drop number rs)
 unfolding by_id

@@ -37,7 +37,7 @@ root_hash (pruned hash) = hash
 
 -- ---- trees under forks
 
--- half of so many, where the odd one counts to it
+-- half of a number, rounded up
 abbrev pub half : ℕ → ℕ
 half n = n - n / 2
 

@@ -81,7 +81,7 @@ impl Pairs {
         self.put_bytes(alloc, key, bytes.as_slice())
     }
 
-    // Puts the hash of a key and of its value behind the pairs that are not above them.
+    // Puts the hash of a key and of its value after the pairs that are not above them.
     fn put(&mut self, alloc: Global, key: &str, value_hash: &[u8; 32]) -> Result<(), NoMemory>
         ensures { OnOk result (self.new ≡ put_in_order (sha256 key.now ++ value_hash.now) self.old) }
     {

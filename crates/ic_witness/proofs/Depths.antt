@@ -82,7 +82,7 @@ up_to most tree = nat_le (depth tree) most
 twice : (k : ℕ) → 2 ^ suc k ≡ 2 * 2 ^ k
 twice k = omega arith
 
--- so many trees under forks nest no deeper than they do, and one more for each doubling
+-- this many trees under forks nest no deeper than they do, and one more for each doubling
 forked_depth : (most steps k : ℕ) (xs : List HashTree) → 1 ≤ most → length xs ≤ 2 ^ k → list_all (up_to most) xs ≡ true → depth (forked_in steps xs) ≤ most + k
 unfolding forked_in depth
 forked_depth most zero k xs one few a = omega arith

@@ -1,5 +1,5 @@
 -- The order of labels, and paths among paths.
-use Rattle.std.proofs.Common.{◌≡◌, ◌∙◌, ap, refl, sym, ℕ, Bool, true, false, ◌||◌, ◌&&◌, List, [], ◌∷◌, Ordering, Less, Equal, Greater, if◌then◌else◌, zero, suc, ◌<◌, length, get_or, arith, inl, inr}
+use Rattle.std.proofs.Common.{◌≡◌, ◌∙◌, ap, refl, ℕ, Bool, true, false, ◌||◌, ◌&&◌, List, [], ◌∷◌, Ordering, Less, Equal, Greater, if◌then◌else◌, zero, suc, ◌<◌, length, get_or, arith, inl, inr}
 use Rattle.std.specs.Prelude.{◌⊎◌}
 use Rattle.std.specs.List.{All, list_any}
 use Rattle.std.specs.Ordering.{is_eq, is_lt, ordering_reverse}
@@ -50,9 +50,6 @@ precedes_through a b c p q = ap is_lt (nat_list_cmp_total.trans a b c (less _ p)
 
 pub not_back : (a b : Label) → precedes a b ≡ true → precedes b a ≡ false
 not_back a b p = ap is_lt (nat_list_cmp_total.antisymm b a ∙ ap ordering_reverse (less _ p))
-
-pub not_same : (a b : Label) → precedes a b ≡ true → bytes_eq a b ≡ false
-not_same a b p = sym (is_eq-slice_cmp a b) ∙ ap is_eq (less _ p)
 
 -- of two labels one comes first
 pub one_side : (a b : Label) → precedes a b ≡ false → bytes_eq a b ≡ false → precedes b a ≡ true

@@ -286,7 +286,7 @@ nothing_more tree other front rest whole is are e =
     let same = (one_spelling (IsCbor 128) (tree_at 128) (tree_exact 128) tree other front rest whole [] is are (e ∙ sym (append-nil whole))).1 in
     nil_from_length rest (omega (arith, ap length e, ap length same, length-append front rest))
 
--- what is put behind a text makes it no text
+-- what is put after a text makes it no text
 pub no_longer_text : (tree other : HashTree) (front rest whole : List ℕ) → IsText tree front → IsText other whole → front ++ rest ≡ whole → rest ≡ []
 no_longer_text tree other front rest whole (tagged {bytes = a} is) (tagged {bytes = b} are) e =
     let tail : a ++ rest ≡ b = cc in

@@ -70,7 +70,7 @@ unfoldable pub tree_at : ℕ → Reader HashTree
 tree_at zero bytes = None
 tree_at (suc depth) bytes = then_at kind_at (node_at (tree_at depth)) bytes
 
--- the bytes behind the tag, where there is one
+-- the bytes after the tag, where there is one
 abbrev pub untagged : List ℕ → List ℕ
 untagged (a ∷ b ∷ c ∷ rest) = if (a == 217) && ((b == 217) && (c == 247)) then rest else a ∷ b ∷ c ∷ rest
 untagged bytes = bytes

@@ -25,6 +25,6 @@ pub record SaysAlike (pruned whole : HashTree) (paths : List Path) : Type 0 wher
 abbrev pub witness_bytes : HashTree → List Path → List ℕ
 witness_bytes tree paths = tag ++ cbor (prune tree paths)
 
--- the same of the state
+-- the bytes of the witness for these paths of the tree of a state
 abbrev pub state_witness : State → List Path → List ℕ
 state_witness s paths = witness_bytes (state_tree_of s) paths

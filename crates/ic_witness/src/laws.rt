@@ -73,13 +73,13 @@ pub fn state_says()
     ensures { (s : State) → SaysState (state_tree_of s) s }
 {}
 
-/// No bytes of a tree begin those of another: with more behind them they are no tree, and so is
+/// No bytes of a tree begin those of another: with more after them they are no tree, and so is
 /// no proper front of them.
 pub fn no_front()
     ensures { (tree other : HashTree) (front rest : List ℕ) → IsText tree front → IsText other (front ++ rest) → rest ≡ [] }
 {}
 
-/// Writes a tree and reads what was written: it is the same, unless memory runs out.
+/// Writes a tree and reads what was written: it is the tree again, unless memory runs out.
 pub fn read_back(alloc: Global, tree: &Tree) -> Result<Tree, NoMemory>
     requires deep { depth (view tree.now) ≤ 128 }
     ensures { IfOk result (λ again. view again ≡ view tree.now) }
