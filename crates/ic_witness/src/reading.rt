@@ -46,7 +46,7 @@ pub fn read(alloc: Global, bytes: &[u8]) -> Result<Tree, TreeFault>
 fn text_of(alloc: Global, bytes: &[u8]) -> Result<Tree, ReadError>
     ensures { Gives view result (text_at bytes.now) }
 {
-    let (tree, rest) = tree_of(alloc, MAX_DEPTH, untagged(bytes))?;
+    let (tree, rest) = read_tree(alloc, MAX_DEPTH, untagged(bytes))?;
     match rest {
         [] => Ok(tree),
         [_, ..] => Err(ReadError::Refused),
@@ -70,56 +70,60 @@ fn untagged(bytes: &[u8]) -> &[u8]
 
 #[cycle(reader)]
 #[tactic(auto, unfolding(crate::specs::ReadCbor::tree_at, crate::specs::ReadCbor::node_at, ic_tree::specs::View::view))]
-fn tree_of<'a>(alloc: Global, depth: u32, bytes: &'a [u8]) -> Result<(Tree, &'a [u8]), ReadError>
+fn read_tree<'a>(alloc: Global, depth: u32, bytes: &'a [u8]) -> Result<(Tree, &'a [u8]), ReadError>
     ensures { Gives (λ x. (view x.0, x.1.now)) result (tree_at depth bytes.now) }
 {
     if depth == 0 {
         return Err(ReadError::Refused);
     }
-    let (kind, rest) = kind_of(bytes)?;
+    let (kind, rest) = read_kind(bytes)?;
     match kind {
         Kind::Empty => Ok((Tree::Empty, rest)),
-        Kind::Fork => fork_of(alloc, depth - 1, rest),
-        Kind::Labeled => labeled_of(alloc, depth - 1, rest),
-        Kind::Leaf => leaf_of(alloc, rest),
-        Kind::Pruned => pruned_of(rest),
+        Kind::Fork => read_fork(alloc, depth - 1, rest),
+        Kind::Labeled => read_labeled(alloc, depth - 1, rest),
+        Kind::Leaf => read_leaf(alloc, rest),
+        Kind::Pruned => read_pruned(rest),
     }
 }
 
 #[cycle(reader)]
-fn fork_of<'a>(alloc: Global, depth: u32, bytes: &'a [u8]) -> Result<(Tree, &'a [u8]), ReadError>
+fn read_fork<'a>(alloc: Global, depth: u32, bytes: &'a [u8]) -> Result<(Tree, &'a [u8]), ReadError>
     ensures { Gives (λ x. (view x.0, x.1.now)) result (map_at (λ p. fork p.0 p.1) (both_at (tree_at depth) (λ _. tree_at depth)) bytes.now) }
 {
-    let (left, rest) = tree_of(alloc, depth, bytes)?;
-    let (right, rest) = tree_of(alloc, depth, rest)?;
+    let (left, rest) = read_tree(alloc, depth, bytes)?;
+    let (right, rest) = read_tree(alloc, depth, rest)?;
     let tree = fork(alloc, left, right)?;
     Ok((tree, rest))
 }
 
 #[cycle(reader)]
-fn labeled_of<'a>(alloc: Global, depth: u32, bytes: &'a [u8]) -> Result<(Tree, &'a [u8]), ReadError>
+fn read_labeled<'a>(
+    alloc: Global,
+    depth: u32,
+    bytes: &'a [u8],
+) -> Result<(Tree, &'a [u8]), ReadError>
     ensures { Gives (λ x. (view x.0, x.1.now)) result (map_at (λ p. labeled p.0 p.1) (both_at string_at (λ _. tree_at depth)) bytes.now) }
 {
-    let (label, rest) = string_of(bytes)?;
-    let (part, rest) = tree_of(alloc, depth, rest)?;
+    let (label, rest) = read_string(bytes)?;
+    let (part, rest) = read_tree(alloc, depth, rest)?;
     let tree = labeled(alloc, label, part)?;
     Ok((tree, rest))
 }
 
 #[tactic(auto, unfolding(ic_tree::specs::View::view))]
-fn leaf_of(alloc: Global, bytes: &[u8]) -> Result<(Tree, &[u8]), ReadError>
+fn read_leaf(alloc: Global, bytes: &[u8]) -> Result<(Tree, &[u8]), ReadError>
     ensures { Gives (λ x. (view x.0, x.1.now)) result (map_at leaf string_at bytes.now) }
 {
-    let (value, rest) = string_of(bytes)?;
+    let (value, rest) = read_string(bytes)?;
     let items = Vec::from_slice(alloc, value)?;
     Ok((Tree::Leaf(Bytes { items }), rest))
 }
 
 #[tactic(auto, unfolding(ic_tree::specs::View::view))]
-fn pruned_of(bytes: &[u8]) -> Result<(Tree, &[u8]), ReadError>
+fn read_pruned(bytes: &[u8]) -> Result<(Tree, &[u8]), ReadError>
     ensures { Gives (λ x. (view x.0, x.1.now)) result (map_at pruned (filter_at is_hash string_at) bytes.now) }
 {
-    let (value, rest) = string_of(bytes)?;
+    let (value, rest) = read_string(bytes)?;
     if value.len() != 32 {
         return Err(ReadError::Refused);
     }
@@ -129,20 +133,20 @@ fn pruned_of(bytes: &[u8]) -> Result<(Tree, &[u8]), ReadError>
 }
 
 #[tactic(auto, unfolding(crate::specs::ReadCbor::kind_at))]
-fn kind_of(bytes: &[u8]) -> Result<(Kind, &[u8]), ReadError>
+fn read_kind(bytes: &[u8]) -> Result<(Kind, &[u8]), ReadError>
     ensures { Gives (λ x. (x.0, x.1.now)) result (kind_at bytes.now) }
 {
     match bytes {
         [] => Err(ReadError::Refused),
         [_] => Err(ReadError::Refused),
-        [first, second, rest @ ..] => match kind_of_mark(*first, *second) {
+        [first, second, rest @ ..] => match kind_of(*first, *second) {
             Some(kind) => Ok((kind, rest)),
             None => Err(ReadError::Refused),
         },
     }
 }
 
-fn kind_of_mark(first: u8, second: u8) -> Option<Kind>
+fn kind_of(first: u8, second: u8) -> Option<Kind>
     ensures { result ≡ kind_of (first, second) }
 {
     match (first, second) {
@@ -156,10 +160,10 @@ fn kind_of_mark(first: u8, second: u8) -> Option<Kind>
 }
 
 #[tactic(auto, unfolding(crate::specs::ReadCbor::string_at))]
-fn string_of(bytes: &[u8]) -> Result<(&[u8], &[u8]), ReadError>
+fn read_string(bytes: &[u8]) -> Result<(&[u8], &[u8]), ReadError>
     ensures { Gives (λ x. (x.0.now, x.1.now)) result (string_at bytes.now) }
 {
-    let (length, rest) = length_of(bytes)?;
+    let (length, rest) = read_length(bytes)?;
     if length > rest.len() as u64 {
         return Err(ReadError::Refused);
     }
@@ -167,7 +171,7 @@ fn string_of(bytes: &[u8]) -> Result<(&[u8], &[u8]), ReadError>
 }
 
 #[tactic(auto, unfolding(crate::specs::ReadCbor::length_at))]
-fn length_of(bytes: &[u8]) -> Result<(u64, &[u8]), ReadError>
+fn read_length(bytes: &[u8]) -> Result<(u64, &[u8]), ReadError>
     ensures { Gives (λ x. (x.0, x.1.now)) result (length_at bytes.now) }
 {
     match bytes {

@@ -2,11 +2,11 @@
 use Rattle.std.proofs.Common.{◌+◌, ◌*◌}
 use Rattle.ic_witness.proofs.reading.+reader.Given as goal
 
-abbrev pub decreases-tree_of : goal.decreases-tree_of
-decreases-tree_of l = 2 * l.depth
+abbrev pub decreases-read_tree : goal.decreases-read_tree
+decreases-read_tree l = 2 * l.depth
 
-abbrev pub decreases-fork_of : goal.decreases-fork_of
-decreases-fork_of l = 2 * l.depth + 1
+abbrev pub decreases-read_fork : goal.decreases-read_fork
+decreases-read_fork l = 2 * l.depth + 1
 
-abbrev pub decreases-labeled_of : goal.decreases-labeled_of
-decreases-labeled_of l = 2 * l.depth + 1
+abbrev pub decreases-read_labeled : goal.decreases-read_labeled
+decreases-read_labeled l = 2 * l.depth + 1
