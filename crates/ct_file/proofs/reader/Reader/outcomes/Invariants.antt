@@ -1,0 +1,13 @@
+use Rattle.std.proofs.Common.{length}
+use Rattle.cd_tokens.specs.Placed.{placed_views}
+use Rattle.ct_file.specs.declared.keyword.Keyword.TheVariants as words
+use Rattle.ct_file.specs.Words.{is_word}
+use Rattle.ct_file.specs.Read.{many_at, starts_not, alternative_at, outcomes_at}
+use Rattle.ct_file.proofs.Loops.{Still}
+use Rattle.ct_file.proofs.reader.Reader.outcomes.Given as goal
+
+abbrev pub invariant-loop-items : goal.invariant-loop-items
+invariant-loop-items l = Still l.items.items (many_at (starts_not (is_word words.Or)) alternative_at (placed_views l.self.rest.now)) (outcomes_at (placed_views l.fn.self.rest.now))
+
+abbrev pub decreases-loop-items : goal.decreases-loop-items
+decreases-loop-items l = length l.self.rest.now

@@ -1,0 +1,11 @@
+use Rattle.std.proofs.Common.{length}
+use Rattle.cd_tokens.specs.Placed.{placed_views}
+use Rattle.ct_file.specs.Read.{many_at, are_none, test_at, tests_at}
+use Rattle.ct_file.proofs.Loops.{Still}
+use Rattle.ct_file.proofs.reader.Reader.tests.Given as goal
+
+abbrev pub invariant-loop-items : goal.invariant-loop-items
+invariant-loop-items l = Still l.items.items (many_at are_none test_at (placed_views l.self.rest.now)) (tests_at (placed_views l.fn.self.rest.now))
+
+abbrev pub decreases-loop-items : goal.decreases-loop-items
+decreases-loop-items l = length l.self.rest.now

@@ -1,0 +1,9 @@
+pub mod Words
+pub mod Number
+pub mod Deed
+pub mod Grammar
+pub mod Fits
+pub mod Gives
+pub mod Read
+pub mod Answer
+pub mod Position
