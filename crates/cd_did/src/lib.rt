@@ -16,14 +16,17 @@ pub mod laws;
 mod methods;
 mod named;
 mod names;
+mod place;
 mod rings;
 mod settled;
 mod sorted;
 mod targets;
 mod upgrade;
+mod walk;
 
 pub use cd_names::{FieldNames, names_of};
 pub use fault::{DidFault, Interface};
 pub use interface::read_interface;
 pub use methods::Method;
+pub use place::fault_place;
 pub use upgrade::upgradable;

@@ -11,7 +11,7 @@ use ic_principal::Bytes;
 use std::alloc::Global;
 
 /// Whether `->` comes first.
-pub(crate) fn starts_arrow(tokens: &[Token<'_>]) -> bool
+pub fn starts_arrow(tokens: &[Token<'_>]) -> bool
     ensures { result ≡ starts is_arrow (token_views tokens.now) }
 {
     match tokens {
@@ -38,7 +38,7 @@ pub(crate) fn word_of(token: &Token<'_>) -> Option<Word>
 }
 
 /// The word that stands first.
-pub(crate) fn first_word(tokens: &[Token<'_>]) -> Option<Word>
+pub fn first_word(tokens: &[Token<'_>]) -> Option<Word>
     ensures { result ≡ first_word (token_views tokens.now) }
 {
     match tokens {
@@ -48,7 +48,7 @@ pub(crate) fn first_word(tokens: &[Token<'_>]) -> Option<Word>
 }
 
 /// Whether the token is a word, of the grammar or not.
-pub(crate) fn is_any_word(token: &Token<'_>) -> bool
+pub fn is_any_word(token: &Token<'_>) -> bool
     ensures { result ≡ is_any_word (token_view token.now) }
 {
     match token {
@@ -60,7 +60,7 @@ pub(crate) fn is_any_word(token: &Token<'_>) -> bool
 }
 
 /// Whether the token may be an argument's name: any word, or any string.
-pub(crate) fn is_argument_name(token: &Token<'_>) -> bool
+pub fn is_argument_name(token: &Token<'_>) -> bool
     ensures { result ≡ is_argument_name (token_view token.now) }
 {
     match token {
@@ -83,7 +83,7 @@ fn unless_word(alloc: Global, name: &[u8]) -> Result<Bytes, ReadError>
 }
 
 /// The name that the token is. `Refused`: it is none, or a word of the grammar.
-pub(crate) fn name_of(alloc: Global, token: &Token<'_>) -> Result<Bytes, ReadError>
+pub fn name_of(alloc: Global, token: &Token<'_>) -> Result<Bytes, ReadError>
     ensures { Gives (λ name. name) result (free_name (token_view token.now)) }
 {
     match token {

@@ -13,4 +13,6 @@ mod word;
 mod written;
 
 pub use file::file_of;
+pub use front::{first_word, is_any_word, is_argument_name, name_of, starts_arrow};
+pub use word::Word;
 pub use written::{File, Main, Part, Parts, Written, WrittenFields, WrittenMethods};

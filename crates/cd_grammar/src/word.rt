@@ -5,7 +5,7 @@ use cd_types::Primitive;
 
 /// A word of the grammar: no definition has such a name.
 #[derive(Clone, Copy)]
-pub(crate) enum Word {
+pub enum Word {
     Prim(Primitive),
     Float32,
     Float64,
