@@ -1,0 +1,3 @@
+pub mod Words
+pub mod Roles
+pub mod Exchange

@@ -1,0 +1,18 @@
+//! Names in the arguments of test files, and in what a reply must be: which words are uses of a
+//! name, and what is read in their place.
+//!
+//! A name stands for tokens, as `principal "2vxsx-fae"` or `record { 1 = 5 }`. Arguments are read as
+//! Candid text once each use is exchanged for them. A label, a case, a method and a type are no
+//! uses, and neither is the name that `let` binds.
+#![tactic(auto)]
+
+mod exchanging;
+pub mod laws;
+mod meaning;
+mod role;
+mod word;
+
+pub use exchanging::exchange;
+pub use meaning::Meaning;
+pub use role::{Role, roles_of};
+pub use word::{is_candid_word, is_free_name};
