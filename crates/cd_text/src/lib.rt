@@ -5,10 +5,13 @@ mod back;
 mod fault;
 mod fields;
 pub mod laws;
+mod place;
 mod reading;
+mod walk;
 mod whole;
 
 pub use back::{read_back, read_named_back};
 pub use cd_plain::{print, print_named};
 pub use fault::TextFault;
+pub use place::fault_place;
 pub use whole::read;

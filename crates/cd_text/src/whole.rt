@@ -21,10 +21,10 @@ use ic_base::ReadError;
 use std::alloc::Global;
 
 /// How deep values may nest, parentheses counted.
-const MAX_NESTING: u32 = 128;
+pub(crate) const MAX_NESTING: u32 = 128;
 
 /// How many values a text may say, with those that stand for missing fields.
-const MAX_VALUES: u32 = 1_000_000;
+pub(crate) const MAX_VALUES: u32 = 1_000_000;
 
 // An argument, at the type of its place.
 fn argument_of<'t, 'a>(
@@ -87,7 +87,7 @@ fn is_all(values: usize, types: usize, rest: &[Token<'_>]) -> bool
     rest.is_empty() && values == types
 }
 
-fn is_utf8(text: &[u8]) -> bool
+pub(crate) fn is_utf8(text: &[u8]) -> bool
     ensures { result ≡ is_utf8 text.now }
 {
     match str::from_utf8(text) {
