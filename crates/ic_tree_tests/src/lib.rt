@@ -1,5 +1,5 @@
-//! Tests of the world's calls, of the line that shows a state, and of state trees, root hashes and request ids, beside
-//! their crates: a crate with tests of its own is proved twice.
+//! Tests of the world's calls, of the line that shows a state, and of state trees and root hashes, beside their crates: a
+//! crate with tests of its own is proved twice.
 #![tactic(auto)]
 
 #[cfg(test)]
