@@ -3,28 +3,51 @@ ghost use Rattle.ic_base.specs.Reader.{byte_at, filter_at};
 
 use ic_base::{Item, NoMemory, ReadError, Stack, many};
 use std::alloc::Global;
-use std::test::*;
 
-#[test]
-fn stack_once_through(rt: HostRuntime) -> Result<(), NoMemory> {
-    let mut stack = Stack::new(rt.alloc());
-    assert!(rt; stack.is_empty());
-    for item in 0..5u32 {
+// A stack of the numbers from 0 on.
+fn filled(alloc: Global, count: u32) -> Result<Stack<u32>, NoMemory> {
+    let mut stack = Stack::new(alloc);
+    for item in 0..count {
         stack.push(item)?;
     }
-    assert_eq!(rt; stack.len(), 5);
-    assert_eq!(rt; stack.top(), Some(&4));
-    assert_eq!(rt; stack.nth(0), Some(&4));
-    assert_eq!(rt; stack.nth(4), Some(&0));
-    assert_eq!(rt; stack.nth(5), None);
-    assert_eq!(rt; stack.pop(), Some(4));
+    Ok(stack)
+}
+
+fn at(stack: &Stack<u32>, place: usize) -> Option<u32> {
+    stack.nth(place).copied()
+}
+
+fn front(stack: &Stack<u32>) -> (usize, Option<u32>, [Option<u32>; 3]) {
+    let places = [at(stack, 0), at(stack, 4), at(stack, 5)];
+    (stack.len(), stack.top().copied(), places)
+}
+
+fn takes_back(stack: &mut Stack<u32>) -> bool {
+    let whole = front(stack);
+    let popped = stack.pop();
     stack.truncate(9);
-    assert_eq!(rt; stack.len(), 4);
+    let left = stack.len();
     stack.truncate(1);
-    assert_eq!(rt; stack.pop(), Some(0));
-    assert_eq!(rt; stack.pop(), None);
-    assert_eq!(rt; stack.top(), None);
-    Ok(())
+    let last = [stack.pop(), stack.pop(), stack.top().copied()];
+    whole == (5, Some(4), [Some(4), Some(0), None])
+        && (popped, left) == (Some(4), 4)
+        && last == [Some(0), None, None]
+}
+
+fn goes_once_through(alloc: Global) -> bool {
+    match filled(alloc, 5) {
+        Ok(mut stack) => takes_back(&mut stack),
+        Err(_) => false,
+    }
+}
+
+fn begins_empty(alloc: Global) -> bool {
+    Stack::<u32>::new(alloc).is_empty()
+}
+
+#[test]
+fn stack_once_through(rt: HostRuntime) {
+    assert!(rt; begins_empty(rt.alloc()) && goes_once_through(rt.alloc()));
 }
 
 fn too_large(alloc: Global) -> Result<Vec<u8>, ReadError> {
@@ -58,20 +81,27 @@ impl Item<Limit> for u8 {
     }
 }
 
-#[test]
-fn many_of_a_type(rt: HostRuntime) -> Result<(), Fail> {
-    let bytes = [1, 2, 9, 3];
-    let (items, rest) = many::<Limit, u8>(rt.alloc(), &Limit { above: 9 }, 2, &bytes)
-        .ok()
-        .ok_or("two bytes below 9 stand in front")?;
-    assert_eq!(rt; items.as_slice(), &bytes[..2]);
-    assert_eq!(rt; rest, &bytes[2..]);
-    for (above, count) in [(9, 3), (10, 5), (10, u128::MAX)] {
-        let refused = matches!(
-            many::<Limit, u8>(rt.alloc(), &Limit { above }, count, &bytes),
-            Err(ReadError::Refused)
-        );
-        assert!(rt; refused);
+const BYTES: [u8; 4] = [1, 2, 9, 3];
+
+fn two_are_read(alloc: Global) -> bool {
+    match many::<Limit, u8>(alloc, &Limit { above: 9 }, 2, &BYTES) {
+        Ok((items, rest)) => items.as_slice() == [1, 2].as_slice() && rest == [9, 3].as_slice(),
+        Err(_) => false,
     }
-    Ok(())
+}
+
+fn are_refused(alloc: Global, above: u8, count: u128) -> bool {
+    match many::<Limit, u8>(alloc, &Limit { above }, count, &BYTES) {
+        Ok(_) => false,
+        Err(fault) => matches!(fault, ReadError::Refused),
+    }
+}
+
+#[test]
+fn many_of_a_type(rt: HostRuntime) {
+    let alloc = rt.alloc();
+    let refused = [(9, 3), (10, 5), (10, u128::MAX)].map(|(above, count)| are_refused(
+        alloc, above, count,
+    ));
+    assert!(rt; two_are_read(alloc) && refused == [true; 3]);
 }
