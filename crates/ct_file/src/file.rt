@@ -1,4 +1,4 @@
-ghost use Rattle.std.specs.Prelude.{◌≡◌, ◌≤◌, IfOk, IfSome, length, true};
+ghost use Rattle.std.specs.Prelude.{◌≡◌, ◌≤◌, ◌↔◌, IfOk, IfSome, length, true};
 ghost use Rattle.cd_tokens.specs.Placed.{placed_views, are_within};
 ghost use Rattle.ct_file.specs.Answer.{Answers, IsPlaced, IsInside};
 ghost use Rattle.ct_file.specs.Fits.{IsFile};
@@ -152,7 +152,7 @@ fn fault_of(cause: Cause, tokens: &FileTokens<'_>, left: usize, text: &[u8]) -> 
 fn error_of(stuck: Stuck, tokens: &FileTokens<'_>, left: usize, text: &[u8]) -> FileError
     requires within { are_within text.now tokens.now.items.items ≡ true }
     requires end { IfSome tokens.now.fault (λ fault. fault.place ≤ length text.now) }
-    ensures memory { stuck ≡ no_memory → result ≡ NoMemory }
+    ensures memory { (stuck ≡ no_memory) ↔ (result ≡ NoMemory) }
     ensures placed { IsPlaced text.now result }
 {
     let cause = match stuck {
