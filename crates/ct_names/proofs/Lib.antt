@@ -1,4 +1,5 @@
 pub mod Left
+pub mod NoUses
 mod Rows
 pub mod Steps
 pub mod WordTable

@@ -37,6 +37,16 @@ bound : roles_of (run (codes "opt") ∷ run (codes "let") ∷ run (codes "n") �
 unfolding is_candid_word candid_words
 bound = refl
 
+-- record { let alice = 5 }: `let` begins a value, and binds
+bound_before_equals : roles_of (run (codes "record") ∷ mark 123 ∷ run (codes "let") ∷ run (codes "alice") ∷ mark 61 ∷ run (codes "5") ∷ mark 125 ∷ []) ≡ Other ∷ Other ∷ Other ∷ Bound ∷ Other ∷ Other ∷ Other ∷ []
+unfolding is_candid_word candid_words
+bound_before_equals = refl
+
+-- (5 owner, blob owner): uses, whatever the types are
+where_no_value_goes_on : roles_of (run (codes "5") ∷ run (codes "owner") ∷ mark 44 ∷ run (codes "blob") ∷ run (codes "owner") ∷ []) ≡ Other ∷ Used false ∷ Other ∷ Other ∷ Used false ∷ []
+unfolding is_candid_word candid_words
+where_no_value_goes_on = refl
+
 everyone : Meanings
 everyone name = principal_tokens (codes "aaaaa-aa")
 

@@ -1,7 +1,9 @@
 -- The exchange of names for what they stand for, on tokens.
-use Rattle.std.specs.Prelude.{ℕ, Bool, true, false, ◌&&◌, ◌||◌, if◌then◌else◌, List, [], ◌∷◌, ◌++◌, drop, codes}
+use Rattle.std.specs.Prelude.{ℕ, Bool, true, false, ◌&&◌, ◌||◌, if◌then◌else◌, List, [], ◌∷◌, ◌++◌, drop, map, Option, Some, None, codes}
 use Rattle.cd_tokens.specs.Token.{Token, run, quoted, mark, arrow}
 use Rattle.cd_tokens.specs.Front.{is_word, starts}
+use Rattle.cd_tokens.specs.Placed.{placed_view, placed_views}
+use Rattle.cd_tokens.specs.declared.placed.PlacedToken.{PlacedToken}
 use Rattle.ct_names.specs.declared.role.Before.{Before}
 use Rattle.ct_names.specs.declared.role.Before.TheVariants.{Value}
 use Rattle.ct_names.specs.declared.role.Role.{Role}
@@ -41,6 +43,13 @@ replacement (Used alone) meaning t = written alone meaning
 replacement Bound meaning t = t ∷ []
 replacement Other meaning t = t ∷ []
 
+-- the same, where it may not be known what the name stands for
+abbrev pub read_for : Role → Option (List Token) → Token → List Token
+read_for (Used alone) None t = t ∷ []
+read_for (Used alone) (Some meaning) t = written alone meaning
+read_for Bound found t = t ∷ []
+read_for Other found t = t ∷ []
+
 abbrev pub exchanged_from : Meanings → Before → List Token → List Token
 exchanged_from meaning before [] = []
 exchanged_from meaning before (t ∷ rest) = replacement (role before t rest) (meaning (name_in t)) t ++ exchanged_from meaning (after before t rest) rest
@@ -53,6 +62,24 @@ abbrev pub used_name : Role → Token → List (List ℕ)
 used_name (Used alone) t = name_in t ∷ []
 used_name Bound t = []
 used_name Other t = []
+
+abbrev pub places : List PlacedToken → List ℕ
+places tokens = map (λ placed. placed.place) tokens
+
+-- the place, as often as there are tokens
+abbrev pub all_at : ℕ → List Token → List ℕ
+all_at place tokens = map (λ t. place) tokens
+
+abbrev pub places_from : Meanings → Before → List PlacedToken → List ℕ
+places_from meaning before [] = []
+places_from meaning before (placed ∷ rest) =
+    let t = placed_view placed in
+    let ts = placed_views rest in
+    all_at placed.place (replacement (role before t ts) (meaning (name_in t)) t) ++ places_from meaning (after before t ts) rest
+
+-- the places of the tokens that they are read in place of
+abbrev pub exchanged_places : Meanings → List PlacedToken → List ℕ
+exchanged_places meaning tokens = places_from meaning Value tokens
 
 -- how many names a token uses
 abbrev pub count : Role → ℕ

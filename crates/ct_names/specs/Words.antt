@@ -7,7 +7,7 @@ abbrev pub is_among : List (List ℕ) → List ℕ → Bool
 is_among [] word = false
 is_among (other ∷ words) word = bytes_eq word other || is_among words word
 
--- the words of Candid's values, and those that stand where a value may be any
+-- the words of Candid's values, and of patterns
 unfoldable pub candid_words : List (List ℕ)
 candid_words =
     codes "true" ∷ codes "false" ∷ codes "null" ∷ codes "opt" ∷ codes "vec" ∷ codes "record" ∷ codes "variant" ∷ codes "func" ∷ codes "service" ∷ codes "principal"

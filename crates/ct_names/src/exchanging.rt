@@ -1,8 +1,7 @@
-ghost use Rattle.std.specs.Prelude.{◌≡◌, ◌++◌, [], IfOk, OnOk, map, option_map};
-ghost use Rattle.std.specs.Option.{unwrap_or};
+ghost use Rattle.std.specs.Prelude.{◌≡◌, ◌++◌, ◌∷◌, [], IfOk, OnOk, map, option_map};
 ghost use Rattle.cd_tokens.specs.Placed.{placed_view, placed_views};
 ghost use Rattle.cd_tokens.specs.View.{token_view, token_views};
-ghost use Rattle.ct_names.specs.Exchange.{Meanings, is_string, is_principal, written, replacement, count, exchanged, used_names};
+ghost use Rattle.ct_names.specs.Exchange.{Meanings, is_string, is_principal, written, read_for, places, all_at, count, exchanged, exchanged_places, used_names};
 
 use crate::meaning::Meaning;
 use crate::role::{Before, Role};
@@ -29,7 +28,8 @@ fn push_all<'a>(
     place: usize,
     out: &mut Vec<PlacedToken<'a>>,
 ) -> Result<(), NoMemory>
-    ensures { OnOk result (placed_views out.new.items ≡ placed_views out.old.items ++ token_views tokens.now) }
+    ensures tokens { OnOk result (placed_views out.new.items ≡ placed_views out.old.items ++ token_views tokens.now) }
+    ensures places { OnOk result (places out.new.items ≡ places out.old.items ++ all_at place (token_views tokens.now)) }
 {
     for token in tokens {
         out.push(PlacedToken {
@@ -74,27 +74,33 @@ fn written<'m, 'a>(alone: bool, tokens: &'m [Token<'a>]) -> &'m [Token<'a>]
     }
 }
 
-// Adds what is read in place of a token, of what its name stands for.
+fn push_copy<'a>(placed: &PlacedToken<'a>, out: &mut Vec<PlacedToken<'a>>) -> Result<(), NoMemory>
+    ensures tokens { OnOk result (placed_views out.new.items ≡ placed_views out.old.items ++ placed_view placed.now ∷ []) }
+    ensures places { OnOk result (places out.new.items ≡ places out.old.items ++ placed.now.place ∷ []) }
+{
+    out.push(PlacedToken {
+        token: copy_of(&placed.token),
+        place: placed.place,
+    })?;
+    Ok(())
+}
+
+// Adds what is read in place of a token, of what its name stands for, if it is known.
 fn push_read<'a>(
     role: Role,
     placed: &PlacedToken<'a>,
     meaning: Option<&Meaning<'a>>,
     out: &mut Vec<PlacedToken<'a>>,
 ) -> Result<(), NoMemory>
-    ensures { OnOk result (placed_views out.new.items ≡ placed_views out.old.items ++ replacement role (unwrap_or (option_map (λ m. m.now) meaning.entry) []) (placed_view placed.now)) }
+    ensures tokens { OnOk result (placed_views out.new.items ≡ placed_views out.old.items ++ read_for role (option_map (λ m. m.now) meaning.entry) (placed_view placed.now)) }
+    ensures places { OnOk result (places out.new.items ≡ places out.old.items ++ all_at placed.now.place (read_for role (option_map (λ m. m.now) meaning.entry) (placed_view placed.now))) }
 {
     match role {
         Role::Used { alone } => match meaning {
-            None => Ok(()),
+            None => push_copy(placed, out),
             Some(meaning) => push_all(written(alone, &meaning.items), placed.place, out),
         },
-        Role::Bound | Role::Other => {
-            out.push(PlacedToken {
-                token: copy_of(&placed.token),
-                place: placed.place,
-            })?;
-            Ok(())
-        }
+        Role::Bound | Role::Other => push_copy(placed, out),
     }
 }
 
@@ -107,14 +113,17 @@ fn count(role: Role) -> usize
     }
 }
 
-/// The tokens with each use of a name exchanged for what it stands for, at the place of the name;
-/// `meanings` has these in the order of the uses. Time and memory grow with the tokens that are read.
+/// The tokens with each use of a name exchanged for what it stands for; `meanings` has these in the
+/// order of the uses. Time and memory grow with the tokens that are read.
 pub fn exchange<'a>(
     alloc: Global,
     tokens: &[PlacedToken<'a>],
     meanings: &[Meaning<'a>],
 ) -> Result<Vec<PlacedToken<'a>>, NoMemory>
-    ensures { (meaning : Meanings) → meanings.now ≡ map meaning (used_names (placed_views tokens.now)) → IfOk result (λ read. placed_views read.items ≡ exchanged meaning (placed_views tokens.now)) }
+    // The tokens are those that are read in place of the names.
+    ensures tokens { (meaning : Meanings) → meanings.now ≡ map meaning (used_names (placed_views tokens.now)) → IfOk result (λ read. placed_views read.items ≡ exchanged meaning (placed_views tokens.now)) }
+    // Each has the place of the token in whose place it is read.
+    ensures places { (meaning : Meanings) → meanings.now ≡ map meaning (used_names (placed_views tokens.now)) → IfOk result (λ read. places read.items ≡ exchanged_places meaning tokens.now) }
 {
     let mut read = Vec::with_capacity(alloc, tokens.len())?;
     let mut before = Before::Value;

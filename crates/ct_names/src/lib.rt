@@ -4,6 +4,10 @@
 //! A name stands for tokens, as `principal "2vxsx-fae"` or `record { 1 = 5 }`. Arguments are read as
 //! Candid text once each use is exchanged for them. A label, a case, a method and a type are no
 //! uses, and neither is the name that `let` binds.
+//!
+//! No type is known here, so a word where no value of the type goes on, as in `(5 owner)`, is a use as
+//! well. Who tells faults tells the first of the tokens, be it a name that is not bound or a token
+//! where no value goes on.
 #![tactic(auto)]
 
 mod exchanging;

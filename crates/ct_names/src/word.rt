@@ -4,7 +4,7 @@ ghost use Rattle.ct_names.specs.Words.{is_among, is_candid_word, is_free_name};
 
 use cd_tokens::is_name;
 
-/// The words of Candid's values, and those that stand where a value may be any.
+/// The words of Candid's values, and of patterns.
 const CANDID_WORDS: [&[u8]; 13] = [
     b"true",
     b"false",
