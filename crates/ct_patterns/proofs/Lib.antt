@@ -1,0 +1,5 @@
+pub mod Layers
+pub mod Leaves
+pub mod Opened
+pub mod Fields
+pub mod Matches
