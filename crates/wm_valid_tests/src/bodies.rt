@@ -4,7 +4,7 @@ ghost use Rattle.wm_tree.specs.Seq.{IsFlat};
 use ic_base::NoMemory;
 use std::alloc::Global;
 use std::test::*;
-use wm_tree::{FuncType, GlobalType, Indices, Instr, MemArg, Run, ValType, ValTypes};
+use wm_tree::{FuncType, GlobalType, Indices, Instr, Run, ValType, ValTypes};
 use wm_typing::*;
 
 const GLOBALS: [GlobalType; 2] = [
@@ -55,244 +55,12 @@ fn validated(
     validate_body(alloc, &context, body)
 }
 
-/// Whether a body without a result is typed.
-fn is_typed(alloc: Global, body: &[Instr]) -> Result<bool, BodyFault>
-    requires { IsFlat body.now }
-{
-    match validated(alloc, None, body) {
-        Ok(_) => Ok(true),
-        Err(BodyFault::Untyped) => Ok(false),
-        Err(e) => Err(e),
-    }
-}
-
 fn labels(alloc: Global, label: u32) -> Result<Indices, NoMemory>
     ensures { IfOk result (λ ls. ls ≡ label ∷ []) }
 {
     Ok(Indices {
         items: Vec::from_slice(alloc, &[label])?,
     })
-}
-
-#[test]
-fn operands(rt: HostRuntime) -> Result<(), Fail> {
-    let alloc = rt.alloc();
-    assert!(rt; is_typed(alloc, &[])?);
-    assert!(rt; !is_typed(alloc, &[Instr::I32Const(1)])?);
-    assert!(rt;
-        is_typed(
-            alloc,
-            &[
-                Instr::I32Const(1),
-                Instr::I32Const(1),
-                Instr::I32Add,
-                Instr::Drop
-            ]
-        )?
-    );
-    assert!(rt; !is_typed(alloc, &[Instr::I32Const(1), Instr::I32Add, Instr::Drop])?);
-    assert!(rt; is_typed(alloc, &[Instr::Unreachable, Instr::I32Add, Instr::Drop])?);
-    assert!(rt; !is_typed(alloc, &[Instr::Unreachable, Instr::I32Const(1)])?);
-    assert!(rt;
-        is_typed(
-            alloc,
-            &[
-                Instr::I32Const(1),
-                Instr::I32Const(1),
-                Instr::I32Const(1),
-                Instr::Select,
-                Instr::Drop
-            ]
-        )?
-    );
-    assert!(rt;
-        !is_typed(
-            alloc,
-            &[
-                Instr::I32Const(1),
-                Instr::LocalGet(0),
-                Instr::I32Const(1),
-                Instr::Select,
-                Instr::Drop
-            ]
-        )?
-    );
-    Ok(())
-}
-
-#[test]
-fn control(rt: HostRuntime) -> Result<(), Fail> {
-    let alloc = rt.alloc();
-    assert!(rt;
-        is_typed(
-            alloc,
-            &[
-                Instr::Block(Some(ValType::I32)),
-                Instr::I32Const(1),
-                Instr::Br(0),
-                Instr::End,
-                Instr::Drop
-            ]
-        )?
-    );
-    assert!(rt;
-        !is_typed(
-            alloc,
-            &[
-                Instr::Block(Some(ValType::I32)),
-                Instr::Br(0),
-                Instr::End,
-                Instr::Drop
-            ]
-        )?
-    );
-    assert!(rt;
-        is_typed(
-            alloc,
-            &[
-                Instr::Loop(Some(ValType::I32)),
-                Instr::Br(0),
-                Instr::End,
-                Instr::Drop
-            ]
-        )?
-    );
-    assert!(rt;
-        !is_typed(
-            alloc,
-            &[
-                Instr::I32Const(1),
-                Instr::If(Some(ValType::I32)),
-                Instr::I32Const(1),
-                Instr::End,
-                Instr::Drop
-            ]
-        )?
-    );
-    assert!(rt;
-        is_typed(
-            alloc,
-            &[
-                Instr::I32Const(1),
-                Instr::If(Some(ValType::I32)),
-                Instr::I32Const(1),
-                Instr::Else,
-                Instr::I32Const(1),
-                Instr::End,
-                Instr::Drop
-            ]
-        )?
-    );
-    assert!(rt;
-        !is_typed(
-            alloc,
-            &[
-                Instr::I32Const(1),
-                Instr::Block(None),
-                Instr::Drop,
-                Instr::End
-            ]
-        )?
-    );
-    assert!(rt;
-        is_typed(
-            alloc,
-            &[
-                Instr::I32Const(1),
-                Instr::Block(Some(ValType::I32)),
-                Instr::I32Const(1),
-                Instr::I32Const(1),
-                Instr::BrTable {
-                    labels: labels(alloc, 0)?,
-                    other: 0
-                },
-                Instr::End,
-                Instr::Drop,
-                Instr::Drop
-            ]
-        )?
-    );
-    assert!(rt;
-        !is_typed(
-            alloc,
-            &[
-                Instr::Unreachable,
-                Instr::Block(Some(ValType::I32)),
-                Instr::Unreachable,
-                Instr::BrTable {
-                    labels: labels(alloc, 0)?,
-                    other: 1
-                },
-                Instr::End,
-                Instr::Drop
-            ]
-        )?
-    );
-    assert!(rt; !is_typed(alloc, &[Instr::Return, Instr::I32Const(1)])?);
-    assert!(rt; is_typed(alloc, &[Instr::Return])?);
-    Ok(())
-}
-
-#[test]
-fn indices(rt: HostRuntime) -> Result<(), Fail> {
-    let alloc = rt.alloc();
-    assert!(rt; is_typed(alloc, &[Instr::LocalGet(0), Instr::LocalSet(0)])?);
-    assert!(rt; !is_typed(alloc, &[Instr::LocalGet(1), Instr::Drop])?);
-    assert!(rt; is_typed(alloc, &[Instr::LocalGet(0), Instr::GlobalSet(1)])?);
-    assert!(rt; !is_typed(alloc, &[Instr::I32Const(1), Instr::GlobalSet(0)])?);
-    assert!(rt; is_typed(alloc, &[Instr::I32Const(1), Instr::Call(1), Instr::Drop])?);
-    assert!(rt; !is_typed(alloc, &[Instr::I32Const(1), Instr::Call(2), Instr::Drop])?);
-    assert!(rt;
-        is_typed(
-            alloc,
-            &[
-                Instr::I32Const(1),
-                Instr::I32Const(1),
-                Instr::CallIndirect(0),
-                Instr::Drop
-            ]
-        )?
-    );
-    assert!(rt;
-        !is_typed(
-            alloc,
-            &[
-                Instr::I32Const(1),
-                Instr::I32Const(1),
-                Instr::CallIndirect(1),
-                Instr::Drop
-            ]
-        )?
-    );
-    assert!(rt;
-        is_typed(
-            alloc,
-            &[
-                Instr::I32Const(1),
-                Instr::I64Load(MemArg {
-                    align: 3,
-                    offset: 0
-                }),
-                Instr::Drop
-            ]
-        )?
-    );
-    assert!(rt;
-        !is_typed(
-            alloc,
-            &[
-                Instr::I32Const(1),
-                Instr::I64Load(MemArg {
-                    align: 4,
-                    offset: 0
-                }),
-                Instr::Drop
-            ]
-        )?
-    );
-    assert!(rt; is_typed(alloc, &[Instr::Br(0)])?);
-    assert!(rt; !is_typed(alloc, &[Instr::Br(1)])?);
-    Ok(())
 }
 
 #[test]
@@ -357,48 +125,6 @@ fn arms_of_a_table(rt: HostRuntime) -> Result<(), Fail> {
     Ok(())
 }
 
-/// That many nested blocks.
-fn nested(alloc: Global, depth: u32) -> Result<Vec<Instr>, NoMemory>
-    ensures { IfOk result (λ b. IsFlat b.items) }
-{
-    let mut body = Vec::new(alloc);
-    for _ in 0..depth {
-        body.push(Instr::Block(None))?;
-    }
-    for _ in 0..depth {
-        body.push(Instr::End)?;
-    }
-    Ok(body)
-}
-
-#[test]
-fn deepest(rt: HostRuntime) -> Result<(), Fail> {
-    let alloc = rt.alloc();
-    assert!(rt; is_typed(alloc, &nested(alloc, 1_000)?)?);
-    let deeper = validated(alloc, None, &nested(alloc, 1_001)?);
-    assert!(rt; matches!(deeper, Err(BodyFault::Nesting)));
-    Ok(())
-}
-
-#[test]
-fn small_alignment(rt: HostRuntime) -> Result<(), Fail> {
-    let alloc = rt.alloc();
-    let load = |align| MemArg { align, offset: 0 };
-    assert!(rt;
-        is_typed(
-            alloc,
-            &[Instr::I32Const(1), Instr::I32Load8U(load(0)), Instr::Drop]
-        )?
-    );
-    assert!(rt;
-        !is_typed(
-            alloc,
-            &[Instr::I32Const(1), Instr::I32Load8U(load(1)), Instr::Drop]
-        )?
-    );
-    Ok(())
-}
-
 #[test]
 fn calls_and_room(rt: HostRuntime) -> Result<(), Fail> {
     let code = validated(
@@ -458,31 +184,8 @@ fn locals_in_runs(rt: HostRuntime) -> Result<(), Fail> {
         run(0, ValType::I64),
         run(3, ValType::I32),
     ];
-    let (i32, i64) = (ValType::I32, ValType::I64);
-    for (index, kind) in [
-        (0, i32),
-        (1, i32),
-        (2, i64),
-        (3, i64),
-        (4, i32),
-        (5, i32),
-        (6, i32),
-    ] {
-        let frame = frame_with(alloc, &runs, index, kind)?;
-        assert_eq!(rt; (frame.params, frame.locals), (2, 7));
-    }
-    for (index, kind) in [
-        (1, i64),
-        (2, i32),
-        (3, i32),
-        (4, i64),
-        (6, i64),
-        (7, i32),
-        (7, i64),
-    ] {
-        let fault = frame_with(alloc, &runs, index, kind).err();
-        assert_eq!(rt; fault, Some(BodyFault::Untyped));
-    }
+    let frame = frame_with(alloc, &runs, 6, ValType::I32)?;
+    assert_eq!(rt; (frame.params, frame.locals), (2, 7));
     Ok(())
 }
 

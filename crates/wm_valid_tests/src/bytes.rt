@@ -1,100 +1,55 @@
 use ic_base::NoMemory;
 use ic_leb::write_u;
-use ic_principal::Bytes;
 use std::alloc::Global;
-use std::test::*;
-use wm_decode::{ModuleFault, decode};
-use wm_encode::{encode, relay_fits};
-use wm_tree::samples::relay;
-use wm_valid::{Invalid, Valid, validate};
 
-/// A section: its id and its content.
-pub type Section<'a> = (u8, &'a [u8]);
+// The magic bytes, one function type, and one function of it.
+const MAGIC: [u8; 8] = [0x00, 0x61, 0x73, 0x6D, 0x01, 0x00, 0x00, 0x00];
 
-/// () -> ()
-pub const PROCEDURE: Section = (1, b"\x01\x60\x00\x00");
+const TYPE: [u8; 6] = [0x01, 0x04, 0x01, 0x60, 0x00, 0x00];
 
-/// One function of the first type, and its empty body.
-pub const FUNCTION: Section = (3, b"\x01\x00");
+const FUNCTION: [u8; 4] = [0x03, 0x02, 0x01, 0x00];
 
-pub const EMPTY_BODY: Section = (10, b"\x01\x02\x00\x0B");
-
-/// A table and a memory with nothing in them, and a global of type i32.
-pub const TABLE: Section = (4, b"\x01\x70\x00\x00");
-
-pub const MEMORY: Section = (5, b"\x01\x00\x00");
-
-pub const GLOBAL: Section = (6, b"\x01\x7F\x00\x41\x00\x0B");
-
-fn push_section(bytes: &mut Vec<u8>, section: Section) -> Result<(), NoMemory> {
-    let (id, content) = section;
-    bytes.push(id)?;
-    write_u(content.len() as u128, bytes)?;
-    bytes.extend_from_slice(content)?;
-    Ok(())
-}
-
-fn push_sections(bytes: &mut Vec<u8>, sections: &[Section]) -> Result<(), NoMemory> {
-    for section in sections {
-        push_section(bytes, *section)?;
+/// The parts, one behind the other.
+fn joined(alloc: Global, parts: &[&[u8]]) -> Result<Vec<u8>, NoMemory> {
+    let mut bytes = Vec::new(alloc);
+    for part in parts {
+        bytes.extend_from_slice(part)?;
     }
-    Ok(())
-}
-
-/// The bytes of a module with these sections, one of them between the others.
-pub fn bytes_of(
-    alloc: Global,
-    before: &[Section],
-    section: Section,
-    behind: &[Section],
-) -> Result<Vec<u8>, NoMemory> {
-    let mut bytes = Vec::from_slice(alloc, b"\x00asm\x01\x00\x00\x00")?;
-    push_sections(&mut bytes, before)?;
-    push_section(&mut bytes, section)?;
-    push_sections(&mut bytes, behind)?;
     Ok(bytes)
 }
 
-/// The bytes as often as they stand there, one behind the other.
-fn repeated(alloc: Global, parts: &[(&[u8], usize)]) -> Result<Vec<u8>, NoMemory> {
-    let mut content = Vec::new(alloc);
-    for (bytes, count) in parts {
-        content.extend_from_slice(&bytes.repeat(alloc, *count)?)?;
-    }
-    Ok(content)
+/// The parts behind the magic bytes.
+pub fn module_of(alloc: Global, parts: &[&[u8]]) -> Result<Vec<u8>, NoMemory> {
+    let behind = joined(alloc, parts)?;
+    joined(alloc, &[&MAGIC, &behind])
 }
 
-/// The bytes of a module with functions of type () -> ().
-pub fn large_bytes(
-    alloc: Global,
-    kinds: &[(&[u8], usize)],
-    codes: &[(&[u8], usize)],
-) -> Result<Vec<u8>, NoMemory> {
-    let kinds = repeated(alloc, kinds)?;
-    let codes = repeated(alloc, codes)?;
-    bytes_of(alloc, &[PROCEDURE, (3, &kinds)], (10, &codes), &[])
+/// The bytes behind these and their number.
+fn sized(alloc: Global, front: &[u8], content: &[u8]) -> Result<Vec<u8>, NoMemory> {
+    let mut size = Vec::new(alloc);
+    write_u(content.len() as u128, &mut size)?;
+    joined(alloc, &[front, &size, content])
 }
 
-/// The bytes of the relay module.
-pub fn relay_bytes(alloc: Global) -> Result<Bytes, NoMemory> {
-    let module = relay(alloc)?;
-    relay_fits();
-    encode(alloc, &module)
+/// A module with one function that has this code, behind its size.
+fn with_code(alloc: Global, code: &[u8]) -> Result<Vec<u8>, NoMemory> {
+    let codes = sized(alloc, &[0x01], code)?;
+    let section = sized(alloc, &[0x0A], &codes)?;
+    module_of(alloc, &[&TYPE, &FUNCTION, &section])
 }
 
-/// Why the module of these bytes is not valid, if it is not.
-pub fn fault_of(alloc: Global, bytes: &[u8]) -> Result<Option<Invalid>, ModuleFault> {
-    match decode(alloc, bytes) {
-        Ok(module) => Ok(validate(alloc, module).err().map(|refused| refused.fault)),
-        Err(fault) => Err(fault),
-    }
+/// A module with one function, which has no locals and these words and an end for its body.
+pub fn with_body(alloc: Global, words: &[u8]) -> Result<Vec<u8>, NoMemory> {
+    let code = joined(alloc, &[b"\x00", words, b"\x0B"])?;
+    with_code(alloc, &code)
 }
 
-/// The module of these bytes. With one exit for each result there is less to prove than with `?`,
-/// where whatever is owned is dropped at each.
-pub fn valid_of(alloc: Global, bytes: &[u8]) -> Result<Valid, Fail> {
-    match decode(alloc, bytes) {
-        Ok(module) => Ok(validate(alloc, module).map_err(|refused| refused.fault)?),
-        Err(fault) => Err(Fail::from(fault)),
-    }
+/// A module with one function, in which this instruction stands alone.
+pub fn with_instruction(alloc: Global, opcode: u8, operands: &[u8]) -> Result<Vec<u8>, NoMemory> {
+    let words = joined(alloc, &[&[opcode], operands])?;
+    with_body(alloc, &words)
+}
+
+pub fn zeros(alloc: Global, length: usize) -> Result<Vec<u8>, NoMemory> {
+    Ok(b"\x00".repeat(alloc, length)?)
 }

@@ -1,27 +1,20 @@
 // Comparisons. They borrow the module: a test that owns one and asserts is long to prove.
-use crate::bytes::*;
 use crate::tables;
-use crate::tables::{EntryRow, Group};
+use crate::tables::EntryRow;
+use std::alloc::Global;
 use std::process::Abort;
 use std::test::*;
-use wm_valid::Valid;
+use wm_decode::decode;
 use wm_valid::system_api::SystemCall;
+use wm_valid::{Valid, validate};
 
-/// Puts each content among the sections, and compares the modules' faults.
-fn compare<R: Abort + AllocGlobal>(rt: &R, group: &Group) -> Result<(), Fail> {
-    let (before, id, behind, rows) = group;
-    for (content, fault) in *rows {
-        let bytes = bytes_of(rt.alloc(), before, (*id, *content), behind)?;
-        assert_eq!(rt; fault_of(rt.alloc(), &bytes)?, *fault, "{id}: {content:?}");
+/// The module of these bytes. With one exit for each result there is less to prove than with `?`,
+/// where whatever is owned is dropped at each.
+fn valid_of(alloc: Global, bytes: &[u8]) -> Result<Valid, Fail> {
+    match decode(alloc, bytes) {
+        Ok(module) => Ok(validate(alloc, module).map_err(|refused| refused.fault)?),
+        Err(fault) => Err(Fail::from(fault)),
     }
-    Ok(())
-}
-
-pub fn compare_all<R: Abort + AllocGlobal>(rt: &R, groups: &[Group]) -> Result<(), Fail> {
-    for group in groups {
-        compare(rt, group)?;
-    }
-    Ok(())
 }
 
 fn compare_entries(rt: &impl Abort, valid: &Valid, rows: &[EntryRow]) {

@@ -14,51 +14,6 @@ pub fn fault_of(alloc: Global, bytes: &[u8]) -> Option<ModuleFault> {
     decode(alloc, bytes).err()
 }
 
-/// The first of these parts of which a module has another fault.
-pub fn part_not(
-    alloc: Global,
-    parts: &[&'static [u8]],
-    fault: Option<ModuleFault>,
-) -> Result<Option<&'static [u8]>, NoMemory> {
-    for part in parts {
-        if fault_of(alloc, &module_of(alloc, &[*part])?) != fault {
-            return Ok(Some(*part));
-        }
-    }
-    Ok(None)
-}
-
-/// The first of these codes of which a module with one function has another fault.
-pub fn code_not(
-    alloc: Global,
-    codes: &[&'static [u8]],
-    fault: Option<ModuleFault>,
-) -> Result<Option<&'static [u8]>, NoMemory> {
-    for code in codes {
-        if fault_of(alloc, &with_code(alloc, *code)?) != fault {
-            return Ok(Some(*code));
-        }
-    }
-    Ok(None)
-}
-
-/// The fault of so many bytes of a module.
-pub fn front_fault(alloc: Global, module: &[u8], length: usize) -> Option<ModuleFault> {
-    fault_of(alloc, module.get(..length).unwrap_or(module))
-}
-
-/// How many words the first function of a module has, if there is one.
-fn first_length(module: &Module) -> Option<usize> {
-    Some(module.codes.items.first()?.body.items.len())
-}
-
-pub fn first_length_in(alloc: Global, bytes: &[u8]) -> Result<Option<usize>, ModuleFault> {
-    match decode(alloc, bytes) {
-        Ok(module) => Ok(first_length(&module)),
-        Err(fault) => Err(fault),
-    }
-}
-
 fn shown(alloc: Global, module: &Module) -> Result<String, Fail> {
     Ok(format!(in alloc; "{module:?}")?)
 }
