@@ -5,14 +5,27 @@ mod ledger;
 mod types;
 
 use anyhow::{Context, anyhow};
-use cd_codec::{Expected, Value, Values, encode};
+use cd_codec::{Expected, Values, encode};
 use cd_coerce::decode;
-use cd_did::{FieldNames, Interface, names_of};
-use cd_text::{print, read};
+use cd_did::{Interface, names_of};
+use cd_text::{TextFault, fault_place, print_named, read};
 use ic_principal::Bytes;
 use ledger::{ANSWER, FILE};
 use std::alloc::Global;
 use types::{Side, expected_of, interface_of};
+
+/// Why a text says no values, and where.
+fn text_error(
+    alloc: Global,
+    expected: &Expected,
+    text: &str,
+    fault: TextFault,
+) -> anyhow::Result<anyhow::Error> {
+    match fault_place(alloc, expected, text.as_bytes())? {
+        Some(place) => Ok(anyhow!("{fault:?} at byte {place}")),
+        None => Ok(anyhow!("{fault:?}")),
+    }
+}
 
 /// The message of the arguments that a text says.
 fn message_of(alloc: Global, expected: &Expected, text: &str) -> anyhow::Result<Bytes> {
@@ -20,7 +33,7 @@ fn message_of(alloc: Global, expected: &Expected, text: &str) -> anyhow::Result<
         Ok(values) => encode(alloc, expected.table(), expected.types(), &values.items).context(
             "out of memory",
         ),
-        Err(fault) => Err(anyhow!("{fault:?}")),
+        Err(fault) => Err(text_error(alloc, expected, text, fault)?),
     }
 }
 
@@ -38,29 +51,20 @@ fn show_message(
     Ok(())
 }
 
-/// Prints the fields of a lone record that are natural numbers, each by its name in the file.
-fn show_fields(rt: &impl Print, names: &FieldNames, values: &[Value]) -> anyhow::Result<()> {
-    if let [Value::Rec(fields)] = values {
-        for (id, field) in &fields.items {
-            if let (Some(name), Value::Nat(n)) = (names.name(*id), field) {
-                println!(rt; "{name} is {n}")?;
-            }
-        }
-    }
-    Ok(())
-}
-
-/// Prints values: as one text, and then by the names of their fields.
+/// Prints values, with the names that the file has for their fields.
 fn show_values(
     rt: &impl Print,
     alloc: Global,
     expected: &Expected,
     values: &Values,
 ) -> anyhow::Result<()> {
-    let text = print(alloc, expected.table(), expected.types(), &values.items)?;
-    println!(rt; "{}", str::from_utf8(&text.items)?)?;
     match names_of(alloc, expected.table(), FILE.as_bytes()) {
-        Ok(names) => show_fields(rt, &names, &values.items),
+        Ok(names) => {
+            let (table, types) = (expected.table(), expected.types());
+            let text = print_named(alloc, table, types, &values.items, &names)?;
+            println!(rt; "{}", str::from_utf8(&text.items)?)?;
+            Ok(())
+        }
         Err(error) => Err(anyhow!("{error:?}")),
     }
 }
