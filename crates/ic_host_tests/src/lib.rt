@@ -5,15 +5,9 @@
 #![tactic(auto)]
 
 #[cfg(test)]
-mod counter;
-#[cfg(test)]
-mod decode_lines;
-#[cfg(test)]
 mod failing_streams;
 #[cfg(test)]
 mod installing;
-#[cfg(test)]
-mod lines;
 #[cfg(test)]
 mod principals;
 #[cfg(test)]
@@ -24,5 +18,3 @@ mod standard_streams;
 mod streams;
 #[cfg(test)]
 mod top_call;
-#[cfg(test)]
-mod workers;

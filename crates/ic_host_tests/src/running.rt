@@ -46,7 +46,7 @@ pub fn nothing() -> Run<'static> {
 }
 
 /// The words as a process hands them in.
-pub fn words_of(alloc: Global, words: &[&str]) -> Result<Vec<String>, NoMemory> {
+fn words_of(alloc: Global, words: &[&str]) -> Result<Vec<String>, NoMemory> {
     let mut texts = Vec::new(alloc);
     for word in words {
         let text = String::from_str(alloc, word)?;
@@ -63,7 +63,7 @@ fn repeat(text: &str, times: usize, script: &mut Vec<u8>) -> Result<(), NoMemory
 }
 
 /// Texts, each so many times.
-pub fn script_of(alloc: Global, texts: &[(&str, usize)]) -> Result<Vec<u8>, NoMemory> {
+fn script_of(alloc: Global, texts: &[(&str, usize)]) -> Result<Vec<u8>, NoMemory> {
     let mut script = Vec::new(alloc);
     for (text, times) in texts {
         repeat(text, *times, &mut script)?;
