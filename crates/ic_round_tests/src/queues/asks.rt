@@ -1,5 +1,5 @@
-use crate::dice::Dice;
-use crate::module::installing;
+use crate::queues::dice::Dice;
+use crate::queues::module::installing;
 use ic_principal::{Bytes, Principal, Text};
 use std::alloc::Global;
 

@@ -1,4 +1,4 @@
-use crate::asks::{Ask, creation, installation};
+use crate::queues::asks::{Ask, creation, installation};
 use ic_outside::OpenGate;
 use ic_principal::Principal;
 use ic_queue_rounds::{Charge, Crew, QueuedWorld, round, round_in_queues, run_rounds};

@@ -1,0 +1,5 @@
+//! Picks, and the world's calls.
+
+mod managing;
+mod tests;
+mod worlds;
