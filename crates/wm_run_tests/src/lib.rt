@@ -4,8 +4,6 @@
 #[cfg(test)]
 mod meters;
 #[cfg(test)]
-mod numbers;
-#[cfg(test)]
 mod pages;
 #[cfg(test)]
 mod runs;

@@ -3,9 +3,7 @@ mod hosts;
 mod modules;
 mod outcome;
 mod rows;
-mod words;
 
-use crate::numbers::vectors;
 use hosts::{Counting, Refusing};
 use ic_base::NoMemory;
 use ic_principal::Text;
@@ -15,7 +13,6 @@ use rows::{Begun, Row};
 use std::alloc::Global;
 use std::process::Abort;
 use std::test::*;
-use wm_numeric::Failure;
 
 /// The run of these words ended so.
 fn expect(rt: &impl Abort, body: &[u8], found: &Outcome, text: &str, used: u64) {
@@ -152,78 +149,6 @@ fn message(rt: HostRuntime) -> Result<(), Fail> {
     Ok(())
 }
 
-// Every operation on numbers gives what V8 gives for it: a wrong value traps.
-#[test]
-fn operations_32(rt: HostRuntime) -> Result<(), Fail> {
-    for row in vectors::rows_32() {
-        let words = words::row_32(rt.alloc(), &row)?;
-        let found = run(rt.alloc(), &words.bytes, 1_000_000)?;
-        expect(&rt, &words.bytes, &found, "returned", words.cost);
-    }
-    Ok(())
-}
-
-#[test]
-fn operations_64(rt: HostRuntime) -> Result<(), Fail> {
-    for row in vectors::rows_64() {
-        let words = words::row_64(rt.alloc(), &row)?;
-        let found = run(rt.alloc(), &words.bytes, 1_000_000)?;
-        expect(&rt, &words.bytes, &found, "returned", words.cost);
-    }
-    Ok(())
-}
-
-/// How a division ends, whose quotient is dropped, and what that uses.
-fn ending_of(division: &Result<u64, Failure>) -> (&'static str, u64) {
-    match division {
-        Ok(_) => ("returned", 4),
-        Err(Failure::DivideByZero) => ("division by zero", 3),
-        Err(Failure::Overflow) => ("integer overflow", 3),
-        Err(Failure::MemoryBounds) => ("memory out of bounds", 3),
-    }
-}
-
-/// The operands and the division of that opcode.
-fn division_of(alloc: Global, operands: &[u8], opcode: u8) -> Result<Vec<u8>, NoMemory> {
-    let mut body = Vec::from_slice(alloc, operands)?;
-    body.extend_from_slice(&[opcode, 0x1a])?;
-    Ok(body)
-}
-
-/// The divisions that fail trap, and the others return.
-fn compare_divisions<R: Abort + AllocGlobal>(
-    rt: &R,
-    operands: &[u8],
-    opcodes: &[u8],
-    divisions: &[Result<u64, Failure>],
-) -> Result<(), Fail> {
-    for (opcode, division) in opcodes.iter().zip(divisions) {
-        let body = division_of(rt.alloc(), operands, *opcode)?;
-        let found = run(rt.alloc(), &body, 100)?;
-        let (text, used) = ending_of(division);
-        expect(rt, &body, &found, text, used);
-    }
-    Ok(())
-}
-
-#[test]
-fn divisions_32(rt: HostRuntime) -> Result<(), Fail> {
-    for row in vectors::rows_32() {
-        let operands = words::operands_32(rt.alloc(), &row)?;
-        compare_divisions(&rt, &operands, words::divisions_32(), &row.divisions)?;
-    }
-    Ok(())
-}
-
-#[test]
-fn divisions_64(rt: HostRuntime) -> Result<(), Fail> {
-    for row in vectors::rows_64() {
-        let operands = words::operands_64(rt.alloc(), &row)?;
-        compare_divisions(&rt, &operands, words::divisions_64(), &row.divisions)?;
-    }
-    Ok(())
-}
-
 // Memory, locals, globals and control.
 #[test]
 fn other_instructions(rt: HostRuntime) -> Result<(), Fail> {
@@ -231,14 +156,5 @@ fn other_instructions(rt: HostRuntime) -> Result<(), Fail> {
         let found = run(rt.alloc(), body, 1000)?;
         assert_eq!(rt; found.text.as_str(), "returned", "{name}");
     }
-    Ok(())
-}
-
-// A wrong value would be seen.
-#[test]
-fn wrong_value(rt: HostRuntime) -> Result<(), Fail> {
-    let bytes = words::wrong(rt.alloc())?;
-    let found = run(rt.alloc(), &bytes, 1000)?;
-    expect(&rt, &bytes, &found, "unreachable", 5);
     Ok(())
 }
