@@ -4,7 +4,6 @@ mod rows;
 
 use crate::calls::{check_growths, check_lists, check_sizes};
 use ic_base::NoMemory;
-use rows::Row;
 use std::alloc::Global;
 use std::process::Abort;
 use std::test::*;
@@ -36,26 +35,6 @@ fn instance_with(alloc: Global, sections: &[&[u8]]) -> Result<Result<Store, Inst
     let bytes = bytes_of(alloc, sections)?;
     let module = decode(alloc, &bytes)?;
     instance_of(alloc, module)
-}
-
-// ---- segments
-
-/// Why a module has no store, if it has none.
-fn fault_with(alloc: Global, sections: &[&[u8]]) -> Result<Option<InstanceFault>, Fail> {
-    Ok(instance_with(alloc, sections)?.err())
-}
-
-fn compare<R: Abort + AllocGlobal>(rt: &R, rows: &[Row]) -> Result<(), Fail> {
-    for (sections, fault) in rows {
-        assert_eq!(rt; fault_with(rt.alloc(), sections)?, *fault, "{sections:?}");
-    }
-    Ok(())
-}
-
-#[test]
-fn segments(rt: HostRuntime) -> Result<(), Fail> {
-    compare(&rt, rows::segments())?;
-    compare(&rt, rows::elements())
 }
 
 // ---- whole stores
