@@ -28,6 +28,8 @@ mod parts;
 #[cfg(test)]
 mod pieces;
 #[cfg(test)]
+mod places;
+#[cfg(test)]
 mod rows;
 #[cfg(test)]
 mod sketch;
@@ -35,6 +37,8 @@ mod sketch;
 mod strings;
 #[cfg(test)]
 mod subtypes;
+#[cfg(test)]
+mod table_parts;
 #[cfg(test)]
 mod tables;
 #[cfg(test)]
