@@ -2,6 +2,7 @@
 use Rattle.std.proofs.Common.{◌≡◌, ℕ, zero, suc, ◌+◌, ◌<◌, Bool, true, false, List, [], ◌∷◌, ◌++◌, length, drop, Option, Some, None, refl, sym, ap, subst, ◌∙◌, append_assoc, inl, inr, ◌⊎◌, arith}
 use Rattle.std.specs.Prelude.{IfSome, flat_map, if◌then◌else◌}
 use Rattle.std.proofs.lemmas.List.{length-append}
+use Rattle.std.specs.List.{AllByRecursion}
 use Rattle.ic_base.specs.Reader.{◌>>=◌}
 use Rattle.ic_base.proofs.Steps.{bind_some, some_is}
 use Rattle.cd_tokens.specs.Token.{Token, mark}
@@ -11,7 +12,7 @@ use Rattle.cd_tokens.proofs.Fronts.{true_or_false}
 use Rattle.cd_tokens.proofs.Starts.{same_mark, started}
 use Rattle.ct_file.specs.Words.{word, is_word}
 use Rattle.ct_file.specs.Grammar.{maybe}
-use Rattle.ct_file.specs.Fits.{Each, OneOrMore}
+use Rattle.ct_file.specs.Fits.{OneOrMore}
 use Rattle.ct_file.specs.Read.{Reads, past, first_at, map_at, both_at, after_at, before_at, maybe_at, or_at, nothing_at, parts_at, many_at, with_front, some_at}
 use Rattle.ct_file.proofs.Words.{same_word, word_first}
 
@@ -225,7 +226,7 @@ no_part ends read tokens goes e = rw (goes, e) refl
 
 -- what was read of parts, and that they end there
 abbrev pub AllTaken : {A : Type 0} → (List Token → Bool) → (A → List Token) → (A → Type 0) → List Token → List A × List Token → Type 0
-AllTaken ends spelled Fits tokens z = (tokens ≡ flat_map spelled z.0 ++ z.1) × Each Fits z.0 × (ends z.1 ≡ true)
+AllTaken ends spelled Fits tokens z = (tokens ≡ flat_map spelled z.0 ++ z.1) × AllByRecursion Fits z.0 × (ends z.1 ≡ true)
 
 parts_take : {A : Type 0} (ends : List Token → Bool) (spelled : A → List Token) (Fits : A → Type 0) (read : Reads A) → Takes spelled Fits read
     → (fuel : ℕ) (tokens : List Token) (z : List A × List Token) → parts_at ends read fuel tokens ≡ Some z → AllTaken ends spelled Fits tokens z
@@ -263,12 +264,12 @@ shrinks {spelled = spelled} parts tokens z e =
 
 -- the parts, or their end, are free
 all_free : {A : Type 0} (spelled : A → List Token) (Fits : A → Type 0) (free : List Token → Bool) → ((x : A) (rest : List Token) → Fits x → free (spelled x ++ rest) ≡ true)
-    → (xs : List A) (rest : List Token) → Each Fits xs → free rest ≡ true → free (flat_map spelled xs ++ rest) ≡ true
+    → (xs : List A) (rest : List Token) → AllByRecursion Fits xs → free rest ≡ true → free (flat_map spelled xs ++ rest) ≡ true
 all_free spelled Fits free frees [] rest fit is = is
 all_free spelled Fits free frees (x ∷ xs) rest fit is = ap free (append_assoc (spelled x) (flat_map spelled xs) rest) ∙ frees x (flat_map spelled xs ++ rest) fit.0
 
 many_again : {A : Type 0} (ends : List Token → Bool) (spelled : A → List Token) (Fits : A → Type 0) (free : List Token → Bool) (read : Reads A) → Parts ends spelled Fits free read
-    → (xs : List A) (rest : List Token) → Each Fits xs → (free rest ≡ true) × (ends rest ≡ true) → many_at ends read (flat_map spelled xs ++ rest) ≡ Some (xs, rest)
+    → (xs : List A) (rest : List Token) → AllByRecursion Fits xs → (free rest ≡ true) × (ends rest ≡ true) → many_at ends read (flat_map spelled xs ++ rest) ≡ Some (xs, rest)
 many_again ends spelled Fits free read parts [] rest fit end = no_more ends read rest end.1
 many_again {A} ends spelled Fits free read parts (x ∷ xs) rest fit end =
     let more : List Token = flat_map spelled xs ++ rest in
@@ -277,7 +278,7 @@ many_again {A} ends spelled Fits free read parts (x ∷ xs) rest fit end =
     ∙ one_more ends read (shrinks parts) (spelled x ++ more) x more (parts.goes x more fit.0) (parts.exact.again x more fit.0 (all_free spelled Fits free parts.frees xs rest fit.1 end.0)) ∙ s
 
 pub many_exact : {A : Type 0} {ends : List Token → Bool} {spelled : A → List Token} {Fits : A → Type 0} {free : List Token → Bool} {read : Reads A} (clear : List Token → Bool)
-    → Parts ends spelled Fits free read → ((rest : List Token) → clear rest ≡ true → (free rest ≡ true) × (ends rest ≡ true)) → Exact (λ xs. flat_map spelled xs) (λ xs. Each Fits xs) clear (many_at ends read)
+    → Parts ends spelled Fits free read → ((rest : List Token) → clear rest ≡ true → (free rest ≡ true) × (ends rest ≡ true)) → Exact (λ xs. flat_map spelled xs) (λ xs. AllByRecursion Fits xs) clear (many_at ends read)
 many_exact {A} {ends} {spelled} {Fits} {free} {read} clear parts frees = record {
   takes = λ tokens z e. let l = many_takes parts tokens z e in (l.0, l.1);
   again = λ xs rest fit clear_is. many_again ends spelled Fits free read parts xs rest fit (frees rest clear_is);

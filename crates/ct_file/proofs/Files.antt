@@ -8,8 +8,8 @@ use Rattle.cd_tokens.proofs.Streams.{one_list}
 use Rattle.ct_file.specs.declared.tree.File.{File}
 use Rattle.ct_file.specs.declared.cause.FileError.{FileError}
 use Rattle.ct_file.specs.declared.cause.FileError.TheVariants as errors
-use Rattle.ct_file.specs.declared.cause.Stuck.{Stuck}
-use Rattle.ct_file.specs.declared.cause.Stuck.TheVariants.{NoMemory, BadString, Expected}
+use Rattle.ct_file.specs.declared.cause.ParseError.{ParseError}
+use Rattle.ct_file.specs.declared.cause.ParseError.TheVariants.{NoMemory, BadString, Expected}
 use Rattle.ct_file.specs.Answer.{Answers}
 use Rattle.ct_file.specs.Fits.{AreTokens, IsFile}
 use Rattle.ct_file.specs.Gives.{Fails}
@@ -43,7 +43,7 @@ no_file_tokens fault x text only e file is = let f : None ≡ Some x = sym (only
 none_some : {A : Type 0} (x : A) (read : Option A) → read ≡ None → read ≡ Some x → ⊥
 none_some x read e f = cc
 
-pub no_file : (stuck : Stuck) (tokens : List Token) (text : List ℕ) (error : FileError) → (stuck ≡ NoMemory → error ≡ errors.NoMemory) → Fails stuck (file_at tokens) → ((file : File) → IsFile file text → AreTokens tokens text)
+pub no_file : (parse_error : ParseError) (tokens : List Token) (text : List ℕ) (error : FileError) → (parse_error ≡ NoMemory → error ≡ errors.NoMemory) → Fails parse_error (file_at tokens) → ((file : File) → IsFile file text → AreTokens tokens text)
     → (file : File) → IsFile file text → Answers (Err error) file
 no_file NoMemory tokens text error memory fails are file is = rw (memory refl) tt
 no_file BadString tokens text error memory fails are file is = absurd (none_some (file, []) (file_at tokens) fails (file_again tokens text file (are file is) is))

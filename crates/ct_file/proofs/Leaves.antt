@@ -15,13 +15,14 @@ use Rattle.cd_tokens.proofs.Fronts.{both, true_or_false}
 use Rattle.cd_tokens.proofs.Starts.{started}
 use Rattle.cd_tokens.proofs.Labels.{text_again, text_takes}
 use Rattle.cd_tokens.proofs.Numerals.{numeral_again, numeral_takes}
+use Rattle.ct_file.specs.Codes.{opening_code, closing_code}
 use Rattle.ct_file.specs.Number.{WrittenNumber}
 use Rattle.ct_file.specs.declared.tree.Method.{Method}
 use Rattle.ct_file.specs.declared.tree.Method.TheVariants as methods
 use Rattle.cd_tokens.specs.Marks.{closing}
 use Rattle.cd_tokens.specs.Front.{is_mark, starts}
 use Rattle.ct_file.specs.Grammar.{text_token, number_token, method_token, arguments_tokens}
-use Rattle.ct_file.specs.Fits.{IsName, SaysText, IsNumber, FitsMethod, AreArguments, are_paid, are_closed, owed_after, passes}
+use Rattle.ct_file.specs.Fits.{IsName, SaysText, IsNumber, FitsMethod, AreArguments, none_open, are_balanced, closers_after, passes}
 use Rattle.ct_file.specs.Read.{token_name, text_written, token_text, token_number, token_method, in_range, name_at, text_at, number_at, method_at, with_token, inside_at, arguments_at}
 use Rattle.ct_file.proofs.Exact.{Taken, Exact, anything, is_the_mark, chosen, first_exact, after_exact, before_exact}
 
@@ -161,56 +162,56 @@ method_exact = first_exact token_method method_token FitsMethod method_is method
 
 -- ---- arguments
 
-paid_closed : (owed : List ℕ) → are_paid owed ≡ true → are_closed [] owed ≡ true
-unfolding are_closed
-paid_closed owed is = is
+none_open_balanced : (closers : List ℕ) → none_open closers ≡ true → are_balanced [] closers ≡ true
+unfolding are_balanced
+none_open_balanced closers is = is
 
-with_is : (t : Token) (owed more : List ℕ) (tokens : List Token) → owed_after owed t ≡ Some more → are_closed tokens more ≡ true → are_closed (t ∷ tokens) owed ≡ true
-unfolding are_closed
-with_is t owed more tokens e closed = rw e closed
+with_is : (t : Token) (closers more : List ℕ) (tokens : List Token) → closers_after closers t ≡ Some more → are_balanced tokens more ≡ true → are_balanced (t ∷ tokens) closers ≡ true
+unfolding are_balanced
+with_is t closers more tokens e closed = rw e closed
 
-inside_takes : (tokens : List Token) (owed : List ℕ) (z : List Token × List Token) → inside_at owed tokens ≡ Some z → Taken (λ ts. ts) (λ ts. are_closed ts owed ≡ true) tokens z
+inside_takes : (tokens : List Token) (closers : List ℕ) (z : List Token × List Token) → inside_at closers tokens ≡ Some z → Taken (λ ts. ts) (λ ts. are_balanced ts closers ≡ true) tokens z
 unfolding inside_at
-inside_takes [] owed z e = absurd cc
-inside_takes (t ∷ rest) owed z e = elim (chosen (are_paid owed && is_mark 41 t) (Some ([], t ∷ rest)) (owed_after owed t >>= λ more. with_token t (inside_at more rest)) (Some z) e) [
-  | inl h ↦ subst (Taken (λ ts. ts) (λ ts. are_closed ts owed ≡ true) (t ∷ rest)) (some_is {A = List Token × List Token} ([], t ∷ rest) z h.1) (refl, paid_closed owed (both (are_paid owed) (is_mark 41 t) h.0).0)
+inside_takes [] closers z e = absurd cc
+inside_takes (t ∷ rest) closers z e = elim (chosen (none_open closers && is_mark closing_code t) (Some ([], t ∷ rest)) (closers_after closers t >>= λ more. with_token t (inside_at more rest)) (Some z) e) [
+  | inl h ↦ subst (Taken (λ ts. ts) (λ ts. are_balanced ts closers ≡ true) (t ∷ rest)) (some_is {A = List Token × List Token} ([], t ∷ rest) z h.1) (refl, none_open_balanced closers (both (none_open closers) (is_mark closing_code t) h.0).0)
   | inr h ↦
-      let a = bind_some (owed_after owed t) (λ more. with_token t (inside_at more rest)) z h.1 in
+      let a = bind_some (closers_after closers t) (λ more. with_token t (inside_at more rest)) z h.1 in
       let b = bind_some (inside_at a.0 rest) (λ x. Some (t ∷ x.0, x.1)) z a.2 in
       let l = inside_takes rest a.0 b.0 b.1 in
-      subst (Taken (λ ts. ts) (λ ts. are_closed ts owed ≡ true) (t ∷ rest)) (some_is {A = List Token × List Token} (t ∷ b.0.0, b.0.1) z b.2)
-      (ap (λ (ts : List Token). t ∷ ts) l.0, with_is t owed a.0 b.0.0 a.1 l.1)
+      subst (Taken (λ ts. ts) (λ ts. are_balanced ts closers ≡ true) (t ∷ rest)) (some_is {A = List Token × List Token} (t ∷ b.0.0, b.0.1) z b.2)
+      (ap (λ (ts : List Token). t ∷ ts) l.0, with_is t closers a.0 b.0.0 a.1 l.1)
 ]
 
 -- where a token goes on, the arguments are not at their end
-not_ended : (t : Token) (owed more : List ℕ) → owed_after owed t ≡ Some more → (are_paid owed && is_mark 41 t) ≡ false
+not_ended : (t : Token) (closers more : List ℕ) → closers_after closers t ≡ Some more → (none_open closers && is_mark closing_code t) ≡ false
 not_ended (run r) [] more e = refl
 not_ended (quoted s) [] more e = refl
-not_ended (mark m) [] more e = elim (true_or_false (m == 41)) [
-  | inl is ↦ let same : m ≡ 41 = grind (arith, is) in let f : owed_after [] (mark 41) ≡ Some more = subst (λ k. owed_after [] (mark k) ≡ Some more) same e in absurd cc
+not_ended (mark m) [] more e = elim (true_or_false (m == closing_code)) [
+  | inl is ↦ let same : m ≡ closing_code = grind (arith, is) in let f : closers_after [] (mark closing_code) ≡ Some more = subst (λ k. closers_after [] (mark k) ≡ Some more) same e in absurd cc
   | inr other ↦ other
 ]
 not_ended arrow [] more e = refl
-not_ended t (k ∷ owed) more e = refl
+not_ended t (k ∷ closers) more e = refl
 
-one_inside : (t : Token) (owed : List ℕ) (tokens : List Token) (found : Option (List ℕ)) → owed_after owed t ≡ found → passes (are_closed tokens) found ≡ true → (more : List ℕ) × (owed_after owed t ≡ Some more) × (are_closed tokens more ≡ true)
-one_inside t owed tokens None e p = absurd cc
-one_inside t owed tokens (Some more) e p = (more, e, p)
+one_inside : (t : Token) (closers : List ℕ) (tokens : List Token) (found : Option (List ℕ)) → closers_after closers t ≡ found → passes (are_balanced tokens) found ≡ true → (more : List ℕ) × (closers_after closers t ≡ Some more) × (are_balanced tokens more ≡ true)
+one_inside t closers tokens None e p = absurd cc
+one_inside t closers tokens (Some more) e p = (more, e, p)
 
-inside_again : (tokens : List Token) (owed : List ℕ) (rest : List Token) → are_closed tokens owed ≡ true → inside_at owed (tokens ++ closing ∷ rest) ≡ Some (tokens, closing ∷ rest)
-unfolding inside_at are_closed
-inside_again [] owed rest closed = rw closed refl
-inside_again (t ∷ tokens) owed rest closed =
-    let a = one_inside t owed tokens (owed_after owed t) refl closed in
-    rw (not_ended t owed a.0 a.1, a.1, inside_again tokens a.0 rest a.2) refl
+inside_again : (tokens : List Token) (closers : List ℕ) (rest : List Token) → are_balanced tokens closers ≡ true → inside_at closers (tokens ++ closing ∷ rest) ≡ Some (tokens, closing ∷ rest)
+unfolding inside_at are_balanced
+inside_again [] closers rest closed = rw closed refl
+inside_again (t ∷ tokens) closers rest closed =
+    let a = one_inside t closers tokens (closers_after closers t) refl closed in
+    rw (not_ended t closers a.0 a.1, a.1, inside_again tokens a.0 rest a.2) refl
 
-inside_exact : Exact (λ ts. ts) AreArguments (starts (is_mark 41)) (inside_at [])
+inside_exact : Exact (λ ts. ts) AreArguments (starts (is_mark closing_code)) (inside_at [])
 inside_exact = record {
   takes = λ tokens z e. inside_takes tokens [] z e;
-  again = λ tokens rest fits end. let s = started 41 rest end in
+  again = λ tokens rest fits end. let s = started closing_code rest end in
       ap (λ ts. inside_at [] (tokens ++ ts)) s ∙ inside_again tokens [] (drop 1 rest) fits ∙ ap (λ (ts : List Token). Some (tokens, ts)) (sym s);
 }
 
 pub arguments_exact : Exact arguments_tokens AreArguments anything arguments_at
 unfolding arguments_at
-arguments_exact = after_exact (is_the_mark 40) (before_exact (is_the_mark 41) inside_exact (λ rest. refl))
+arguments_exact = after_exact (is_the_mark opening_code) (before_exact (is_the_mark closing_code) inside_exact (λ rest. refl))

@@ -8,9 +8,10 @@ use Rattle.cd_tokens.specs.Token.{Token}
 use Rattle.cd_tokens.specs.Front.{is_mark, starts}
 use Rattle.cd_tokens.specs.Placed.{placed_view, placed_views}
 use Rattle.cd_tokens.specs.declared.placed.PlacedToken.{PlacedToken}
-use Rattle.ct_file.specs.declared.cause.Stuck.{Stuck}
-use Rattle.ct_file.specs.declared.cause.Stuck.TheVariants.{NoMemory, BadString, Expected}
-use Rattle.ct_file.specs.Fits.{are_paid, owed_after}
+use Rattle.ct_file.specs.Codes.{closing_code}
+use Rattle.ct_file.specs.declared.cause.ParseError.{ParseError}
+use Rattle.ct_file.specs.declared.cause.ParseError.TheVariants.{NoMemory, BadString, Expected}
+use Rattle.ct_file.specs.Fits.{none_open, closers_after}
 use Rattle.ct_file.specs.Gives.{Fails}
 use Rattle.ct_file.specs.Read.{Reads, many_at, with_front, token_inside, with_token, inside_at}
 use Rattle.ct_file.proofs.Exact.{Shrinks, one_more, no_more, no_part}
@@ -31,7 +32,7 @@ pub at_end : {A : Type 0} (ends : List Token → Bool) (read : Reads A) (front :
 at_end {A} ends read front tokens total end so_far =
     sym so_far ∙ ap (with_front front) (no_more ends read tokens end) ∙ ap (λ (xs : List A). Some (xs, tokens)) (append-nil front)
 
-pub at_fault : {A : Type 0} (stuck : Stuck) (ends : List Token → Bool) (read : Reads A) (front : List A) (tokens : List Token) (total : Option (List A × List Token)) → ends tokens ≡ false → Fails stuck (read tokens) → Still front (many_at ends read tokens) total → Fails stuck total
+pub at_fault : {A : Type 0} (parse_error : ParseError) (ends : List Token → Bool) (read : Reads A) (front : List A) (tokens : List Token) (total : Option (List A × List Token)) → ends tokens ≡ false → Fails parse_error (read tokens) → Still front (many_at ends read tokens) total → Fails parse_error total
 at_fault NoMemory ends read front tokens total goes none so_far = tt
 at_fault BadString ends read front tokens total goes none so_far = sym so_far ∙ ap (with_front front) (no_part ends read tokens goes none)
 at_fault (Expected wanted) ends read front tokens total goes none so_far = sym so_far ∙ ap (with_front front) (no_part ends read tokens goes none)
@@ -49,43 +50,43 @@ fewer read less x rest tokens e =
 
 -- ---- the tokens of arguments
 
-pub paid : (owed : List ℕ) → (length owed == 0) ≡ are_paid owed
-paid [] = refl
-paid (k ∷ owed) = grind arith
+pub none_open_is : (closers : List ℕ) → (length closers == 0) ≡ none_open closers
+none_open_is [] = refl
+none_open_is (k ∷ closers) = grind arith
 
-pub inside_end : (owed : List ℕ) (front tokens : List Token) (total : Option (List Token × List Token)) → (are_paid owed && starts (is_mark 41) tokens) ≡ true → Still front (inside_at owed tokens) total → total ≡ Some (front, tokens)
+pub inside_end : (closers : List ℕ) (front tokens : List Token) (total : Option (List Token × List Token)) → (none_open closers && starts (is_mark closing_code) tokens) ≡ true → Still front (inside_at closers tokens) total → total ≡ Some (front, tokens)
 unfolding inside_at
 inside_end [] front [] total end so_far = absurd cc
-inside_end (k ∷ owed) front [] total end so_far = absurd cc
-inside_end owed front (t ∷ rest) total end so_far =
-    let s : with_front front (inside_at owed (t ∷ rest)) ≡ Some (front, t ∷ rest) = rw end (ap (λ (ts : List Token). Some (ts, t ∷ rest)) (append-nil front)) in
+inside_end (k ∷ closers) front [] total end so_far = absurd cc
+inside_end closers front (t ∷ rest) total end so_far =
+    let s : with_front front (inside_at closers (t ∷ rest)) ≡ Some (front, t ∷ rest) = rw end (ap (λ (ts : List Token). Some (ts, t ∷ rest)) (append-nil front)) in
     sym so_far ∙ s
 
-no_owed : (t : Token) (rest : List Token) (found : Option (List ℕ)) → ◌>>=◌ {B = Token × List ℕ × List Token} found (λ more. Some (t, more, rest)) ≡ None → (found >>= λ more. with_token t (inside_at more rest)) ≡ None
-no_owed t rest None e = refl
-no_owed t rest (Some more) e = absurd cc
+not_closed : (t : Token) (rest : List Token) (found : Option (List ℕ)) → ◌>>=◌ {B = Token × List ℕ × List Token} found (λ more. Some (t, more, rest)) ≡ None → (found >>= λ more. with_token t (inside_at more rest)) ≡ None
+not_closed t rest None e = refl
+not_closed t rest (Some more) e = absurd cc
 
-inside_none : (owed : List ℕ) (tokens : List Token) → (are_paid owed && starts (is_mark 41) tokens) ≡ false → token_inside owed tokens ≡ None → inside_at owed tokens ≡ None
+inside_none : (closers : List ℕ) (tokens : List Token) → (none_open closers && starts (is_mark closing_code) tokens) ≡ false → token_inside closers tokens ≡ None → inside_at closers tokens ≡ None
 unfolding inside_at
-inside_none owed [] goes none = refl
-inside_none owed (t ∷ rest) goes none = rw goes (no_owed t rest (owed_after owed t) none)
+inside_none closers [] goes none = refl
+inside_none closers (t ∷ rest) goes none = rw goes (not_closed t rest (closers_after closers t) none)
 
-pub inside_fault : (stuck : Stuck) (owed : List ℕ) (front tokens : List Token) (total : Option (List Token × List Token)) → (are_paid owed && starts (is_mark 41) tokens) ≡ false → Fails stuck (token_inside owed tokens) → Still front (inside_at owed tokens) total → Fails stuck total
-inside_fault NoMemory owed front tokens total goes none so_far = tt
-inside_fault BadString owed front tokens total goes none so_far = sym so_far ∙ ap (with_front front) (inside_none owed tokens goes none)
-inside_fault (Expected wanted) owed front tokens total goes none so_far = sym so_far ∙ ap (with_front front) (inside_none owed tokens goes none)
+pub inside_fault : (parse_error : ParseError) (closers : List ℕ) (front tokens : List Token) (total : Option (List Token × List Token)) → (none_open closers && starts (is_mark closing_code) tokens) ≡ false → Fails parse_error (token_inside closers tokens) → Still front (inside_at closers tokens) total → Fails parse_error total
+inside_fault NoMemory closers front tokens total goes none so_far = tt
+inside_fault BadString closers front tokens total goes none so_far = sym so_far ∙ ap (with_front front) (inside_none closers tokens goes none)
+inside_fault (Expected wanted) closers front tokens total goes none so_far = sym so_far ∙ ap (with_front front) (inside_none closers tokens goes none)
 
-inside_step : (owed more : List ℕ) (t : Token) (rest : List Token) → (are_paid owed && is_mark 41 t) ≡ false → owed_after owed t ≡ Some more → inside_at owed (t ∷ rest) ≡ with_token t (inside_at more rest)
+inside_step : (closers more : List ℕ) (t : Token) (rest : List Token) → (none_open closers && is_mark closing_code t) ≡ false → closers_after closers t ≡ Some more → inside_at closers (t ∷ rest) ≡ with_token t (inside_at more rest)
 unfolding inside_at
-inside_step owed more t rest goes e = rw (goes, e) refl
+inside_step closers more t rest goes e = rw (goes, e) refl
 
-pub inside_on : (owed : List ℕ) (front tokens : List Token) (total : Option (List Token × List Token)) (t : Token) (more : List ℕ) (rest : List Token) → (are_paid owed && starts (is_mark 41) tokens) ≡ false → token_inside owed tokens ≡ Some (t, more, rest)
-    → Still front (inside_at owed tokens) total → Still (front ++ t ∷ []) (inside_at more rest) total
+pub inside_on : (closers : List ℕ) (front tokens : List Token) (total : Option (List Token × List Token)) (t : Token) (more : List ℕ) (rest : List Token) → (none_open closers && starts (is_mark closing_code) tokens) ≡ false → token_inside closers tokens ≡ Some (t, more, rest)
+    → Still front (inside_at closers tokens) total → Still (front ++ t ∷ []) (inside_at more rest) total
 unfolding inside_at
-inside_on owed front [] total t more rest goes e so_far = absurd cc
-inside_on owed front (u ∷ tokens) total t more rest goes e so_far =
-    let a = bind_some (owed_after owed u) (λ next. Some (u, next, tokens)) (t, more, rest) e in
+inside_on closers front [] total t more rest goes e so_far = absurd cc
+inside_on closers front (u ∷ tokens) total t more rest goes e so_far =
+    let a = bind_some (closers_after closers u) (λ next. Some (u, next, tokens)) (t, more, rest) e in
     let same : (u, a.0, tokens) ≡ (t, more, rest) = some_is {A = Token × List ℕ × List Token} (u, a.0, tokens) (t, more, rest) a.2 in
     let S : Token × List ℕ × List Token → Type 0 = λ x. Still (front ++ x.0 ∷ []) (inside_at x.1 x.2) total in
-    let s = inside_step owed a.0 u tokens goes a.1 in
+    let s = inside_step closers a.0 u tokens goes a.1 in
     subst S same (sym (regrouped front u (inside_at a.0 tokens)) ∙ sym (ap (with_front front) s) ∙ so_far)

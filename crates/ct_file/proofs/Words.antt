@@ -1,4 +1,4 @@
--- The words of test files are told apart.
+-- The words of test files are distinct.
 use Rattle.std.proofs.Common.{◌≡◌, true, false, List, [], ◌∷◌, ℕ, drop, refl, ap, inl, inr}
 use Rattle.std.specs.Prelude.{◌≢◌, bytes_eq}
 use Rattle.std.proofs.lemmas.Slice.Eq.{bytes_eq-Decides}

@@ -1,6 +1,6 @@
 -- What the names, texts, numbers and arguments of a test file may be.
 use Rattle.std.specs.Prelude.{◌≡◌, ◌≢◌, ℕ, ◌-◌, ◌^◌, ◌≤◌, ◌==◌, ◌||◌, Bool, true, false, if◌then◌else◌, is_some, List, [], ◌∷◌, Option, Some, None, IfSome}
-use Rattle.std.specs.List.{list_all}
+use Rattle.std.specs.List.{list_all, AllByRecursion}
 use Rattle.std.specs.Str.{is_utf8}
 use Rattle.cd_tokens.specs.Token.{Token, run, quoted, mark, arrow}
 use Rattle.cd_tokens.specs.Label.{is_name, IsTextOf}
@@ -8,9 +8,10 @@ use Rattle.cd_tokens.specs.Lexed.{IsTokens}
 use Rattle.cd_tokens.specs.Numeral.{IsNumeral}
 use Rattle.cd_tokens.specs.ReadNumeral.{integer_of}
 use Rattle.cd_tokens.specs.ReadString.{unescaped_of}
+use Rattle.ct_file.specs.Codes.{opening_code, closing_code, semicolon_code, open_brace_code, close_brace_code}
 use Rattle.ct_file.specs.declared.keyword.Keyword.TheVariants as words
 use Rattle.ct_file.specs.Number.{WrittenNumber}
-use Rattle.ct_file.specs.Deed.{Deed}
+use Rattle.ct_file.specs.WrittenMove.{WrittenMove}
 use Rattle.ct_file.specs.declared.tree.Method.{Method}
 use Rattle.ct_file.specs.declared.tree.Method.TheVariants as methods
 use Rattle.ct_file.specs.declared.tree.Outcome.{Outcome}
@@ -53,56 +54,52 @@ max_time = 2 ^ 63 - 1
 abbrev pub max_cycles : ℕ
 max_cycles = 2 ^ 127 - 1
 
--- ---- arguments: brackets close in the order in which they open, and `;` is in braces alone
+-- ---- arguments: the innermost bracket closes first, and `;` is where that is a brace
 
--- a closing mark takes the innermost that is owed
-abbrev pub paid : ℕ → List ℕ → Option (List ℕ)
-paid m [] = None
-paid m (k ∷ owed) = if m == k then Some owed else None
+-- what is left to close after a closing mark, which must be that of the innermost bracket
+abbrev pub closed_by : ℕ → List ℕ → Option (List ℕ)
+closed_by m [] = None
+closed_by m (k ∷ closers) = if m == k then Some closers else None
 
 -- the innermost bracket that is open is a brace
 abbrev pub in_braces : List ℕ → Bool
 in_braces [] = false
-in_braces (k ∷ owed) = k == 125
+in_braces (k ∷ closers) = k == close_brace_code
 
--- the closing marks that are owed after a token, the innermost first; None where the token may not be there
-abbrev pub owed_after : List ℕ → Token → Option (List ℕ)
-owed_after owed (mark m) =
-    if m == 40 then Some (41 ∷ owed) else if m == 123 then Some (125 ∷ owed)
-    else if m == 41 || m == 125 then paid m owed
-    else if m == 59 then (if in_braces owed then Some owed else None) else Some owed
-owed_after owed (run r) = Some owed
-owed_after owed (quoted s) = Some owed
-owed_after owed arrow = Some owed
+-- what is left to close after a token: the closing marks, the innermost first; None where the token may not be there
+abbrev pub closers_after : List ℕ → Token → Option (List ℕ)
+closers_after closers (mark m) =
+    if m == opening_code then Some (closing_code ∷ closers) else if m == open_brace_code then Some (close_brace_code ∷ closers)
+    else if m == closing_code || m == close_brace_code then closed_by m closers
+    else if m == semicolon_code then (if in_braces closers then Some closers else None) else Some closers
+closers_after closers (run r) = Some closers
+closers_after closers (quoted s) = Some closers
+closers_after closers arrow = Some closers
 
 abbrev pub passes : {A : Type 0} → (A → Bool) → Option A → Bool
 passes test None = false
 passes test (Some x) = test x
 
--- no closing mark is owed
-abbrev pub are_paid : List ℕ → Bool
-are_paid [] = true
-are_paid (k ∷ owed) = false
+-- no bracket is open
+abbrev pub none_open : List ℕ → Bool
+none_open [] = true
+none_open (k ∷ closers) = false
 
--- so it is after the tokens, where these are owed before them
-unfoldable pub are_closed : List Token → List ℕ → Bool
-are_closed [] owed = are_paid owed
-are_closed (t ∷ tokens) owed = passes (are_closed tokens) (owed_after owed t)
+-- none is open after the tokens, where these are left to close before them
+unfoldable pub are_balanced : List Token → List ℕ → Bool
+are_balanced [] closers = none_open closers
+are_balanced (t ∷ tokens) closers = passes (are_balanced tokens) (closers_after closers t)
 
 -- what is between the parentheses of arguments
 abbrev pub AreArguments : List Token → Type 0
-AreArguments tokens = are_closed tokens [] ≡ true
+AreArguments tokens = are_balanced tokens [] ≡ true
 
 -- ---- the parts of a file
-
-abbrev pub Each : {A : Type 0} → (A → Type 0) → List A → Type 0
-Each P [] = Unit {0}
-Each P (x ∷ xs) = P x × Each P xs
 
 -- one at least
 abbrev pub OneOrMore : {A : Type 0} → (A → Type 0) → List A → Type 0
 OneOrMore P [] = ⊥
-OneOrMore P (x ∷ xs) = P x × Each P xs
+OneOrMore P (x ∷ xs) = P x × AllByRecursion P xs
 
 abbrev pub FitsOutcome : Outcome → Type 0
 FitsOutcome (Replies arguments) = IfSome arguments AreArguments
@@ -117,14 +114,14 @@ pub record FitsMessage (message : Message) : Type 0 where
   pub canister : IsName message.canister
   pub method : FitsMethod message.method
   pub arguments : AreArguments message.arguments
-  pub expected : Each FitsOutcome message.expected
+  pub expected : AllByRecursion FitsOutcome message.expected
 
 pub record FitsChange (change : Change) : Type 0 where
   pub canister : IsName change.canister
   pub wasm : SaysText change.wasm
   pub interface : IfSome change.interface SaysText
   pub arguments : IfSome change.arguments AreArguments
-  pub expected : Each FitsOutcome change.expected
+  pub expected : AllByRecursion FitsOutcome change.expected
 
 abbrev pub FitsAction : Action → Type 0
 FitsAction (Call message) = FitsMessage message
@@ -132,8 +129,8 @@ FitsAction (Query message) = FitsMessage message
 FitsAction (Upgrade change) = FitsChange change
 FitsAction (Reinstall change) = FitsChange change
 
-abbrev pub FitsMove : Deed → Type 0
-FitsMove deed = IfSome deed.by IsName × FitsAction deed.action
+abbrev pub FitsMove : WrittenMove → Type 0
+FitsMove written = IfSome written.by IsName × FitsAction written.action
 
 abbrev pub FitsUser : User → Type 0
 FitsUser user = IsName user.name × IfSome user.principal SaysText
@@ -143,7 +140,7 @@ pub record FitsCreation (creation : Creation) : Type 0 where
   pub interface : SaysText creation.interface
   pub arguments : IfSome creation.arguments AreArguments
   pub cycles : IfSome creation.cycles (IsNumber 0 max_cycles)
-  pub expected : Each FitsOutcome creation.expected
+  pub expected : AllByRecursion FitsOutcome creation.expected
 
 -- after `=` the word `principal` is no name
 abbrev pub FitsOrigin : Origin → Type 0
@@ -155,17 +152,17 @@ abbrev pub FitsStatement : StatementKind → Type 0
 FitsStatement (kinds.Users users) = OneOrMore FitsUser users
 FitsStatement (kinds.Time number) = IsNumber 0 max_time number
 FitsStatement (kinds.Canister by name origin) = IfSome by IsName × IsName name × FitsOrigin origin
-FitsStatement (kinds.Move deed) = FitsMove deed
+FitsStatement (kinds.Move written) = FitsMove written
 
 abbrev pub FitsStep : Step → Type 0
 FitsStep (steps.Statement statement) = FitsStatement statement
 FitsStep (steps.Interleave moves) = OneOrMore FitsMove moves
 
 abbrev pub FitsTest : Test → Type 0
-FitsTest test = SaysText test.name × Each FitsStep test.steps
+FitsTest test = SaysText test.name × AllByRecursion FitsStep test.steps
 
 abbrev pub FitsFile : File → Type 0
-FitsFile file = Each FitsStatement file.preamble × Each FitsTest file.tests
+FitsFile file = AllByRecursion FitsStatement file.preamble × AllByRecursion FitsTest file.tests
 
 -- ---- the file
 

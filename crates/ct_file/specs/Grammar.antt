@@ -4,7 +4,7 @@ use Rattle.std.specs.List.{join_by}
 use Rattle.cd_tokens.specs.Token.{Token, run, quoted}
 use Rattle.ct_file.specs.declared.keyword.Keyword.TheVariants as words
 use Rattle.ct_file.specs.Number.{WrittenNumber}
-use Rattle.ct_file.specs.Deed.{Deed}
+use Rattle.ct_file.specs.WrittenMove.{WrittenMove}
 use Rattle.ct_file.specs.declared.tree.Method.{Method}
 use Rattle.ct_file.specs.declared.tree.Method.TheVariants as methods
 use Rattle.ct_file.specs.declared.tree.Outcome.{Outcome}
@@ -81,8 +81,8 @@ abbrev pub by_tokens : List ℕ → List Token
 by_tokens name = word words.As ∷ run name ∷ []
 
 -- move ::= by? action
-abbrev pub move_tokens : Deed → List Token
-move_tokens deed = maybe by_tokens deed.by ++ action_tokens deed.action
+abbrev pub move_tokens : WrittenMove → List Token
+move_tokens written = maybe by_tokens written.by ++ action_tokens written.action
 
 -- 'principal' TEXT
 abbrev pub principal_tokens : List ℕ → List Token
@@ -108,11 +108,11 @@ abbrev pub statement_tokens : StatementKind → List Token
 statement_tokens (kinds.Users users) = word words.User ∷ join_by user_tokens (comma ∷ []) users
 statement_tokens (kinds.Time number) = word words.Time ∷ number_token number
 statement_tokens (kinds.Canister by name origin) = maybe by_tokens by ++ (word words.Canister ∷ run name ∷ equals ∷ origin_tokens origin)
-statement_tokens (kinds.Move deed) = move_tokens deed
+statement_tokens (kinds.Move written) = move_tokens written
 
 -- interleave ::= 'interleave' '{' (move ';')+ '}'
-abbrev pub interleave_tokens : List Deed → List Token
-interleave_tokens moves = word words.Interleave ∷ open_brace ∷ (flat_map (λ deed. move_tokens deed ++ semicolon ∷ []) moves ++ close_brace ∷ [])
+abbrev pub interleave_tokens : List WrittenMove → List Token
+interleave_tokens moves = word words.Interleave ∷ open_brace ∷ (flat_map (λ written. move_tokens written ++ semicolon ∷ []) moves ++ close_brace ∷ [])
 
 -- statement ';' | interleave
 abbrev pub step_tokens : Step → List Token

@@ -1,6 +1,7 @@
 pub mod Words
+pub mod Codes
 pub mod Number
-pub mod Deed
+pub mod WrittenMove
 pub mod Grammar
 pub mod Fits
 pub mod Gives

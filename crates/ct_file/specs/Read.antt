@@ -1,4 +1,5 @@
--- Test files as functions that read tokens.
+-- Test files as functions that read tokens. No public clause cites them: they are what the reader does, and lemmas of proofs/
+-- tie them to the grammar.
 use Rattle.std.specs.Prelude.{ℕ, zero, suc, Bool, true, false, ◌&&◌, ◌||◌, not, nat_le, if◌then◌else◌, List, [], ◌∷◌, ◌++◌, length, drop, Option, Some, None}
 use Rattle.ic_base.specs.Reader.{◌>>=◌}
 use Rattle.cd_tokens.specs.Token.{Token, run, quoted, mark, arrow}
@@ -6,9 +7,10 @@ use Rattle.cd_tokens.specs.Front.{is_mark, starts}
 use Rattle.cd_tokens.specs.Label.{is_name}
 use Rattle.cd_tokens.specs.ReadLabel.{text_of}
 use Rattle.cd_tokens.specs.ReadNumeral.{numeral_of}
+use Rattle.ct_file.specs.Codes.{opening_code, closing_code, comma_code, dot_code, semicolon_code, equals_code, open_brace_code, close_brace_code}
 use Rattle.ct_file.specs.declared.keyword.Keyword.TheVariants as words
 use Rattle.ct_file.specs.Number.{WrittenNumber}
-use Rattle.ct_file.specs.Deed.{Deed}
+use Rattle.ct_file.specs.WrittenMove.{WrittenMove}
 use Rattle.ct_file.specs.declared.tree.Method.{Method}
 use Rattle.ct_file.specs.declared.tree.Method.TheVariants as methods
 use Rattle.ct_file.specs.declared.tree.Outcome.{Outcome}
@@ -28,9 +30,9 @@ use Rattle.ct_file.specs.declared.tree.Step.TheVariants as steps
 use Rattle.ct_file.specs.declared.tree.Test.{Test}
 use Rattle.ct_file.specs.declared.tree.File.{File}
 use Rattle.ct_file.specs.Words.{is_word}
-use Rattle.ct_file.specs.Fits.{max_time, max_cycles, owed_after, are_paid}
+use Rattle.ct_file.specs.Fits.{max_time, max_cycles, closers_after, none_open}
 
--- what reads something from the front of the tokens
+-- a reader: a value from the front of the tokens, and the tokens after it
 abbrev pub Reads : Type 0 → Type 0
 Reads A = List Token → Option (A × List Token)
 
@@ -163,10 +165,10 @@ some_at ends read next tokens = read tokens >>= λ x. with_front (x.0 ∷ []) (m
 
 -- ---- arguments
 
--- a token of arguments, and the closing marks that are owed after it
+-- a token of arguments, and what is left to close after it
 abbrev pub token_inside : List ℕ → List Token → Option (Token × List ℕ × List Token)
-token_inside owed [] = None
-token_inside owed (t ∷ rest) = owed_after owed t >>= λ more. Some (t, more, rest)
+token_inside closers [] = None
+token_inside closers (t ∷ rest) = closers_after closers t >>= λ more. Some (t, more, rest)
 
 -- a token in front of those that are read
 abbrev pub with_token : Token → Option (List Token × List Token) → Option (List Token × List Token)
@@ -174,15 +176,15 @@ with_token t read = read >>= λ x. Some (t ∷ x.0, x.1)
 
 -- tokens before the parenthesis that closes
 unfoldable pub inside_at : List ℕ → Reads (List Token)
-inside_at owed [] = None
-inside_at owed (t ∷ rest) =
-    if are_paid owed && is_mark 41 t then Some ([], t ∷ rest) else (owed_after owed t >>= λ more. with_token t (inside_at more rest))
+inside_at closers [] = None
+inside_at closers (t ∷ rest) =
+    if none_open closers && is_mark closing_code t then Some ([], t ∷ rest) else (closers_after closers t >>= λ more. with_token t (inside_at more rest))
 
 unfoldable pub arguments_at : Reads (List Token)
-arguments_at tokens = after_at (is_mark 40) (before_at (is_mark 41) (inside_at [])) tokens
+arguments_at tokens = after_at (is_mark opening_code) (before_at (is_mark closing_code) (inside_at [])) tokens
 
 abbrev pub maybe_arguments_at : Reads (Option (List Token))
-maybe_arguments_at tokens = maybe_at (is_mark 40) arguments_at tokens
+maybe_arguments_at tokens = maybe_at (is_mark opening_code) arguments_at tokens
 
 -- ---- outcomes
 
@@ -230,19 +232,19 @@ abbrev pub message_of : List ℕ × (Method × (List Token × List Outcome)) →
 message_of x = record { canister = x.0; method = x.1.0; arguments = x.1.1.0; expected = x.1.1.1 }
 
 unfoldable pub message_at : Reads Message
-message_at tokens = map_at message_of (both_at name_at (after_at (is_mark 46) (both_at method_at (both_at arguments_at expected_at)))) tokens
+message_at tokens = map_at message_of (both_at name_at (after_at (is_mark dot_code) (both_at method_at (both_at arguments_at expected_at)))) tokens
 
 abbrev pub interface_at : Reads (List ℕ)
-interface_at tokens = after_at (is_mark 44) text_at tokens
+interface_at tokens = after_at (is_mark comma_code) text_at tokens
 
 abbrev pub maybe_interface_at : Reads (Option (List ℕ))
-maybe_interface_at tokens = maybe_at (is_mark 44) interface_at tokens
+maybe_interface_at tokens = maybe_at (is_mark comma_code) interface_at tokens
 
 abbrev pub change_of : List ℕ × (List ℕ × (Option (List ℕ) × (Option (List Token) × List Outcome))) → Change
 change_of x = record { canister = x.0; wasm = x.1.0; interface = x.1.1.0; arguments = x.1.1.1.0; expected = x.1.1.1.1 }
 
 unfoldable pub change_at : Reads Change
-change_at tokens = map_at change_of (both_at name_at (after_at (is_mark 61) (both_at text_at (both_at maybe_interface_at (both_at maybe_arguments_at expected_at))))) tokens
+change_at tokens = map_at change_of (both_at name_at (after_at (is_mark equals_code) (both_at text_at (both_at maybe_interface_at (both_at maybe_arguments_at expected_at))))) tokens
 
 unfoldable pub action_at : Reads Action
 action_at tokens =
@@ -254,12 +256,12 @@ action_at tokens =
 abbrev pub maybe_by_at : Reads (Option (List ℕ))
 maybe_by_at tokens = maybe_at (is_word words.As) (after_at (is_word words.As) name_at) tokens
 
-abbrev pub deed_by : Option (List ℕ) → Action → Deed
-deed_by by action = record { by = by; action = action }
+abbrev pub move_of : Option (List ℕ) × Action → WrittenMove
+move_of x = record { by = x.0; action = x.1 }
 
 -- a move by someone
-abbrev pub move_by_at : Option (List ℕ) → Reads Deed
-move_by_at by tokens = map_at (deed_by by) action_at tokens
+abbrev pub move_by_at : Option (List ℕ) → Reads WrittenMove
+move_by_at by tokens = map_at (λ action. move_of (by, action)) action_at tokens
 
 -- ---- statements
 
@@ -267,7 +269,7 @@ abbrev pub principal_at : Reads (List ℕ)
 principal_at tokens = after_at (is_word words.Principal) text_at tokens
 
 abbrev pub maybe_principal_at : Reads (Option (List ℕ))
-maybe_principal_at tokens = maybe_at (is_mark 61) (after_at (is_mark 61) principal_at) tokens
+maybe_principal_at tokens = maybe_at (is_mark equals_code) (after_at (is_mark equals_code) principal_at) tokens
 
 abbrev pub user_of : List ℕ × Option (List ℕ) → User
 user_of x = record { name = x.0; principal = x.1 }
@@ -277,10 +279,10 @@ user_at tokens = map_at user_of (both_at name_at maybe_principal_at) tokens
 
 -- a user after a comma
 abbrev pub next_user_at : Reads User
-next_user_at tokens = after_at (is_mark 44) user_at tokens
+next_user_at tokens = after_at (is_mark comma_code) user_at tokens
 
 unfoldable pub users_at : Reads (List User)
-users_at tokens = some_at (starts_not (is_mark 44)) user_at next_user_at tokens
+users_at tokens = some_at (starts_not (is_mark comma_code)) user_at next_user_at tokens
 
 abbrev pub cycles_at : Reads WrittenNumber
 cycles_at tokens = after_at (is_word words.With) (after_at (is_word words.Cycles) (number_at 0 max_cycles)) tokens
@@ -295,71 +297,68 @@ unfoldable pub creation_at : Reads Creation
 creation_at tokens = map_at creation_of (both_at text_at (both_at interface_at (both_at maybe_arguments_at (both_at maybe_cycles_at expected_at)))) tokens
 
 -- a canister that is there under a principal, and by a name
-abbrev pub told_of : List ℕ × List ℕ → Origin
-told_of x = Principal x.0 x.1
+abbrev pub principal_origin : List ℕ × List ℕ → Origin
+principal_origin x = Principal x.0 x.1
 
-abbrev pub named_of : List ℕ × List ℕ → Origin
-named_of x = Named x.0 x.1
+abbrev pub named_origin : List ℕ × List ℕ → Origin
+named_origin x = Named x.0 x.1
 
-abbrev pub told_at : Reads Origin
-told_at tokens = map_at told_of (both_at principal_at interface_at) tokens
+abbrev pub principal_origin_at : Reads Origin
+principal_origin_at tokens = map_at principal_origin (both_at principal_at interface_at) tokens
 
-abbrev pub named_at : Reads Origin
-named_at tokens = map_at named_of (both_at name_at interface_at) tokens
+abbrev pub named_origin_at : Reads Origin
+named_origin_at tokens = map_at named_origin (both_at name_at interface_at) tokens
 
 unfoldable pub origin_at : Reads Origin
-origin_at tokens = or_at is_quoted (map_at (λ x. Made x) creation_at) (or_at (is_word words.Principal) told_at named_at) tokens
+origin_at tokens = or_at is_quoted (map_at (λ x. Made x) creation_at) (or_at (is_word words.Principal) principal_origin_at named_origin_at) tokens
 
 abbrev pub canister_by : Option (List ℕ) → List ℕ × Origin → StatementKind
 canister_by by x = kinds.Canister by x.0 x.1
 
 -- the name of a canister and where it comes from, after its word
 unfoldable pub canister_at : Reads (List ℕ × Origin)
-canister_at tokens = both_at name_at (after_at (is_mark 61) origin_at) tokens
+canister_at tokens = both_at name_at (after_at (is_mark equals_code) origin_at) tokens
 
 -- a canister or a move, after who makes it
-abbrev pub deed_by_at : Option (List ℕ) → Reads StatementKind
-deed_by_at by tokens = or_at (is_word words.Canister) (map_at (canister_by by) (after_at (is_word words.Canister) canister_at)) (map_at (λ x. kinds.Move x) (move_by_at by)) tokens
+abbrev pub canister_or_move_by_at : Option (List ℕ) → Reads StatementKind
+canister_or_move_by_at by tokens = or_at (is_word words.Canister) (map_at (canister_by by) (after_at (is_word words.Canister) canister_at)) (map_at (λ x. kinds.Move x) (move_by_at by)) tokens
 
-unfoldable pub deed_at : Reads StatementKind
-deed_at tokens = maybe_by_at tokens >>= λ by. deed_by_at by.0 by.1
+unfoldable pub canister_or_move_at : Reads StatementKind
+canister_or_move_at tokens = maybe_by_at tokens >>= λ by. canister_or_move_by_at by.0 by.1
 
 unfoldable pub kind_at : Reads StatementKind
 kind_at tokens =
     or_at (is_word words.User) (map_at (λ x. kinds.Users x) (after_at (is_word words.User) users_at))
-    (or_at (is_word words.Time) (map_at (λ x. kinds.Time x) (after_at (is_word words.Time) (number_at 0 max_time))) deed_at) tokens
+    (or_at (is_word words.Time) (map_at (λ x. kinds.Time x) (after_at (is_word words.Time) (number_at 0 max_time))) canister_or_move_at) tokens
 
 unfoldable pub statement_at : Reads StatementKind
-statement_at tokens = before_at (is_mark 59) kind_at tokens
+statement_at tokens = before_at (is_mark semicolon_code) kind_at tokens
 
 -- ---- tests and files
 
-abbrev pub deed_of : Option (List ℕ) × Action → Deed
-deed_of x = record { by = x.0; action = x.1 }
+abbrev pub move_at : Reads WrittenMove
+move_at tokens = map_at move_of (both_at maybe_by_at action_at) tokens
 
-abbrev pub made_at : Reads Deed
-made_at tokens = map_at deed_of (both_at maybe_by_at action_at) tokens
+unfoldable pub move_line_at : Reads WrittenMove
+move_line_at tokens = before_at (is_mark semicolon_code) move_at tokens
 
-unfoldable pub move_at : Reads Deed
-move_at tokens = before_at (is_mark 59) made_at tokens
+unfoldable pub moves_at : Reads (List WrittenMove)
+moves_at tokens = some_at (starts (is_mark close_brace_code)) move_line_at move_line_at tokens
 
-unfoldable pub moves_at : Reads (List Deed)
-moves_at tokens = some_at (starts (is_mark 125)) move_at move_at tokens
-
-unfoldable pub interleave_at : Reads (List Deed)
-interleave_at tokens = after_at (is_word words.Interleave) (after_at (is_mark 123) (before_at (is_mark 125) moves_at)) tokens
+unfoldable pub interleave_at : Reads (List WrittenMove)
+interleave_at tokens = after_at (is_word words.Interleave) (after_at (is_mark open_brace_code) (before_at (is_mark close_brace_code) moves_at)) tokens
 
 unfoldable pub step_at : Reads Step
 step_at tokens = or_at (is_word words.Interleave) (map_at (λ x. steps.Interleave x) interleave_at) (map_at (λ x. steps.Statement x) statement_at) tokens
 
 unfoldable pub steps_at : Reads (List Step)
-steps_at tokens = many_at (starts (is_mark 125)) step_at tokens
+steps_at tokens = many_at (starts (is_mark close_brace_code)) step_at tokens
 
 abbrev pub test_of : List ℕ × List Step → Test
 test_of x = record { name = x.0; steps = x.1 }
 
 unfoldable pub test_at : Reads Test
-test_at tokens = map_at test_of (after_at (is_word words.Test) (both_at text_at (after_at (is_mark 123) (before_at (is_mark 125) steps_at)))) tokens
+test_at tokens = map_at test_of (after_at (is_word words.Test) (both_at text_at (after_at (is_mark open_brace_code) (before_at (is_mark close_brace_code) steps_at)))) tokens
 
 unfoldable pub tests_at : Reads (List Test)
 tests_at tokens = many_at are_none test_at tokens

@@ -1,6 +1,6 @@
 ghost use Rattle.std.specs.Prelude.{◌≡◌};
 ghost use Rattle.ct_file.specs.declared.cause.FileError.TheVariants.{NoMemory};
-ghost use Rattle.ct_file.specs.declared.cause.Stuck.TheVariants.{NoMemory as no_memory};
+ghost use Rattle.ct_file.specs.declared.cause.ParseError.TheVariants.{NoMemory as no_memory};
 
 use crate::keyword::Keyword;
 use ic_base::NoMemory as OutOfMemory;
@@ -110,7 +110,7 @@ impl From<OutOfMemory> for FileError {
 
 /// Why the reader stops at a token.
 #[derive(Clone, Copy, Debug, PartialEq, Eq)]
-pub(crate) enum Stuck {
+pub(crate) enum ParseError {
     /// Memory ran out.
     NoMemory,
     /// The token is a string that says no text.
@@ -119,18 +119,18 @@ pub(crate) enum Stuck {
     Expected(Wanted),
 }
 
-impl From<OutOfMemory> for Stuck {
-    ghost from_gives = { λ _ stuck. stuck ≡ no_memory };
+impl From<OutOfMemory> for ParseError {
+    ghost from_gives = { λ _ parse_error. parse_error ≡ no_memory };
 
-    fn from(_: OutOfMemory) -> Stuck {
-        Stuck::NoMemory
+    fn from(_: OutOfMemory) -> ParseError {
+        ParseError::NoMemory
     }
 }
 
-impl<T: Drop> From<AllocFailed<T>> for Stuck {
-    ghost from_gives = { λ _ stuck. stuck ≡ no_memory };
+impl<T: Drop> From<AllocFailed<T>> for ParseError {
+    ghost from_gives = { λ _ parse_error. parse_error ≡ no_memory };
 
-    fn from(_: AllocFailed<T>) -> Stuck {
-        Stuck::NoMemory
+    fn from(_: AllocFailed<T>) -> ParseError {
+        ParseError::NoMemory
     }
 }

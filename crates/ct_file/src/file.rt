@@ -5,10 +5,10 @@ ghost use Rattle.ct_file.specs.Fits.{IsFile};
 ghost use Rattle.ct_file.specs.Gives.{Gives};
 ghost use Rattle.ct_file.specs.Read.{ends_preamble, preamble_at, interleave_at, moves_at, step_at, steps_at, test_at, tests_at, file_at};
 ghost use Rattle.ct_file.specs.declared.cause.FileError.TheVariants.{NoMemory};
-ghost use Rattle.ct_file.specs.declared.cause.Stuck.TheVariants.{NoMemory as no_memory};
+ghost use Rattle.ct_file.specs.declared.cause.ParseError.TheVariants.{NoMemory as no_memory};
 ghost use Rattle.ct_file.specs.declared.tree.File.{File};
 
-use crate::cause::{Cause, Fault, FileError, Stuck, Wanted};
+use crate::cause::{Cause, Fault, FileError, ParseError, Wanted};
 use crate::keyword::Keyword;
 use crate::reader::Reader;
 use crate::tokens::{FileTokens, file_tokens_of};
@@ -26,7 +26,7 @@ impl<'t, 'a> Reader<'t, 'a> {
 
     // The statements before the tests.
     #[tactic(auto, unfolding(crate::specs::Read::preamble_at))]
-    fn preamble(&mut self) -> Result<Statements<'a>, Stuck>
+    fn preamble(&mut self) -> Result<Statements<'a>, ParseError>
         ensures { Gives (λ preamble. (preamble, placed_views self.new.rest.now)) result (preamble_at (placed_views self.old.rest.now)) }
     {
         let mut items = Vec::new(self.alloc);
@@ -37,7 +37,7 @@ impl<'t, 'a> Reader<'t, 'a> {
     }
 
     #[tactic(auto, unfolding(crate::specs::Read::interleave_at))]
-    fn interleave(&mut self) -> Result<Interleave<'a>, Stuck>
+    fn interleave(&mut self) -> Result<Interleave<'a>, ParseError>
         ensures { Gives (λ moves. (moves, placed_views self.new.rest.now)) result (interleave_at (placed_views self.old.rest.now)) }
     {
         let place = self.place();
@@ -50,19 +50,19 @@ impl<'t, 'a> Reader<'t, 'a> {
 
     // The moves of an interleave, up to its end.
     #[tactic(auto, unfolding(crate::specs::Read::moves_at))]
-    fn moves(&mut self) -> Result<Vec<Move<'a>>, Stuck>
+    fn moves(&mut self) -> Result<Vec<Move<'a>>, ParseError>
         ensures { Gives (λ moves. (moves.items, placed_views self.new.rest.now)) result (moves_at (placed_views self.old.rest.now)) }
     {
         let mut items = Vec::new(self.alloc);
-        items.push(self.interleaved(Wanted::Move)?)?;
+        items.push(self.move_line(Wanted::Move)?)?;
         while !self.starts_mark(b'}') {
-            items.push(self.interleaved(Wanted::MoveOrEnd)?)?;
+            items.push(self.move_line(Wanted::MoveOrEnd)?)?;
         }
         Ok(items)
     }
 
     #[tactic(auto, unfolding(crate::specs::Read::step_at))]
-    fn step(&mut self) -> Result<Step<'a>, Stuck>
+    fn step(&mut self) -> Result<Step<'a>, ParseError>
         ensures { Gives (λ step. (step, placed_views self.new.rest.now)) result (step_at (placed_views self.old.rest.now)) }
     {
         if self.starts_word(Keyword::Interleave) {
@@ -74,7 +74,7 @@ impl<'t, 'a> Reader<'t, 'a> {
 
     // The parts of a test, up to its end.
     #[tactic(auto, unfolding(crate::specs::Read::steps_at))]
-    fn steps(&mut self) -> Result<Steps<'a>, Stuck>
+    fn steps(&mut self) -> Result<Steps<'a>, ParseError>
         ensures { Gives (λ steps. (steps, placed_views self.new.rest.now)) result (steps_at (placed_views self.old.rest.now)) }
     {
         let mut items = Vec::new(self.alloc);
@@ -85,7 +85,7 @@ impl<'t, 'a> Reader<'t, 'a> {
     }
 
     #[tactic(auto, unfolding(crate::specs::Read::test_at))]
-    fn test(&mut self) -> Result<Test<'a>, Stuck>
+    fn test(&mut self) -> Result<Test<'a>, ParseError>
         ensures { Gives (λ test. (test, placed_views self.new.rest.now)) result (test_at (placed_views self.old.rest.now)) }
     {
         self.expect_word(Keyword::Test)?;
@@ -98,7 +98,7 @@ impl<'t, 'a> Reader<'t, 'a> {
 
     // Tests, up to the end.
     #[tactic(auto, unfolding(crate::specs::Read::tests_at))]
-    fn tests(&mut self) -> Result<Tests<'a>, Stuck>
+    fn tests(&mut self) -> Result<Tests<'a>, ParseError>
         ensures { Gives (λ tests. (tests, placed_views self.new.rest.now)) result (tests_at (placed_views self.old.rest.now)) }
     {
         let mut items = Vec::new(self.alloc);
@@ -110,7 +110,7 @@ impl<'t, 'a> Reader<'t, 'a> {
 
     // The file that all the tokens are.
     #[tactic(auto, unfolding(crate::specs::Read::file_at))]
-    fn file(&mut self) -> Result<File<'a>, Stuck>
+    fn file(&mut self) -> Result<File<'a>, ParseError>
         ensures { Gives (λ file. (file, placed_views self.new.rest.now)) result (file_at (placed_views self.old.rest.now)) }
     {
         let preamble = self.preamble()?;
@@ -119,7 +119,7 @@ impl<'t, 'a> Reader<'t, 'a> {
     }
 }
 
-// The place of a token that has as many as `left` from it on, or of the text's end.
+// The place of the first of the last `left` tokens, or of the text's end where there are none.
 fn place_of(tokens: &[PlacedToken<'_>], left: usize, text: &[u8]) -> usize
     requires { are_within text.now tokens.now ≡ true }
     ensures { result ≤ length text.now }
@@ -133,7 +133,8 @@ fn place_of(tokens: &[PlacedToken<'_>], left: usize, text: &[u8]) -> usize
     }
 }
 
-// The fault where the reader stops before so many tokens. Where none is left it is that of the tokens.
+// The fault where the reader stops before the last `left` tokens. Where none is left, a fault of the
+// tokens is told in its place.
 fn fault_of(cause: Cause, tokens: &FileTokens<'_>, left: usize, text: &[u8]) -> Fault
     requires within { are_within text.now tokens.now.items.items ≡ true }
     requires end { IfSome tokens.now.fault (λ fault. fault.place ≤ length text.now) }
@@ -149,16 +150,16 @@ fn fault_of(cause: Cause, tokens: &FileTokens<'_>, left: usize, text: &[u8]) -> 
 }
 
 // Why no file is read.
-fn error_of(stuck: Stuck, tokens: &FileTokens<'_>, left: usize, text: &[u8]) -> FileError
+fn error_of(parse_error: ParseError, tokens: &FileTokens<'_>, left: usize, text: &[u8]) -> FileError
     requires within { are_within text.now tokens.now.items.items ≡ true }
     requires end { IfSome tokens.now.fault (λ fault. fault.place ≤ length text.now) }
-    ensures memory { (stuck ≡ no_memory) ↔ (result ≡ NoMemory) }
+    ensures memory { (parse_error ≡ no_memory) ↔ (result ≡ NoMemory) }
     ensures placed { IsPlaced text.now result }
 {
-    let cause = match stuck {
-        Stuck::NoMemory => return FileError::NoMemory,
-        Stuck::BadString => Cause::BadString,
-        Stuck::Expected(wanted) => Cause::Expected(wanted),
+    let cause = match parse_error {
+        ParseError::NoMemory => return FileError::NoMemory,
+        ParseError::BadString => Cause::BadString,
+        ParseError::Expected(wanted) => Cause::Expected(wanted),
     };
     FileError::Faulty(fault_of(cause, tokens, left, text))
 }
@@ -183,6 +184,6 @@ pub fn read<'a>(alloc: Global, text: &'a [u8]) -> Result<File<'a>, FileError>
             None => Ok(file),
             Some(fault) => Err(FileError::Faulty(fault)),
         },
-        Err(stuck) => Err(error_of(stuck, &tokens, reader.rest.len(), text)),
+        Err(parse_error) => Err(error_of(parse_error, &tokens, reader.rest.len(), text)),
     }
 }

@@ -2,11 +2,12 @@ ghost use Rattle.std.specs.Prelude.{◌≡◌, ◌&&◌, if◌then◌else◌, []
 ghost use Rattle.cd_tokens.specs.Front.{is_mark, starts};
 ghost use Rattle.cd_tokens.specs.Placed.{placed_view, placed_views};
 ghost use Rattle.cd_tokens.specs.View.{token_view};
-ghost use Rattle.ct_file.specs.Fits.{are_paid, in_braces, owed_after, paid};
+ghost use Rattle.ct_file.specs.Codes.{closing_code};
+ghost use Rattle.ct_file.specs.Fits.{none_open, in_braces, closers_after, closed_by};
 ghost use Rattle.ct_file.specs.Gives.{Gives};
 ghost use Rattle.ct_file.specs.Read.{starts_outcome, token_inside, arguments_at, maybe_arguments_at, maybe_code_at, maybe_text_at, map_at, rejects_of, reject_at, outcome_at, alternative_at, outcomes_at, expected_at, inside_at};
 
-use crate::cause::{Stuck, Wanted};
+use crate::cause::{ParseError, Wanted};
 use crate::keyword::Keyword;
 use crate::leaf::{Arguments, Installed, Number, Quoted, Span};
 use crate::reader::Reader;
@@ -32,46 +33,46 @@ fn copy_of<'a>(placed: &PlacedToken<'a>) -> PlacedToken<'a>
 }
 
 // Whether the mark closes the innermost bracket that is open; then it does.
-fn close(owed: &mut Stack<u8>, mark: u8) -> bool
-    ensures { (if result then Some owed.new else None) ≡ paid mark owed.old }
+fn close(closers: &mut Stack<u8>, mark: u8) -> bool
+    ensures { (if result then Some closers.new else None) ≡ closed_by mark closers.old }
 {
-    match owed.top() {
+    match closers.top() {
         None => false,
         Some(top) => {
             if *top != mark {
                 return false;
             }
-            let _top = owed.pop();
+            let _top = closers.pop();
             true
         }
     }
 }
 
-fn is_in_braces(owed: &Stack<u8>) -> bool
-    ensures { result ≡ in_braces owed.now }
+fn is_in_braces(closers: &Stack<u8>) -> bool
+    ensures { result ≡ in_braces closers.now }
 {
-    match owed.top() {
+    match closers.top() {
         None => false,
         Some(top) => *top == b'}',
     }
 }
 
-// Whether the token may be there; then `owed` has the closing marks that are owed after it.
-fn follows(owed: &mut Stack<u8>, token: &Token<'_>) -> Result<bool, NoMemory>
-    ensures { IfOk result (λ may. (if may then Some owed.new else None) ≡ owed_after owed.old (token_view token.now)) }
+// Whether the token may be there; then `closers` is what is left to close after it.
+fn follows(closers: &mut Stack<u8>, token: &Token<'_>) -> Result<bool, NoMemory>
+    ensures { IfOk result (λ may. (if may then Some closers.new else None) ≡ closers_after closers.old (token_view token.now)) }
 {
     match token {
         Token::Mark(mark) => match *mark {
             b'(' => {
-                owed.push(b')')?;
+                closers.push(b')')?;
                 Ok(true)
             }
             b'{' => {
-                owed.push(b'}')?;
+                closers.push(b'}')?;
                 Ok(true)
             }
-            b')' | b'}' => Ok(close(owed, *mark)),
-            b';' => Ok(is_in_braces(owed)),
+            b')' | b'}' => Ok(close(closers, *mark)),
+            b';' => Ok(is_in_braces(closers)),
             _ => Ok(true),
         },
         Token::Run(_) => Ok(true),
@@ -81,8 +82,8 @@ fn follows(owed: &mut Stack<u8>, token: &Token<'_>) -> Result<bool, NoMemory>
 }
 
 // The closing mark that is wanted where no other token goes on.
-fn wanted_mark(owed: &Stack<u8>) -> Wanted {
-    match owed.top() {
+fn wanted_mark(closers: &Stack<u8>) -> Wanted {
+    match closers.top() {
         None => Wanted::Mark(b')'),
         Some(mark) => Wanted::Mark(*mark),
     }
@@ -90,14 +91,14 @@ fn wanted_mark(owed: &Stack<u8>) -> Wanted {
 
 impl<'t, 'a> Reader<'t, 'a> {
     // A token of arguments.
-    fn token_inside(&mut self, owed: &mut Stack<u8>) -> Result<PlacedToken<'a>, Stuck>
-        ensures { Gives (λ token. (placed_view token, owed.new, placed_views self.new.rest.now)) result (token_inside owed.old (placed_views self.old.rest.now)) }
+    fn token_inside(&mut self, closers: &mut Stack<u8>) -> Result<PlacedToken<'a>, ParseError>
+        ensures { Gives (λ token. (placed_view token, closers.new, placed_views self.new.rest.now)) result (token_inside closers.old (placed_views self.old.rest.now)) }
     {
         match self.rest {
-            [] => Err(Stuck::Expected(wanted_mark(owed))),
+            [] => Err(ParseError::Expected(wanted_mark(closers))),
             [first, rest @ ..] => {
-                if !follows(owed, &first.token)? {
-                    return Err(Stuck::Expected(wanted_mark(owed)));
+                if !follows(closers, &first.token)? {
+                    return Err(ParseError::Expected(wanted_mark(closers)));
                 }
                 self.rest = rest;
                 Ok(copy_of(first))
@@ -106,27 +107,27 @@ impl<'t, 'a> Reader<'t, 'a> {
     }
 
     // Whether the parenthesis that closes comes first.
-    #[tactic(auto, using(crate::proofs::Loops::paid))]
-    fn ends_arguments(&self, owed: &Stack<u8>) -> bool
-        ensures { result ≡ (are_paid owed.now && starts (is_mark 41) (placed_views self.now.rest.now)) }
+    #[tactic(auto, using(crate::proofs::Loops::none_open_is))]
+    fn ends_arguments(&self, closers: &Stack<u8>) -> bool
+        ensures { result ≡ (none_open closers.now && starts (is_mark closing_code) (placed_views self.now.rest.now)) }
     {
-        owed.is_empty() && self.starts_mark(b')')
+        closers.is_empty() && self.starts_mark(b')')
     }
 
     // Tokens up to the parenthesis that closes.
-    fn tokens_inside(&mut self) -> Result<Vec<PlacedToken<'a>>, Stuck>
+    fn tokens_inside(&mut self) -> Result<Vec<PlacedToken<'a>>, ParseError>
         ensures { Gives (λ tokens. (placed_views tokens.items, placed_views self.new.rest.now)) result (inside_at [] (placed_views self.old.rest.now)) }
     {
-        let mut owed = Stack::new(self.alloc);
+        let mut closers = Stack::new(self.alloc);
         let mut items = Vec::new(self.alloc);
-        while !self.ends_arguments(&owed) {
-            items.push(self.token_inside(&mut owed)?)?;
+        while !self.ends_arguments(&closers) {
+            items.push(self.token_inside(&mut closers)?)?;
         }
         Ok(items)
     }
 
     #[tactic(auto, unfolding(crate::specs::Read::arguments_at))]
-    pub(crate) fn arguments(&mut self) -> Result<Arguments<'a>, Stuck>
+    pub(crate) fn arguments(&mut self) -> Result<Arguments<'a>, ParseError>
         ensures { Gives (λ arguments. (arguments, placed_views self.new.rest.now)) result (arguments_at (placed_views self.old.rest.now)) }
     {
         let place = self.place();
@@ -137,7 +138,7 @@ impl<'t, 'a> Reader<'t, 'a> {
         Ok(Arguments { items, place, end })
     }
 
-    fn maybe_arguments(&mut self) -> Result<Option<Arguments<'a>>, Stuck>
+    fn maybe_arguments(&mut self) -> Result<Option<Arguments<'a>>, ParseError>
         ensures { Gives (λ arguments. (arguments, placed_views self.new.rest.now)) result (maybe_arguments_at (placed_views self.old.rest.now)) }
     {
         if self.starts_mark(b'(') {
@@ -147,7 +148,7 @@ impl<'t, 'a> Reader<'t, 'a> {
         }
     }
 
-    pub(crate) fn installed(&mut self) -> Result<Installed<'a>, Stuck>
+    pub(crate) fn installed(&mut self) -> Result<Installed<'a>, ParseError>
         ensures { Gives (λ installed. (installed, placed_views self.new.rest.now)) result (maybe_arguments_at (placed_views self.old.rest.now)) }
     {
         let place = self.place();
@@ -155,7 +156,7 @@ impl<'t, 'a> Reader<'t, 'a> {
         Ok(Installed { arguments, place })
     }
 
-    fn maybe_code(&mut self) -> Result<Option<Number<'a>>, Stuck>
+    fn maybe_code(&mut self) -> Result<Option<Number<'a>>, ParseError>
         ensures { Gives (λ code. (code, placed_views self.new.rest.now)) result (maybe_code_at (placed_views self.old.rest.now)) }
     {
         if self.starts_number() {
@@ -165,7 +166,7 @@ impl<'t, 'a> Reader<'t, 'a> {
         }
     }
 
-    fn maybe_text(&mut self) -> Result<Option<Quoted<'a>>, Stuck>
+    fn maybe_text(&mut self) -> Result<Option<Quoted<'a>>, ParseError>
         ensures { Gives (λ text. (text, placed_views self.new.rest.now)) result (maybe_text_at (placed_views self.old.rest.now)) }
     {
         if self.starts_text() {
@@ -177,7 +178,7 @@ impl<'t, 'a> Reader<'t, 'a> {
 
     // A reject after its word.
     #[tactic(auto, unfolding(crate::specs::Read::reject_at))]
-    fn rejects(&mut self) -> Result<Outcome<'a>, Stuck>
+    fn rejects(&mut self) -> Result<Outcome<'a>, ParseError>
         ensures { Gives (λ outcome. (outcome, placed_views self.new.rest.now)) result (map_at rejects_of reject_at (placed_views self.old.rest.now)) }
     {
         let code = self.maybe_code()?;
@@ -186,7 +187,7 @@ impl<'t, 'a> Reader<'t, 'a> {
     }
 
     #[tactic(auto, unfolding(crate::specs::Read::outcome_at))]
-    fn outcome(&mut self) -> Result<Outcome<'a>, Stuck>
+    fn outcome(&mut self) -> Result<Outcome<'a>, ParseError>
         ensures { Gives (λ outcome. (outcome, placed_views self.new.rest.now)) result (outcome_at (placed_views self.old.rest.now)) }
     {
         if self.starts_word(Keyword::Replies) {
@@ -199,7 +200,7 @@ impl<'t, 'a> Reader<'t, 'a> {
             self.advance();
             Ok(Outcome::Refused)
         } else {
-            Err(Stuck::Expected(Wanted::Outcome))
+            Err(ParseError::Expected(Wanted::Outcome))
         }
     }
 
@@ -213,7 +214,7 @@ impl<'t, 'a> Reader<'t, 'a> {
     }
 
     // An outcome after `or`.
-    fn alternative(&mut self) -> Result<Outcome<'a>, Stuck>
+    fn alternative(&mut self) -> Result<Outcome<'a>, ParseError>
         ensures { Gives (λ outcome. (outcome, placed_views self.new.rest.now)) result (alternative_at (placed_views self.old.rest.now)) }
     {
         self.expect_word(Keyword::Or)?;
@@ -222,7 +223,7 @@ impl<'t, 'a> Reader<'t, 'a> {
 
     // Outcomes with `or` between them.
     #[tactic(auto, unfolding(crate::specs::Read::outcomes_at))]
-    fn outcomes(&mut self) -> Result<Vec<Outcome<'a>>, Stuck>
+    fn outcomes(&mut self) -> Result<Vec<Outcome<'a>>, ParseError>
         ensures { Gives (λ outcomes. (outcomes.items, placed_views self.new.rest.now)) result (outcomes_at (placed_views self.old.rest.now)) }
     {
         let mut items = Vec::new(self.alloc);
@@ -234,7 +235,7 @@ impl<'t, 'a> Reader<'t, 'a> {
     }
 
     #[tactic(auto, unfolding(crate::specs::Read::expected_at))]
-    pub(crate) fn expected(&mut self) -> Result<Expected<'a>, Stuck>
+    pub(crate) fn expected(&mut self) -> Result<Expected<'a>, ParseError>
         ensures { Gives (λ expected. (expected, placed_views self.new.rest.now)) result (expected_at (placed_views self.old.rest.now)) }
     {
         let start = self.place();

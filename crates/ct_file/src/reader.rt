@@ -7,7 +7,7 @@ ghost use Rattle.cd_tokens.specs.Front.{is_mark, starts};
 ghost use Rattle.ct_file.specs.Words.{is_word};
 ghost use Rattle.ct_file.specs.Read.{is_numeric, is_quoted, are_none, past, token_name, text_written, token_text, in_range, token_number, token_method, name_at, text_at, number_at, method_at};
 
-use crate::cause::{Stuck, Wanted};
+use crate::cause::{ParseError, Wanted};
 use crate::keyword::Keyword;
 use crate::leaf::{Name, Number, Quoted};
 use crate::tree::Method;
@@ -67,24 +67,24 @@ fn name_of<'a>(placed: &PlacedToken<'a>) -> Option<Name<'a>>
 }
 
 // The text between the quotes, where they say one.
-fn quoted_of<'a>(alloc: Global, written: &'a [u8], place: usize) -> Result<Quoted<'a>, Stuck>
+fn quoted_of<'a>(alloc: Global, written: &'a [u8], place: usize) -> Result<Quoted<'a>, ParseError>
     ensures { Gives (λ quoted. quoted) result (text_written written.now) }
 {
     match text_of(alloc, written) {
         Ok(_) => Ok(Quoted { written, place }),
-        Err(ReadError::Refused) => Err(Stuck::BadString),
-        Err(ReadError::NoMemory) => Err(Stuck::NoMemory),
+        Err(ReadError::Refused) => Err(ParseError::BadString),
+        Err(ReadError::NoMemory) => Err(ParseError::NoMemory),
     }
 }
 
-fn text_token_of<'a>(alloc: Global, placed: &PlacedToken<'a>) -> Result<Quoted<'a>, Stuck>
+fn text_token_of<'a>(alloc: Global, placed: &PlacedToken<'a>) -> Result<Quoted<'a>, ParseError>
     ensures { Gives (λ quoted. quoted) result (token_text (placed_view placed.now)) }
 {
     match &placed.token {
         Token::Quoted(string) => quoted_of(alloc, string.bytes, placed.place),
-        Token::Run(_) => Err(Stuck::Expected(Wanted::Text)),
-        Token::Mark(_) => Err(Stuck::Expected(Wanted::Text)),
-        Token::Arrow => Err(Stuck::Expected(Wanted::Text)),
+        Token::Run(_) => Err(ParseError::Expected(Wanted::Text)),
+        Token::Mark(_) => Err(ParseError::Expected(Wanted::Text)),
+        Token::Arrow => Err(ParseError::Expected(Wanted::Text)),
     }
 }
 
@@ -113,7 +113,11 @@ fn wanted_number(run: &[u8], least: u128, most: u128) -> Wanted {
     }
 }
 
-fn number_of<'a>(placed: &PlacedToken<'a>, least: u128, most: u128) -> Result<Number<'a>, Stuck>
+fn number_of<'a>(
+    placed: &PlacedToken<'a>,
+    least: u128,
+    most: u128,
+) -> Result<Number<'a>, ParseError>
     ensures { Gives (λ number. number) result (token_number least most (placed_view placed.now)) }
 {
     match &placed.token {
@@ -123,21 +127,21 @@ fn number_of<'a>(placed: &PlacedToken<'a>, least: u128, most: u128) -> Result<Nu
                 value,
                 place: placed.place,
             }),
-            None => Err(Stuck::Expected(wanted_number(run.bytes, least, most))),
+            None => Err(ParseError::Expected(wanted_number(run.bytes, least, most))),
         },
-        Token::Quoted(_) => Err(Stuck::Expected(Wanted::Number)),
-        Token::Mark(_) => Err(Stuck::Expected(Wanted::Number)),
-        Token::Arrow => Err(Stuck::Expected(Wanted::Number)),
+        Token::Quoted(_) => Err(ParseError::Expected(Wanted::Number)),
+        Token::Mark(_) => Err(ParseError::Expected(Wanted::Number)),
+        Token::Arrow => Err(ParseError::Expected(Wanted::Number)),
     }
 }
 
-fn method_of<'a>(alloc: Global, placed: &PlacedToken<'a>) -> Result<Method<'a>, Stuck>
+fn method_of<'a>(alloc: Global, placed: &PlacedToken<'a>) -> Result<Method<'a>, ParseError>
     ensures { Gives (λ method. method) result (token_method (placed_view placed.now)) }
 {
     match &placed.token {
         Token::Run(run) => {
             if !is_name(run.bytes) {
-                return Err(Stuck::Expected(Wanted::Method));
+                return Err(ParseError::Expected(Wanted::Method));
             }
             Ok(Method::Word(Name {
                 bytes: run.bytes,
@@ -146,10 +150,10 @@ fn method_of<'a>(alloc: Global, placed: &PlacedToken<'a>) -> Result<Method<'a>, 
         }
         Token::Quoted(string) => match quoted_of(alloc, string.bytes, placed.place) {
             Ok(quoted) => Ok(Method::Text(quoted)),
-            Err(stuck) => Err(stuck),
+            Err(parse_error) => Err(parse_error),
         },
-        Token::Mark(_) => Err(Stuck::Expected(Wanted::Method)),
-        Token::Arrow => Err(Stuck::Expected(Wanted::Method)),
+        Token::Mark(_) => Err(ParseError::Expected(Wanted::Method)),
+        Token::Arrow => Err(ParseError::Expected(Wanted::Method)),
     }
 }
 
@@ -223,35 +227,35 @@ impl<'t, 'a> Reader<'t, 'a> {
     }
 
     /// Goes past the mark.
-    pub(crate) fn expect_mark(&mut self, mark: u8) -> Result<(), Stuck>
+    pub(crate) fn expect_mark(&mut self, mark: u8) -> Result<(), ParseError>
         ensures { Gives (λ done. placed_views self.new.rest.now) result (past (is_mark mark) (placed_views self.old.rest.now)) }
     {
         if !self.starts_mark(mark) {
-            return Err(Stuck::Expected(Wanted::Mark(mark)));
+            return Err(ParseError::Expected(Wanted::Mark(mark)));
         }
         self.advance();
         Ok(())
     }
 
     /// Goes past the word.
-    pub(crate) fn expect_word(&mut self, word: Keyword) -> Result<(), Stuck>
+    pub(crate) fn expect_word(&mut self, word: Keyword) -> Result<(), ParseError>
         ensures { Gives (λ done. placed_views self.new.rest.now) result (past (is_word word) (placed_views self.old.rest.now)) }
     {
         if !self.starts_word(word) {
-            return Err(Stuck::Expected(Wanted::Word(word)));
+            return Err(ParseError::Expected(Wanted::Word(word)));
         }
         self.advance();
         Ok(())
     }
 
     /// A name, where this is wanted.
-    pub(crate) fn name_for(&mut self, wanted: Wanted) -> Result<Name<'a>, Stuck>
+    pub(crate) fn name_for(&mut self, wanted: Wanted) -> Result<Name<'a>, ParseError>
         ensures { Gives (λ name. (name, placed_views self.new.rest.now)) result (name_at (placed_views self.old.rest.now)) }
     {
         match self.rest {
-            [] => Err(Stuck::Expected(wanted)),
+            [] => Err(ParseError::Expected(wanted)),
             [first, rest @ ..] => match name_of(first) {
-                None => Err(Stuck::Expected(wanted)),
+                None => Err(ParseError::Expected(wanted)),
                 Some(name) => {
                     self.rest = rest;
                     Ok(name)
@@ -260,17 +264,17 @@ impl<'t, 'a> Reader<'t, 'a> {
         }
     }
 
-    pub(crate) fn name(&mut self) -> Result<Name<'a>, Stuck>
+    pub(crate) fn name(&mut self) -> Result<Name<'a>, ParseError>
         ensures { Gives (λ name. (name, placed_views self.new.rest.now)) result (name_at (placed_views self.old.rest.now)) }
     {
         self.name_for(Wanted::Name)
     }
 
-    pub(crate) fn text(&mut self) -> Result<Quoted<'a>, Stuck>
+    pub(crate) fn text(&mut self) -> Result<Quoted<'a>, ParseError>
         ensures { Gives (λ text. (text, placed_views self.new.rest.now)) result (text_at (placed_views self.old.rest.now)) }
     {
         match self.rest {
-            [] => Err(Stuck::Expected(Wanted::Text)),
+            [] => Err(ParseError::Expected(Wanted::Text)),
             [first, rest @ ..] => {
                 let text = text_token_of(self.alloc, first)?;
                 self.rest = rest;
@@ -280,11 +284,11 @@ impl<'t, 'a> Reader<'t, 'a> {
     }
 
     /// A number without a sign, from least to most.
-    pub(crate) fn number(&mut self, least: u128, most: u128) -> Result<Number<'a>, Stuck>
+    pub(crate) fn number(&mut self, least: u128, most: u128) -> Result<Number<'a>, ParseError>
         ensures { Gives (λ number. (number, placed_views self.new.rest.now)) result (number_at least most (placed_views self.old.rest.now)) }
     {
         match self.rest {
-            [] => Err(Stuck::Expected(Wanted::Number)),
+            [] => Err(ParseError::Expected(Wanted::Number)),
             [first, rest @ ..] => {
                 let number = number_of(first, least, most)?;
                 self.rest = rest;
@@ -293,11 +297,11 @@ impl<'t, 'a> Reader<'t, 'a> {
         }
     }
 
-    pub(crate) fn method(&mut self) -> Result<Method<'a>, Stuck>
+    pub(crate) fn method(&mut self) -> Result<Method<'a>, ParseError>
         ensures { Gives (λ method. (method, placed_views self.new.rest.now)) result (method_at (placed_views self.old.rest.now)) }
     {
         match self.rest {
-            [] => Err(Stuck::Expected(Wanted::Method)),
+            [] => Err(ParseError::Expected(Wanted::Method)),
             [first, rest @ ..] => {
                 let method = method_of(self.alloc, first)?;
                 self.rest = rest;

@@ -129,7 +129,7 @@ fn stop_fault(text: &[u8], stop: usize, invalid: Option<usize>) -> Fault
     }
 }
 
-// The fault after so many tokens, which are whole.
+// The fault after the first `len` tokens, which are whole.
 fn fault_after(
     text: &[u8],
     placed: &PlacedTokens<'_>,

@@ -75,9 +75,9 @@ pub struct Move<'a> {
 }
 
 impl<'a> Model for Move<'a> {
-    ghost use Rattle.ct_file.specs.Deed.{Deed};
+    ghost use Rattle.ct_file.specs.WrittenMove.{WrittenMove};
 
-    ghost Value = { Deed };
+    ghost Value = { WrittenMove };
 
     ghost view = { λ m. record { by = m.by; action = m.action } };
 }
@@ -185,9 +185,9 @@ pub struct Interleave<'a> {
 
 impl<'a> Model for Interleave<'a> {
     ghost use Rattle.std.specs.Prelude.{List};
-    ghost use Rattle.ct_file.specs.Deed.{Deed};
+    ghost use Rattle.ct_file.specs.WrittenMove.{WrittenMove};
 
-    ghost Value = { List Deed };
+    ghost Value = { List WrittenMove };
 
     ghost view = { λ i. i.items.items };
 }

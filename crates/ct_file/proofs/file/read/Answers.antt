@@ -17,5 +17,5 @@ returns-in-None-clause-only c =
 
 pub returns-clause-only : goal.returns-clause-only
 returns-clause-only c =
-    no_file c.in-Err.stuck (placed_views c.deref.result.now) c.args.text.now c.error_of.result c.error_of.ensures.memory.0 c.in-Err.ensures (λ file is.
+    no_file c.in-Err.parse_error (placed_views c.deref.result.now) c.args.text.now c.error_of.result c.error_of.ensures.memory.0 c.in-Err.ensures (λ file is.
     subst (λ ts. AreTokens (placed_views ts) c.args.text.now) (sym c.deref.ensures.value) (c.in_ok-tokens.ensures.found (c.in_ok-tokens.ensures.only (file_tokens file) is.are)))

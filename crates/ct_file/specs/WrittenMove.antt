@@ -3,6 +3,6 @@ use Rattle.std.specs.Prelude.{ℕ, List, Option}
 use Rattle.ct_file.specs.declared.tree.Action.{Action}
 
 -- an action, and the name after `as` of who does it
-pub record Deed : Type 0 where
+pub record WrittenMove : Type 0 where
   pub by : Option (List ℕ)
   pub action : Action
