@@ -3,3 +3,4 @@ pub mod Leaves
 pub mod Opened
 pub mod Fields
 pub mod Matches
+mod Rows
