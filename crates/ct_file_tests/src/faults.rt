@@ -1,4 +1,4 @@
-use crate::told;
+use crate::report;
 use std::test::*;
 
 /// A text, its line and column, and the cause.
@@ -255,7 +255,7 @@ fn files() -> &'static [Row] {
 #[test]
 fn faults_of_tokens(rt: HostRuntime) -> Result<(), Fail> {
     for row in tokens() {
-        assert_eq!(rt; told(rt.alloc(), row.0)?.as_str(), row.1, "{:?}", row.0);
+        assert_eq!(rt; report(rt.alloc(), row.0)?.as_str(), row.1, "{:?}", row.0);
     }
     Ok(())
 }
@@ -263,7 +263,7 @@ fn faults_of_tokens(rt: HostRuntime) -> Result<(), Fail> {
 #[test]
 fn faults_of_the_grammar(rt: HostRuntime) -> Result<(), Fail> {
     for row in grammar() {
-        assert_eq!(rt; told(rt.alloc(), row.0)?.as_str(), row.1, "{:?}", row.0);
+        assert_eq!(rt; report(rt.alloc(), row.0)?.as_str(), row.1, "{:?}", row.0);
     }
     Ok(())
 }
@@ -271,7 +271,7 @@ fn faults_of_the_grammar(rt: HostRuntime) -> Result<(), Fail> {
 #[test]
 fn faults_in_files(rt: HostRuntime) -> Result<(), Fail> {
     for row in files() {
-        assert_eq!(rt; told(rt.alloc(), row.0)?.as_str(), row.1, "{:?}", row.0);
+        assert_eq!(rt; report(rt.alloc(), row.0)?.as_str(), row.1, "{:?}", row.0);
     }
     Ok(())
 }

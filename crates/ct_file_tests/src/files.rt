@@ -1,5 +1,5 @@
-use crate::told;
-use ct_file::{Action, File, Message, Method, Move, StatementKind, Step, read};
+use crate::report;
+use ct_file::{Action, File, Message, Method, Move, Origin, Statement, StatementKind, Step, read};
 use std::test::*;
 
 /// Texts that are files.
@@ -29,7 +29,7 @@ fn files() -> &'static [&'static [u8]] {
 #[test]
 fn texts_that_are_files(rt: HostRuntime) -> Result<(), Fail> {
     for text in files() {
-        assert_eq!(rt; told(rt.alloc(), text)?.as_str(), "a file", "{text:?}");
+        assert_eq!(rt; report(rt.alloc(), text)?.as_str(), "a file", "{text:?}");
     }
     Ok(())
 }
@@ -38,7 +38,7 @@ fn texts_that_are_files(rt: HostRuntime) -> Result<(), Fail> {
 fn first_move<'f, 'a>(file: &'f File<'a>) -> Option<&'f Move<'a>> {
     match file.tests.items.first()?.steps.items.first()? {
         Step::Statement(statement) => match &statement.kind {
-            StatementKind::Move(made) => Some(made),
+            StatementKind::Move(only_move) => Some(only_move),
             _ => None,
         },
         Step::Interleave(_) => None,
@@ -70,16 +70,56 @@ fn places_of(message: &Message<'_>) -> Option<[usize; 7]> {
 fn places_in_a_file(rt: HostRuntime) -> Result<(), Fail> {
     let text = b"user a;\ntest \"x\" { as a call b.c (5) replies ( 6); }";
     let file = read(rt.alloc(), text)?;
-    let Some(made) = first_move(&file) else {
+    let Some(only_move) = first_move(&file) else {
         assert!(rt; false, "no move");
         return Ok(());
     };
-    assert!(rt; (made.span.start, made.span.end) == (19, 49));
-    match &made.action {
+    assert!(rt; (only_move.span.start, only_move.span.end) == (19, 49));
+    match &only_move.action {
         Action::Call(message) => {
             assert!(rt; places_of(message) == Some([29, 31, 33, 34, 35, 37, 49]));
         }
         _ => assert!(rt; false, "no call"),
     }
+    Ok(())
+}
+
+// Where a statement begins and ends, and the place of the token where its arguments would be.
+fn installed_places(statement: &Statement<'_>) -> Option<[usize; 3]> {
+    let arguments = match &statement.kind {
+        StatementKind::Canister {
+            origin: Origin::Made(creation),
+            ..
+        } => &creation.arguments,
+        StatementKind::Move(upgrade) => match &upgrade.action {
+            Action::Upgrade(change) => &change.arguments,
+            _ => return None,
+        },
+        _ => return None,
+    };
+    Some([statement.span.start, statement.span.end, arguments.place])
+}
+
+// The place of the interleave that a file's first test begins with.
+fn interleave_place(file: &File<'_>) -> Option<usize> {
+    match file.tests.items.first()?.steps.items.first()? {
+        Step::Interleave(interleave) => Some(interleave.place),
+        Step::Statement(_) => None,
+    }
+}
+
+#[test]
+fn places_of_statements(rt: HostRuntime) -> Result<(), Fail> {
+    let text =
+        b"canister s = \"strict.wasm\", \"strict.did\" // none\n;\nupgrade s = \"strict.wasm\"\n  rejects;\ntest \"x\" { interleave { query s.get (); } }";
+    let file = read(rt.alloc(), text)?;
+    match (file.preamble.items.first(), file.preamble.items.get(1)) {
+        (Some(made), Some(changed)) => {
+            assert!(rt; installed_places(made) == Some([0, 49, 49]));
+            assert!(rt; installed_places(changed) == Some([51, 86, 79]));
+        }
+        _ => assert!(rt; false, "no statements"),
+    }
+    assert!(rt; interleave_place(&file) == Some(99));
     Ok(())
 }

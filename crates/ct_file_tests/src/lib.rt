@@ -9,8 +9,8 @@ mod files;
 use ct_file::{FileError, position_of, read};
 use std::alloc::{AllocError, Global};
 
-/// What is told of a text: its fault with line and column, or that it is a file.
-pub fn told(alloc: Global, text: &[u8]) -> Result<String, AllocError> {
+/// What is reported of a text: its fault with line and column, or that it is a file.
+pub fn report(alloc: Global, text: &[u8]) -> Result<String, AllocError> {
     match read(alloc, text) {
         Ok(_) => format!(in alloc; "a file"),
         Err(FileError::NoMemory) => format!(in alloc; "out of memory"),
