@@ -1,5 +1,6 @@
 use crate::faults::interface_of;
 use cd_did::names_of;
+use ic_base::ReadError;
 use std::alloc::Global;
 use std::test::*;
 
@@ -107,4 +108,20 @@ fn names(rt: HostRuntime) {
     for row in rows() {
         assert!(rt; is_named(rt.alloc(), row), "{:?}", row.0);
     }
+}
+
+// A text that has no tokens has no names, and is refused.
+fn is_refused(alloc: Global) -> bool {
+    match interface_of(alloc, b"type A = nat") {
+        Err(_) => false,
+        Ok(interface) => matches!(
+            names_of(alloc, &interface.table, b"type \""),
+            Err(ReadError::Refused)
+        ),
+    }
+}
+
+#[test]
+fn no_tokens(rt: HostRuntime) {
+    assert!(rt; is_refused(rt.alloc()));
 }
