@@ -1,4 +1,4 @@
-use ic_principal::Principal;
+use ic_principal::{Bytes, Principal, Text};
 use std::alloc::Global;
 use std::cmp::Ordering;
 
@@ -50,4 +50,38 @@ fn order(rt: HostRuntime) {
             assert!(rt; are_ordered(low, high, i.cmp(&j)));
         }
     }
+}
+
+fn is_copied(bytes: &Bytes) -> bool {
+    match bytes.copy() {
+        Ok(copy) => copy.items.as_slice() == bytes.items.as_slice(),
+        Err(_) => false,
+    }
+}
+
+fn is_text_copied(text: &Text) -> bool {
+    match text.copy() {
+        Ok(copy) => copy.items.as_str() == text.items.as_str(),
+        Err(_) => false,
+    }
+}
+
+fn are_bytes_copied(alloc: Global) -> bool {
+    match Vec::from_slice(alloc, &[1, 2, 3]) {
+        Ok(items) => is_copied(&Bytes { items }),
+        Err(_) => false,
+    }
+}
+
+fn is_a_text_copied(alloc: Global) -> bool {
+    match String::from_str(alloc, "text") {
+        Ok(items) => is_text_copied(&Text { items }),
+        Err(_) => false,
+    }
+}
+
+#[test]
+fn copies(rt: HostRuntime) {
+    assert!(rt; are_bytes_copied(rt.alloc()));
+    assert!(rt; is_a_text_copied(rt.alloc()));
 }
