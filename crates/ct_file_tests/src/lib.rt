@@ -5,6 +5,8 @@
 mod faults;
 #[cfg(test)]
 mod files;
+#[cfg(test)]
+mod names;
 
 use ct_file::{FileError, position_of, read};
 use std::alloc::{AllocError, Global};
