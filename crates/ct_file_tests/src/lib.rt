@@ -7,6 +7,8 @@ mod faults;
 mod files;
 #[cfg(test)]
 mod names;
+#[cfg(test)]
+mod patterns;
 
 use ct_file::{FileError, position_of, read};
 use std::alloc::{AllocError, Global};
