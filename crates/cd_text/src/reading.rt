@@ -88,7 +88,7 @@ fn past_variant<'t, 'a>(tokens: &'t [Token<'a>]) -> Option<&'t [Token<'a>]>
     }
 }
 
-/// What is left of the number of values behind a null that is not written.
+/// What is left of the number of values after a null that is not written.
 #[tactic(auto, using(crate::proofs::Narrow::no_null))]
 pub(crate) fn without_null(table: &TypeTable, ty: TyRef, depth: u32, left: u32) -> Option<u32>
     ensures { (tokens : List token.Token) → option_map (λ less. (plain null, less, tokens)) result ≡ null_at depth (shape table.now ty) left tokens }

@@ -12,7 +12,7 @@ placed_view placed = token_view placed.token
 abbrev pub placed_views : List PlacedToken → List Token
 placed_views tokens = map placed_view tokens
 
--- each token stands in the text
+-- each token begins within the text
 abbrev pub is_within : List ℕ → PlacedToken → Bool
 is_within text placed = nat_lt placed.place (length text)
 

@@ -26,7 +26,7 @@ pub fn shown_in(alloc: Global, bytes: &[u8]) -> Result<String, Fail> {
     }
 }
 
-/// The first instruction of a module, as it is shown, behind its opcode.
+/// The first instruction of a module, as it is shown, after its opcode.
 fn first_shown(alloc: Global, module: &Module) -> Result<String, Fail> {
     let code = module.codes.items.first().ok_or("a code")?;
     let instr = code.body.items.first().ok_or("an instruction")?;

@@ -9,7 +9,7 @@ const TYPE: [u8; 6] = [0x01, 0x04, 0x01, 0x60, 0x00, 0x00];
 
 const FUNCTION: [u8; 4] = [0x03, 0x02, 0x01, 0x00];
 
-/// The parts, one behind the other.
+/// The parts, one after the other.
 fn joined(alloc: Global, parts: &[&[u8]]) -> Result<Vec<u8>, NoMemory> {
     let mut bytes = Vec::new(alloc);
     for part in parts {
@@ -18,20 +18,20 @@ fn joined(alloc: Global, parts: &[&[u8]]) -> Result<Vec<u8>, NoMemory> {
     Ok(bytes)
 }
 
-/// The parts behind the magic bytes.
+/// The magic bytes, and the parts after them.
 pub fn module_of(alloc: Global, parts: &[&[u8]]) -> Result<Vec<u8>, NoMemory> {
-    let behind = joined(alloc, parts)?;
-    joined(alloc, &[&MAGIC, &behind])
+    let body = joined(alloc, parts)?;
+    joined(alloc, &[&MAGIC, &body])
 }
 
-/// The bytes behind these and their number.
+/// The number of the bytes, and the bytes.
 fn sized(alloc: Global, front: &[u8], content: &[u8]) -> Result<Vec<u8>, NoMemory> {
     let mut size = Vec::new(alloc);
     write_u(content.len() as u128, &mut size)?;
     joined(alloc, &[front, &size, content])
 }
 
-/// A module with one function that has this code, behind its size.
+/// A module with one function that has this code, after its size.
 fn with_code(alloc: Global, code: &[u8]) -> Result<Vec<u8>, NoMemory> {
     let codes = sized(alloc, &[0x01], code)?;
     let section = sized(alloc, &[0x0A], &codes)?;

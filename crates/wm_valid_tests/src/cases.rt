@@ -1,4 +1,4 @@
-// Tables of bytes. A test that wrote one out would be long to prove, so each stands behind a function.
+// Tables of bytes. A test that wrote one out would be long to prove, so each has a function of its own.
 
 // Instructions in the order of their opcodes (WebAssembly Core 2.0, 5.4): the first opcode, the
 // names from there on, what follows each opcode, and how that is shown.
@@ -137,7 +137,7 @@ static PADDED: [(&'static [u8], &'static [u8]); 10] = [
     (b"\x01\x01\x00", b""),
     // a data count
     (b"\x0C\x01\x00", b""),
-    // a padded table, and a padded number behind the prefix
+    // a padded table, and a padded number after the prefix
     (
         b"\x03\x02\x01\x00\x0A\x0B\x01\x09\x00\x11\x00\x80\x80\x80\x80\x00\x0B",
         b"\x03\x02\x01\x00\x0A\x07\x01\x05\x00\x11\x00\x00\x0B",

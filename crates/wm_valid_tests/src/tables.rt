@@ -1,4 +1,4 @@
-// Tables. A test that wrote one out would be long to prove, so each stands behind a function.
+// Tables. A test that wrote one out would be long to prove, so each has a function of its own.
 use wm_valid::EntryName;
 
 // One type, six functions of it, their exports and their empty bodies.
