@@ -14,7 +14,7 @@ use std::alloc::Global;
 
 /// The place of the field or case with an id, and the field; time grows with the logarithm of their
 /// number.
-pub(crate) fn find(fields: &[(u32, TyRef)], id: u64) -> Option<(usize, (u32, TyRef))>
+pub fn find(fields: &[(u32, TyRef)], id: u64) -> Option<(usize, (u32, TyRef))>
     requires { ids_rise_from 0 (map (λ f. f.0) fields.now) ≡ true }
     ensures place { MatchOption result (place_of fields.now id ≡ None) (λ f. place_of fields.now id ≡ Some f.0) }
     ensures field { MatchOption result (type_of fields.now id ≡ None) (λ f. (type_of fields.now id ≡ Some f.1.1) × (f.1.0 ≡ id)) }

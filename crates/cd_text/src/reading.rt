@@ -20,7 +20,7 @@ use std::alloc::Global;
 
 /// The name of a primitive type.
 #[tactic(auto, unfolding(crate::specs::Words::name_of))]
-pub(crate) fn name_of(prim: Prim) -> &'static [u8]
+pub fn name_of(prim: Prim) -> &'static [u8]
     ensures { result.now ≡ name_of prim }
 {
     match prim {
@@ -90,7 +90,7 @@ fn past_variant<'t, 'a>(tokens: &'t [Token<'a>]) -> Option<&'t [Token<'a>]>
 
 /// What is left of the number of values after a null that is not written.
 #[tactic(auto, using(crate::proofs::Narrow::no_null))]
-pub(crate) fn without_null(table: &TypeTable, ty: TyRef, depth: u32, left: u32) -> Option<u32>
+pub fn without_null(table: &TypeTable, ty: TyRef, depth: u32, left: u32) -> Option<u32>
     ensures { (tokens : List token.Token) → option_map (λ less. (plain null, less, tokens)) result ≡ null_at depth (shape table.now ty) left tokens }
 {
     let _entries = table.len();

@@ -1,6 +1,6 @@
 ghost use Rattle.std.specs.Prelude.{◌≡◌, ◌≤◌, List, None, IfOk, IfSome, length, true};
 ghost use Rattle.cd_tokens.specs.Lexed.{IsTokens};
-ghost use Rattle.cd_tokens.specs.Placed.{placed_views, are_within};
+ghost use Rattle.cd_tokens.specs.Placed.{placed_view, placed_views, are_within};
 ghost use Rattle.cd_tokens.specs.Token as token;
 
 use crate::gap::{gap_len, past_gap};
@@ -13,6 +13,19 @@ use std::alloc::Global;
 pub struct PlacedToken<'a> {
     pub token: Token<'a>,
     pub place: usize,
+}
+
+impl<'a> PlacedToken<'a> {
+    /// The same token at the same place.
+    pub fn copy(&self) -> PlacedToken<'a>
+        ensures token { placed_view result ≡ placed_view self.now }
+        ensures place { result.place ≡ self.now.place }
+    {
+        PlacedToken {
+            token: self.token.copy(),
+            place: self.place,
+        }
+    }
 }
 
 /// The tokens of a text, as far as they can be read.

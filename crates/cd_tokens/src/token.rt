@@ -26,6 +26,20 @@ pub enum Token<'a> {
     Arrow,
 }
 
+impl<'a> Token<'a> {
+    /// The same token; it owns nothing.
+    pub fn copy(&self) -> Token<'a>
+        ensures { token_view result ≡ token_view self.now }
+    {
+        match self {
+            Token::Run(run) => Token::Run(run.copy()),
+            Token::Quoted(string) => Token::Quoted(string.copy()),
+            Token::Mark(mark) => Token::Mark(*mark),
+            Token::Arrow => Token::Arrow,
+        }
+    }
+}
+
 fn begins_run(byte: u8, rest: &[u8]) -> bool
     ensures { result ≡ begins_run byte rest.now }
 {

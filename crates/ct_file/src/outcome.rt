@@ -12,25 +12,8 @@ use crate::keyword::Keyword;
 use crate::leaf::{Arguments, Installed, Number, Quoted, Span};
 use crate::reader::Reader;
 use crate::tree::{Expected, Outcome};
-use cd_tokens::{Piece, PlacedToken, Token};
+use cd_tokens::{PlacedToken, Token};
 use ic_base::{NoMemory, Stack};
-
-fn copy_of<'a>(placed: &PlacedToken<'a>) -> PlacedToken<'a>
-    ensures { placed_view result ≡ placed_view placed.now }
-{
-    let token = match &placed.token {
-        Token::Run(run) => Token::Run(Piece { bytes: run.bytes }),
-        Token::Quoted(string) => Token::Quoted(Piece {
-            bytes: string.bytes,
-        }),
-        Token::Mark(mark) => Token::Mark(*mark),
-        Token::Arrow => Token::Arrow,
-    };
-    PlacedToken {
-        token,
-        place: placed.place,
-    }
-}
 
 // Whether the mark closes the innermost bracket that is open; then it does.
 fn close(closers: &mut Stack<u8>, mark: u8) -> bool
@@ -101,7 +84,7 @@ impl<'t, 'a> Reader<'t, 'a> {
                     return Err(ParseError::Expected(wanted_mark(closers)));
                 }
                 self.rest = rest;
-                Ok(copy_of(first))
+                Ok(first.copy())
             }
         }
     }

@@ -5,22 +5,9 @@ ghost use Rattle.ct_names.specs.Exchange.{Meanings, is_string, is_principal, wri
 
 use crate::meaning::Meaning;
 use crate::role::{Before, Role};
-use cd_tokens::{Piece, PlacedToken, Token, rest_of, starts_word};
+use cd_tokens::{PlacedToken, Token, rest_of, starts_word};
 use ic_base::NoMemory;
 use std::alloc::Global;
-
-fn copy_of<'a>(token: &Token<'a>) -> Token<'a>
-    ensures { token_view result ≡ token_view token.now }
-{
-    match token {
-        Token::Run(run) => Token::Run(Piece { bytes: run.bytes }),
-        Token::Quoted(string) => Token::Quoted(Piece {
-            bytes: string.bytes,
-        }),
-        Token::Mark(mark) => Token::Mark(*mark),
-        Token::Arrow => Token::Arrow,
-    }
-}
 
 // Adds tokens, all at one place.
 fn push_all<'a>(
@@ -33,7 +20,7 @@ fn push_all<'a>(
 {
     for token in tokens {
         out.push(PlacedToken {
-            token: copy_of(token),
+            token: token.copy(),
             place,
         })?;
     }
@@ -78,10 +65,7 @@ fn push_copy<'a>(placed: &PlacedToken<'a>, out: &mut Vec<PlacedToken<'a>>) -> Re
     ensures tokens { OnOk result (placed_views out.new.items ≡ placed_views out.old.items ++ placed_view placed.now ∷ []) }
     ensures places { OnOk result (places out.new.items ≡ places out.old.items ++ placed.now.place ∷ []) }
 {
-    out.push(PlacedToken {
-        token: copy_of(&placed.token),
-        place: placed.place,
-    })?;
+    out.push(placed.copy())?;
     Ok(())
 }
 

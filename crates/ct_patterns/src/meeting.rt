@@ -7,7 +7,6 @@ ghost use Rattle.ct_patterns.specs.Met.{met};
 use crate::opening::{open_step, open_values};
 use crate::step::{Binding, Bindings, Part, Step};
 use cd_codec::Value;
-use cd_tokens::Piece;
 use ic_base::NoMemory;
 use std::alloc::Global;
 
@@ -21,7 +20,7 @@ fn bind<'a, 'v>(
 {
     match step {
         Step::Bound { name, ty } => {
-            let name = Piece { bytes: name.bytes };
+            let name = name.copy();
             let ty = *ty;
             bindings.push(Binding { name, ty, part })?;
         }
