@@ -16,6 +16,7 @@ use ic_behaviour::{Controllers, Phase};
 use ic_principal::{Bytes, Principal};
 use std::alloc::Global;
 use std::marker::Model;
+use std::sync::Arc;
 use wm_store::Store;
 use wm_valid::Valid;
 
@@ -27,11 +28,11 @@ pub struct Code {
     pub hash: [u8; 32],
 }
 
-/// The code of a canister in a box, since it is large and its canister is moved with each message.
-/// Contracts see the code.
+/// The code of a canister in a place of its own, since it is large and its canister is moved with each
+/// message. Places may share it. Contracts see the code.
 #[derive(Debug, Drop)]
 pub struct CodePlace {
-    inner: Box<Code>,
+    inner: Arc<Code>,
 }
 
 impl Model for CodePlace {
@@ -39,7 +40,9 @@ impl Model for CodePlace {
 
     ghost Value = { Code };
 
-    ghost view = { λ p. p.inner.value };
+    ghost use Rattle.std.specs.Arc.{arc_value};
+
+    ghost view = { λ p. arc_value p.inner };
 }
 
 impl CodePlace {
@@ -47,7 +50,15 @@ impl CodePlace {
     pub fn new(alloc: Global, code: Code) -> Result<CodePlace, NoMemory>
         ensures { IfOk result (λ p. p ≡ code) }
     {
-        let inner = Box::new(alloc, code)?;
+        let inner = Arc::new(alloc, code)?;
+        Ok(CodePlace { inner })
+    }
+
+    /// A second place of the same code. It takes no memory; `NoMemory` comes where 2^63 places share it.
+    pub fn share(&self) -> Result<CodePlace, NoMemory>
+        ensures { IfOk result (λ p. p ≡ self.now) }
+    {
+        let inner = Arc::try_clone(&self.inner)?;
         Ok(CodePlace { inner })
     }
 
