@@ -5,7 +5,7 @@ use ic_principal::{Bytes, Principal, Text};
 
 /// The name of a call, and of the call context that it makes (IC Interface Specification, "Call
 /// contexts").
-#[derive(Clone, Copy, Debug, PartialEq, Eq, PartialOrd, Ord)]
+#[derive(Clone, Copy, Debug)]
 pub enum CallId {
     /// The call of the request with this number, counted from 0.
     Ingress(u32),
