@@ -1,0 +1,53 @@
+ghost use Rattle.std.specs.Prelude.{◌≡◌, ◌↔◌, IfOk, IsTrue};
+
+use ic_base::NoMemory;
+use ic_principal::{Bytes, Principal, Text};
+use std::alloc::Global;
+
+/// A value that is compared and copied as a whole.
+pub trait Exact: Drop {
+    /// Whether both are the same.
+    fn same(&self, other: &Self) -> bool
+        ensures { IsTrue result ↔ (self.now ≡ other.now) };
+
+    /// An equal value, in memory of its own.
+    fn copy(&self, alloc: Global) -> Result<Self, NoMemory>
+        ensures { IfOk result (λ copy. copy ≡ self.now) };
+}
+
+impl Exact for Principal {
+    #[tactic(auto, using(crate::proofs::Same::same_bytes))]
+    fn same(&self, other: &Principal) -> bool {
+        self == other
+    }
+
+    fn copy(&self, _alloc: Global) -> Result<Principal, NoMemory> {
+        Ok(*self)
+    }
+}
+
+impl Exact for Bytes {
+    #[tactic(auto, using(crate::proofs::Same::same_bytes))]
+    fn same(&self, other: &Bytes) -> bool {
+        self.items.as_slice() == other.items.as_slice()
+    }
+
+    fn copy(&self, alloc: Global) -> Result<Bytes, NoMemory> {
+        Ok(Bytes {
+            items: Vec::from_slice(alloc, self.items.as_slice())?,
+        })
+    }
+}
+
+impl Exact for Text {
+    #[tactic(auto, using(crate::proofs::Same::same_bytes))]
+    fn same(&self, other: &Text) -> bool {
+        self.items.as_bytes() == other.items.as_bytes()
+    }
+
+    fn copy(&self, alloc: Global) -> Result<Text, NoMemory> {
+        Ok(Text {
+            items: String::from_str(alloc, self.items.as_str())?,
+        })
+    }
+}
