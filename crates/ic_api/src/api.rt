@@ -17,7 +17,7 @@ use wm_valid::system_api::SystemCall;
 
 /// The host of a canister's code in one execution. Contracts see the kind of its entry point and its
 /// record.
-#[derive(Debug, Drop)]
+#[derive(Drop)]
 pub struct Api {
     // Large, and first, so that there is no gap before it where it is moved.
     es: Execution,

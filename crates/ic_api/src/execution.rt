@@ -2,7 +2,7 @@ use ic_behaviour::{OutCall, OutCalls, Response, View};
 use ic_principal::Bytes;
 
 /// The record of an execution: what it sees, and what happened in it.
-#[derive(Debug, Drop)]
+#[derive(Drop)]
 pub struct Execution {
     pub view: View,
     /// The reply as far as it is put together.

@@ -103,7 +103,7 @@ impl Message {
 }
 
 /// An answer that a canister gives: to the call of this origin, with the cycles that come back.
-#[derive(Debug, Drop)]
+#[derive(Drop)]
 pub struct Answered {
     pub origin: Origin,
     pub response: Response,

@@ -19,7 +19,7 @@ pub enum EntryKind {
 }
 
 /// What an execution sees when it begins (IC Interface Specification, "The execution state").
-#[derive(Debug, Drop)]
+#[derive(Drop)]
 pub struct View {
     /// Nanoseconds since 1970-01-01.
     pub time: u64,
@@ -49,7 +49,7 @@ pub struct View {
 }
 
 /// A call that goes out.
-#[derive(Debug, Drop)]
+#[derive(Drop)]
 pub struct OutCall {
     pub callee: Principal,
     pub method: Text,
@@ -59,7 +59,7 @@ pub struct OutCall {
 }
 
 /// The calls that go out, in the order in which they were performed. Contracts see the list.
-#[derive(Debug, Drop)]
+#[derive(Drop)]
 pub struct OutCalls {
     pub items: Vec<OutCall>,
 }
@@ -74,7 +74,7 @@ impl Model for OutCalls {
 }
 
 /// What an execution did that outlasts it, beside the store.
-#[derive(Debug, Drop)]
+#[derive(Drop)]
 pub struct Effects {
     pub balance: u128,
     pub available: u128,

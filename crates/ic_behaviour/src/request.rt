@@ -2,7 +2,7 @@ use crate::call::Response;
 use ic_principal::{Bytes, Principal, Text};
 
 /// What a user asked (IC Interface Specification, "Request: Call").
-#[derive(Debug, Drop)]
+#[derive(Drop)]
 pub struct Request {
     pub sender: Principal,
     pub callee: Principal,

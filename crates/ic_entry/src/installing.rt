@@ -19,7 +19,7 @@ use wm_semantics::Meter;
 use wm_valid::EntryName;
 
 /// What is installed, and how.
-#[derive(Debug, Drop)]
+#[derive(Drop)]
 pub struct Order {
     pub mode: Mode,
     pub code: Code,
@@ -30,7 +30,7 @@ pub struct Order {
 }
 
 /// A canister after an installation.
-#[derive(Debug, Drop)]
+#[derive(Drop)]
 pub struct Installed {
     pub canister: Canister,
     /// Why the code is not installed, if it is not.

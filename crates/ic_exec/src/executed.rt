@@ -2,7 +2,7 @@ use ic_state::{AnsweredList, Canister, Messages};
 use wm_semantics::Trap;
 
 /// What the execution of a message gave.
-#[derive(Debug, Drop)]
+#[derive(Drop)]
 pub struct Executed {
     pub canister: Canister,
     /// The calls that go out, in the order in which they were performed.

@@ -21,18 +21,31 @@ use wm_store::Store;
 use wm_valid::Valid;
 
 /// The code of a canister.
-#[derive(Debug, Drop)]
 pub struct Code {
     pub valid: Valid,
     /// The SHA-256 of the module's bytes.
     pub hash: [u8; 32],
 }
 
+impl Drop for Code {
+    fn drop(self) {
+        let Code {
+            valid: _valid,
+            hash: _,
+        } = self;
+    }
+}
+
 /// The code of a canister in a place of its own, since it is large and its canister is moved with each
 /// message. Places may share it. Contracts see the code.
-#[derive(Debug, Drop)]
 pub struct CodePlace {
     inner: Arc<Code>,
+}
+
+impl Drop for CodePlace {
+    fn drop(self) {
+        let CodePlace { inner: _inner } = self;
+    }
 }
 
 impl Model for CodePlace {
@@ -71,9 +84,14 @@ impl CodePlace {
 }
 
 /// The store of a canister in a box, as its code. Contracts see the store.
-#[derive(Debug, Drop)]
 pub struct StorePlace {
     inner: Box<Store>,
+}
+
+impl Drop for StorePlace {
+    fn drop(self) {
+        let StorePlace { inner: _inner } = self;
+    }
 }
 
 impl Model for StorePlace {
@@ -117,9 +135,14 @@ impl StorePlace {
 }
 
 /// A canister in a box, since it is large and moved with each message. Contracts see the canister.
-#[derive(Debug, Drop)]
 pub struct CanisterPlace {
     inner: Box<Canister>,
+}
+
+impl Drop for CanisterPlace {
+    fn drop(self) {
+        let CanisterPlace { inner: _inner } = self;
+    }
 }
 
 impl Model for CanisterPlace {
@@ -156,7 +179,6 @@ impl CanisterPlace {
 }
 
 /// A canister. What it keeps is said in `specs/IsCanister`.
-#[derive(Debug, Drop)]
 pub struct Canister {
     pub id: Principal,
     /// At most 10, in rising order.
@@ -171,6 +193,23 @@ pub struct Canister {
     pub next_call: u64,
     /// How many calls of the canister have no answer yet.
     pub outstanding: u32,
+}
+
+impl Drop for Canister {
+    fn drop(self) {
+        let Canister {
+            id: _,
+            controllers: _controllers,
+            balance: _,
+            code: _code,
+            store: _store,
+            certified: _certified,
+            contexts: _contexts,
+            phase: _phase,
+            next_call: _,
+            outstanding: _,
+        } = self;
+    }
 }
 
 impl Canister {

@@ -21,9 +21,14 @@ impl Model for Contexts {
 }
 
 /// A message in a box, since it is large and moved more than once before it is handled. Contracts see the message.
-#[derive(Debug, Drop)]
 pub struct MessagePlace {
     inner: Box<Message>,
+}
+
+impl Drop for MessagePlace {
+    fn drop(self) {
+        let MessagePlace { inner: _inner } = self;
+    }
 }
 
 impl Model for MessagePlace {
@@ -94,9 +99,14 @@ impl Messages {
 }
 
 /// Requests; the number of one is its place. Contracts see the list.
-#[derive(Debug, Drop)]
 pub struct Requests {
     pub items: Vec<Request>,
+}
+
+impl Drop for Requests {
+    fn drop(self) {
+        let Requests { items: _items } = self;
+    }
 }
 
 impl Model for Requests {
@@ -126,7 +136,7 @@ impl Requests {
 }
 
 /// Answers, in the order in which they are given. Contracts see the list.
-#[derive(Debug, Drop)]
+#[derive(Drop)]
 pub struct AnsweredList {
     pub items: Vec<Answered>,
 }

@@ -21,7 +21,6 @@ use std::collections::BTreeMap;
 use std::marker::Model;
 
 /// The fields of a `World`, open to change.
-#[derive(Debug, Drop)]
 pub struct Parts {
     pub canisters: BTreeMap<Principal, CanisterPlace>,
     pub messages: Messages,
@@ -36,8 +35,22 @@ pub struct Parts {
     pub next_canister: u64,
 }
 
+impl Drop for Parts {
+    fn drop(self) {
+        let Parts {
+            canisters: _canisters,
+            messages: _messages,
+            requests: _requests,
+            time: _,
+            created: _,
+            burned: _,
+            next_canister: _,
+        } = self;
+    }
+}
+
 /// Cycles: those that were created, those that are there, and those that were burned.
-#[derive(Clone, Copy, Debug)]
+#[derive(Clone, Copy)]
 pub struct Totals {
     pub created: u128,
     pub held: u128,
@@ -45,9 +58,14 @@ pub struct Totals {
 }
 
 /// A state. Contracts see the state that it stands for.
-#[derive(Debug, Drop)]
 pub struct World {
     parts: Parts,
+}
+
+impl Drop for World {
+    fn drop(self) {
+        let World { parts: _parts } = self;
+    }
 }
 
 impl Model for World {
@@ -97,7 +115,8 @@ impl World {
         ensures state { state_of result ≡ self }
         ensures keeps { IsWorld result }
     {
-        self.parts
+        let World { parts } = self;
+        parts
     }
 
     /// The world with these fields.
