@@ -10,7 +10,7 @@ use ic_state::{Answered, AnsweredList, IncomingCall, Messages, Parts, Response};
 use std::alloc::Global;
 
 /// What is sent once a method has changed the canisters.
-#[derive(Debug, Drop)]
+#[derive(Drop)]
 pub struct Ending {
     /// The answer to the call, with the cycles that go back; none where the call waits.
     pub reply: Option<(Response, u128)>,

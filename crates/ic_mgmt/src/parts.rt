@@ -4,32 +4,18 @@ ghost use Rattle.ic_mgmt.specs.Sweeping.{among};
 use ic_base::NoMemory;
 use ic_state::{Messages, Parts};
 use std::alloc::Global;
+use std::mem::replace;
 
 /// The parts without their messages, and these.
 pub fn taken_apart(alloc: Global, parts: Parts) -> (Parts, Messages)
     ensures rest { result.0 ≡ record parts { messages = [] } }
     ensures messages { result.1 ≡ parts.messages }
 {
-    let Parts {
-        canisters,
-        messages,
-        requests,
-        time,
-        created,
-        burned,
-        next_canister,
-    } = parts;
-    let rest = Parts {
-        canisters,
-        messages: Messages {
-            items: Vec::new(alloc),
-        },
-        requests,
-        time,
-        created,
-        burned,
-        next_canister,
+    let mut rest = parts;
+    let none = Messages {
+        items: Vec::new(alloc),
     };
+    let messages = replace(&mut rest.messages, none);
     (rest, messages)
 }
 
@@ -37,24 +23,8 @@ pub fn taken_apart(alloc: Global, parts: Parts) -> (Parts, Messages)
 pub fn put_together(kept: Messages, rest: Parts) -> Result<Parts, NoMemory>
     ensures { IfOk result (λ p. p ≡ among kept [] rest) }
 {
-    let mut kept = kept;
-    let Parts {
-        canisters,
-        messages,
-        requests,
-        time,
-        created,
-        burned,
-        next_canister,
-    } = rest;
-    kept.append(messages)?;
-    Ok(Parts {
-        canisters,
-        messages: kept,
-        requests,
-        time,
-        created,
-        burned,
-        next_canister,
-    })
+    let mut parts = rest;
+    let messages = replace(&mut parts.messages, kept);
+    parts.messages.append(messages)?;
+    Ok(parts)
 }

@@ -9,8 +9,9 @@ use crate::first_messages::handle_firsts;
 use crate::taken::taken_out;
 use ic_base::NoMemory;
 use ic_outside::Gate;
-use ic_state::{Charge, MOST_INSTRUCTIONS, Parts, World};
+use ic_state::{Charge, MOST_INSTRUCTIONS, Messages, World};
 use std::alloc::Global;
+use std::mem::replace;
 use std::thread::Threads;
 
 /// The first phase of a round: in rising id, each canister that had a message at the round's start
@@ -36,28 +37,16 @@ pub fn canister_turns<R: Threads + Sync, G: Gate + Sync>(
         → r.1 ≡ length (first_phase (system_rules outside limit price) world)) }
     ensures few { IfOk result (λ r. r.1 < 2 ^ 63) }
 {
-    let Parts {
-        canisters,
-        messages,
-        requests,
-        time,
-        created,
-        burned,
-        next_canister,
-    } = world.open();
-    let (firsts, left) = taken_out(alloc, &canisters, messages)?.open(alloc)?;
-    let handled = firsts.len() as u64;
-    let parts = Parts {
-        canisters,
-        messages: left,
-        requests,
-        time,
-        created,
-        burned,
-        next_canister,
+    let mut parts = world.open();
+    let none = Messages {
+        items: Vec::new(alloc),
     };
+    let messages = replace(&mut parts.messages, none);
+    let (firsts, left) = taken_out(alloc, &parts.canisters, messages)?.open(alloc)?;
+    parts.messages = left;
+    let handled = firsts.len() as u64;
     let crew = Crew { rt, workers, gate };
-    let env = Charge { limit, price }.at(time);
+    let env = Charge { limit, price }.at(parts.time);
     let parts = handle_firsts(alloc, parts, firsts, &crew, env)?;
     Ok((World::seal(parts), handled))
 }

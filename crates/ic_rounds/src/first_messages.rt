@@ -12,6 +12,8 @@ use ic_outside::Gate;
 use ic_principal::Principal;
 use ic_state::{BoundedEnv, MessagePlace, Parts};
 use std::alloc::Global;
+use std::collections::BTreeMap;
+use std::mem::replace;
 use std::thread::Threads;
 
 // Several workers have the canisters in slots, and these are put back in the order of the slots.
@@ -29,25 +31,10 @@ fn handle_in_slots<R: Threads + Sync, G: Gate + Sync>(
     ensures stored { IfOk result (λ p. stored_of p ≡ after_firsts env parts firsts.items) }
     ensures keep { IfOk result AreCanisters }
 {
-    let Parts {
-        canisters,
-        messages,
-        requests,
-        time,
-        created,
-        burned,
-        next_canister,
-    } = parts;
+    let mut parts = parts;
+    let canisters = replace(&mut parts.canisters, BTreeMap::new(alloc));
     let (canisters, slots) = deal_out(alloc, canisters, firsts)?.open();
-    let parts = Parts {
-        canisters,
-        messages,
-        requests,
-        time,
-        created,
-        burned,
-        next_canister,
-    };
+    parts.canisters = canisters;
     handle_and_put_back(alloc, parts, slots, crew, env)
 }
 
