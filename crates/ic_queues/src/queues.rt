@@ -21,9 +21,15 @@ use std::collections::BTreeMap;
 use std::marker::Model;
 
 /// The messages under way, with a queue for each canister. What it keeps is said in `specs/Lines`.
-#[derive(Drop)]
 pub struct Queues {
     lists: Lists,
+}
+
+// Not derived, so that it is proved here and not in each crate that drops them.
+impl Drop for Queues {
+    fn drop(self) {
+        let Queues { lists: _lists } = self;
+    }
 }
 
 impl Model for Queues {
