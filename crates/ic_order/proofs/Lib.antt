@@ -5,4 +5,5 @@ pub mod Matched
 pub mod Managed
 pub mod Comes
 pub mod Places
+pub mod Sorts
 mod Rows

@@ -90,11 +90,13 @@ module _ (rules : Rules) (respects : RespectsOrder rules.outside) where
       let left = ways_left m front back none at.front at.back at.none_before (subst (SameWays (front ++ m ∷ back)) at.whole ways) in
       let found = ap (λ l. slice_get l (length at.front)) at.whole ∙ slice_get_at at.front m at.back in
       let removed = ap (λ l. remove l (length at.front)) at.whole ∙ remove_at at.front m at.back in
-      let before = ap (take (length at.front)) at.whole ∙ take_front at.front (m ∷ at.back) in (
-        length at.front,
-        subst (λ o. MatchOption o ⊥ (λ n. list_any (is_on (way_of n)) (take (length at.front) t.messages) ≡ false)) (sym found) (ap (list_any (is_on (way_of m))) before ∙ at.none_before),
-        at_places s t m place (length at.front) same is found (subst (SameWays (remove s.messages place)) (sym removed) left),
-      )
+      let before = ap (take (length at.front)) at.whole ∙ take_front at.front (m ∷ at.back) in
+      record {
+        other = length at.front;
+        message = found ∙ sym is;
+        may = subst (λ o. MatchOption o ⊥ (λ n. list_any (is_on (way_of n)) (take (length at.front) t.messages) ≡ false)) (sym found) (ap (list_any (is_on (way_of m))) before ∙ at.none_before);
+        after = at_places s t m place (length at.front) same is found (subst (SameWays (remove s.messages place)) (sym removed) left);
+      }
 
   pub matched : (s t : State) (place : ℕ) → SameState s t → MayComeNext s place → IsMatched rules s t place
   matched s t place same may = matched_at s t place (slice_get s.messages place) same refl may

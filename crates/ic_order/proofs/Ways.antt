@@ -28,7 +28,7 @@ equal_ways-is (Answers caller n) (Answers other m) is =
     ap₂ Answers (at-is caller other parts.0) (nat-is n m parts.1)
 equal_ways-is way other is = absurd (false≢true is)
 
-own_way : (m : Message) → is_on (way_of m) m ≡ true
+pub own_way : (m : Message) → is_on (way_of m) m ≡ true
 own_way m = equal_ways-self (way_of m)
 
 pub ways_append : (ms ns more : List Message) → SameWays ms ns → SameWays (ms ++ more) (ns ++ more)

@@ -1,3 +1,4 @@
 pub mod Ways
 pub mod Seen
 pub mod Order
+pub mod Sorted

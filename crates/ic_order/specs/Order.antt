@@ -1,5 +1,5 @@
 -- States that differ only in the order of messages that go different ways. No standard has this.
-use Rattle.std.specs.Prelude.{◌≡◌, ℕ, List, []}
+use Rattle.std.specs.Prelude.{◌≡◌, ℕ, List, [], slice_get}
 use Rattle.std.specs.List.{filter}
 use Rattle.ic_behaviour.specs.declared.call.Message.{Message}
 use Rattle.ic_behaviour.specs.State.{State}
@@ -20,9 +20,12 @@ pub record SameState (s t : State) : Type 0 where
   pub rest : without_messages s ≡ without_messages t
   pub messages : SameWays s.messages t.messages
 
--- what may come next in s may come next in t, at some place, and the states after it are the same
-abbrev pub IsMatched : Rules → (s t : State) → (place : ℕ) → Type 0
-IsMatched rules s t place = (other : ℕ) × MayComeNext t other × SameState (step rules s place) (step rules t other)
+-- the message that is delivered from s may come next in t, at some place, and the states after it are the same
+pub record IsMatched (rules : Rules) (s t : State) (place : ℕ) : Type 0 where
+  pub other : ℕ
+  pub message : slice_get t.messages other ≡ slice_get s.messages place
+  pub may : MayComeNext t other
+  pub after : SameState (step rules s place) (step rules t other)
 
 -- what the management canister does with a call does not depend on that order
 abbrev pub RespectsOrder : Outside → Type 0

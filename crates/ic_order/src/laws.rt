@@ -12,7 +12,8 @@ ghost use Rattle.ic_run_laws.specs.RulesKeep.{RulesKeep};
 ghost use Rattle.ic_mgmt_laws.specs.Manage.{manage};
 ghost use Rattle.ic_mgmt_laws.specs.Managed.{managed_rules};
 ghost use Rattle.ic_order.specs.Ways.{way_of, equal_ways, MayComeNext, next_places, IsOrderedRun};
-ghost use Rattle.ic_order.specs.Order.{SameState, IsMatched, RespectsOrder};
+ghost use Rattle.ic_order.specs.Order.{SameWays, SameState, IsMatched, RespectsOrder};
+ghost use Rattle.ic_order.specs.Sorted.{IsByWays};
 
 /// A message that may come next is in the list, and where each call has one place each that is eligible may
 /// come next. Where each message that is delivered may come next, the run is one of any order, so the laws of
@@ -48,7 +49,16 @@ pub fn same_states_are_alike()
         → m ≡ n }
 {}
 
-/// From such states deliveries of messages that may come next lead to such states.
+/// Lists of messages have the same messages of each way, in one order, exactly where they are equal once they
+/// are sorted by ways.
+pub fn sorted_lists_tell()
+    ensures same { (ms ns sorted others : List AMessage) → IsByWays ms sorted → IsByWays ns others
+        → SameWays ms ns → sorted ≡ others }
+    ensures back { (ms ns sorted others : List AMessage) → IsByWays ms sorted → IsByWays ns others
+        → sorted ≡ others → SameWays ms ns }
+{}
+
+/// From states that differ only in that order, deliveries of messages that may come next lead to such states.
 pub fn deliveries_are_matched()
     ensures matched { (rules : Rules) (s t : State) (place : ℕ) → RespectsOrder rules.outside → SameState s t
         → MayComeNext s place → IsMatched rules s t place }

@@ -13,6 +13,6 @@ mod way;
 pub use coming::next_places;
 pub use laws::{
     deliveries_are_matched, management_respects_order, next_messages_make_runs,
-    same_states_are_alike,
+    same_states_are_alike, sorted_lists_tell,
 };
 pub use way::{Way, way_of};
