@@ -2,13 +2,12 @@ ghost use Rattle.std.specs.Prelude.{◌≡◌, ◌<◌, ◌≤◌, length, IfOk}
 ghost use Rattle.ic_behaviour.specs.Steps.{along};
 ghost use Rattle.ic_behaviour.specs.Round.{round};
 ghost use Rattle.ic_mgmt_laws.specs.Managed.{managed_rules};
-ghost use Rattle.ic_queue_rounds.specs.Rounds.{after_rounds, rounds_made};
 
 use ic_base::NoMemory;
 use ic_mgmt::outside_turns;
 use ic_outside::Gate;
-use ic_rounds::{Crew, MOST_WORKERS, canister_turns};
-use ic_state::{Charge, MOST_INSTRUCTIONS, World};
+use ic_rounds::{MOST_WORKERS, canister_turns};
+use ic_state::{MOST_INSTRUCTIONS, World};
 use std::alloc::Global;
 use std::thread::Threads;
 
@@ -38,34 +37,4 @@ pub fn round<R: Threads + Sync, G: Gate + Sync>(
     let (world, first) = canister_turns(alloc, rt, world, workers, limit, price, gate)?;
     let (world, second) = outside_turns(alloc, world, limit)?;
     Ok((world, first + second))
-}
-
-/// Up to `count` rounds over the list, until no message is under way. Gives how many were made.
-pub(crate) fn listed_rounds<R: Threads + Sync, G: Gate + Sync>(
-    alloc: Global,
-    world: World,
-    count: u32,
-    crew: &Crew<'_, R, G>,
-    charge: Charge,
-) -> Result<(World, u32), NoMemory>
-    ensures state { IfOk result (λ r. r.0 ≡ after_rounds charge.limit charge.price count world) }
-    ensures made { IfOk result (λ r. r.1 ≡ rounds_made charge.limit charge.price count world) }
-{
-    let mut world = world;
-    for made in 0..count {
-        if world.parts().messages.is_empty() {
-            return Ok((world, made));
-        }
-        let (next, _) = round(
-            alloc,
-            crew.rt,
-            world,
-            crew.workers,
-            charge.limit,
-            charge.price,
-            crew.gate,
-        )?;
-        world = next;
-    }
-    Ok((world, count))
 }

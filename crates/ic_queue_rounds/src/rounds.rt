@@ -6,7 +6,7 @@ ghost use Rattle.ic_mgmt_laws.specs.Managed.{managed_rules};
 ghost use Rattle.ic_queue_rounds.specs.Rounds.{after_rounds, rounds_made};
 
 use crate::first::canister_turns;
-use crate::over_list::{listed_rounds, round};
+use crate::over_list::round;
 use crate::queued::QueuedWorld;
 use crate::second::outside_turns;
 use ic_base::NoMemory;
@@ -62,20 +62,21 @@ fn queued_rounds<R: Threads + Sync, G: Gate + Sync>(
     Ok((world, count))
 }
 
-// Whether messages are under way, but few.
-fn has_few_messages(world: &World) -> bool
+// Whether messages are under way, and at most this many.
+fn has_messages(world: &World, most: usize) -> bool
     ensures { result ≡ true → 0 < length world.now.messages }
 {
     let messages = world.parts().messages.items.len();
-    0 < messages && messages <= SHORT
+    0 < messages && messages <= most
 }
 
-// Rounds over the list, as long as it is short: at most `count`, and what is left to do leads to the end
-// of `count` rounds.
-fn short_rounds<R: Threads + Sync, G: Gate + Sync>(
+// Rounds over the list, as long as it has messages and at most `most`: at most `count`, and what is left to do leads to
+// the end of `count` rounds.
+fn listed_rounds<R: Threads + Sync, G: Gate + Sync>(
     alloc: Global,
     world: World,
     count: u32,
+    most: usize,
     crew: &Crew<'_, R, G>,
     charge: Charge,
 ) -> Result<(World, u32), NoMemory>
@@ -87,7 +88,7 @@ fn short_rounds<R: Threads + Sync, G: Gate + Sync>(
 {
     let mut world = world;
     for made in 0..count {
-        if !has_few_messages(&world) {
+        if !has_messages(&world, most) {
             return Ok((world, made));
         }
         let (next, _) = round(
@@ -116,6 +117,9 @@ fn long_rounds<R: Threads + Sync, G: Gate + Sync>(
     ensures made { IfOk result (λ r. r.1 ≡ rounds_made charge.limit charge.price count world) }
     ensures few { IfOk result (λ r. r.1 ≤ count) }
 {
+    if count == 0 {
+        return Ok((world, 0));
+    }
     if world.parts().messages.is_empty() {
         return Ok((world, 0));
     }
@@ -145,10 +149,8 @@ pub fn run_rounds<R: Threads + Sync, G: Gate + Sync>(
 {
     let crew = Crew { rt, workers, gate };
     let charge = Charge { limit, price };
-    if count < FEW {
-        return listed_rounds(alloc, world, count, &crew, charge);
-    }
-    let (world, made) = short_rounds(alloc, world, count, &crew, charge)?;
+    let most = if count < FEW { usize::MAX } else { SHORT };
+    let (world, made) = listed_rounds(alloc, world, count, most, &crew, charge)?;
     let (world, more) = long_rounds(alloc, world, count - made, &crew, charge)?;
     Ok((world, made + more))
 }
