@@ -23,7 +23,7 @@ use Rattle.ic_script_runner.specs.EndPart.{end_state, end_part}
 use Rattle.ic_script_runner.specs.Options.{default_options, rules_of}
 use Rattle.ic_script_runner.specs.Out.{Output, out, out_of, output_of}
 use Rattle.ic_script_runner.specs.Script.{script_for, walk_of}
-use Rattle.ic_script_runner.specs.Walk.{Place, Bad, Walk, start, behind_line, behind, judge, judge_line, onward, walk}
+use Rattle.ic_script_runner.specs.Walk.{Place, Bad, Walk, start, past_line, after_text, judge, judge_line, onward, walk}
 use Rattle.ic_host.specs.Trace.{acts_of_spelled, acts_of_line, acting, acts_from, trace_of, trace, rules}
 use Rattle.ic_host.specs.Printed.{way, judged, lines_shown, state_shown, Cut, PrintedRun, RunIsPrinted}
 
@@ -66,10 +66,10 @@ unfoldable acts_along : Place → List (List ℕ) → List Act
 acts_along at [] = []
 acts_along at (piece ∷ pieces) =
     acting (acts_of_line at.options at.state (line_of piece)) (judge script_limits at piece (excess_of script_limits at.offset piece))
-    (λ state. acts_along (behind_line at (length piece) state) pieces)
+    (λ state. acts_along (past_line at (length piece) state) pieces)
 
 abbrev next : Place → List ℕ → State × List ℕ → Place
-next at piece done = behind_line at (length piece) done.0
+next at piece done = past_line at (length piece) done.0
 
 module _ (at : Place) (piece : List ℕ) (done : State × List ℕ) (is : judge script_limits at piece (excess_of script_limits at.offset piece) ≡ Ok done) where
   line : Spells at.options at.state (line_of piece) done
@@ -78,18 +78,18 @@ module _ (at : Place) (piece : List ℕ) (done : State × List ℕ) (is : judge 
   acts_are : acts_of_line at.options at.state (line_of piece) ≡ acts_of at.options at.state line.command
   acts_are = ap (acts_of_spelled at.options at.state) line.is
 
-  walk_on : (ps : List (List ℕ)) → walk script_limits at (piece ∷ ps) ≡ behind done.1 (walk script_limits (next at piece done) ps)
+  walk_on : (ps : List (List ℕ)) → walk script_limits at (piece ∷ ps) ≡ after_text done.1 (walk script_limits (next at piece done) ps)
   unfolding walk
-  walk_on ps = ap (λ j. onward j (λ s. walk script_limits (behind_line at (length piece) s) ps)) is
+  walk_on ps = ap (λ j. onward j (λ s. walk script_limits (past_line at (length piece) s) ps)) is
 
   from_on : (ps : List (List ℕ)) → acts_from script_limits at (piece ∷ ps) ≡ acts_of at.options at.state line.command ++ acts_from script_limits (next at piece done) ps
   unfolding acts_from
-  from_on ps = ap (λ j. acting (acts_of_line at.options at.state (line_of piece)) j (λ s. acts_from script_limits (behind_line at (length piece) s) ps)) is
+  from_on ps = ap (λ j. acting (acts_of_line at.options at.state (line_of piece)) j (λ s. acts_from script_limits (past_line at (length piece) s) ps)) is
       ∙ ap (λ acts. acts ++ acts_from script_limits (next at piece done) ps) acts_are
 
   along_on : (ps : List (List ℕ)) → acts_along at (piece ∷ ps) ≡ acts_of at.options at.state line.command ++ acts_along (next at piece done) ps
   unfolding acts_along
-  along_on ps = ap (λ j. acting (acts_of_line at.options at.state (line_of piece)) j (λ s. acts_along (behind_line at (length piece) s) ps)) is
+  along_on ps = ap (λ j. acting (acts_of_line at.options at.state (line_of piece)) j (λ s. acts_along (past_line at (length piece) s) ps)) is
       ∙ ap (λ acts. acts ++ acts_along (next at piece done) ps) acts_are
 
 -- ---- a front
@@ -98,7 +98,7 @@ module _ (at : Place) (piece : List ℕ) (done : State × List ℕ) (is : judge 
 abbrev stopped : Result State Bad → Walk
 stopped last = record { text = []; last = last }
 
-two_texts : (first second : List ℕ) (way : Walk) → behind first (behind second way) ≡ behind (first ++ second) way
+two_texts : (first second : List ℕ) (way : Walk) → after_text first (after_text second way) ≡ after_text (first ++ second) way
 two_texts first second way = ap (λ text. record { text = text; last = way.last }) (sym (append_assoc first second way.text))
 
 -- the place after a front that leads to a state
@@ -114,7 +114,7 @@ record Leads (at : Place) (front back : List (List ℕ)) (s : State) : Type 0 wh
   pub trace : acts_from script_limits at (front ++ back) ≡ acts_along at front ++ acts_from script_limits (place_after at front s) back
   pub acts : acts_along at (front ++ back) ≡ acts_along at front ++ acts_along (place_after at front s) back
   pub state : s ≡ after (rules_of at.options) at.state (acts_along at front)
-  pub way : walk script_limits at (front ++ back) ≡ behind (walk script_limits at front).text (walk script_limits (place_after at front s) back)
+  pub way : walk script_limits at (front ++ back) ≡ after_text (walk script_limits at front).text (walk script_limits (place_after at front s) back)
 
 -- through a good piece, and a front after it
 further : (at : Place) (piece : List ℕ) (front back : List (List ℕ)) (state : State) (done : State × List ℕ)
@@ -142,10 +142,10 @@ further at piece front back state done is leads =
           let split = after-append (rules_of at.options) at.state A (acts_along (next at piece done) front) in
           let first = (line at piece done is).state in cc;
       way =
-          walk_on at piece done is (front ++ back) ∙ ap (behind done.1) leads.way
+          walk_on at piece done is (front ++ back) ∙ ap (after_text done.1) leads.way
           ∙ two_texts done.1 (walk script_limits (next at piece done) front).text (walk script_limits there back)
-          ∙ ap (λ p. behind (done.1 ++ (walk script_limits (next at piece done) front).text) (walk script_limits p back)) place
-          ∙ ap (λ (w : Walk). behind w.text (walk script_limits (place_after at (piece ∷ front) state) back)) (sym more);
+          ∙ ap (λ p. after_text (done.1 ++ (walk script_limits (next at piece done) front).text) (walk script_limits p back)) place
+          ∙ ap (λ (w : Walk). after_text w.text (walk script_limits (place_after at (piece ∷ front) state) back)) (sym more);
     }
 
 leads : (at : Place) (front back : List (List ℕ)) (state : State) → (walk script_limits at front).last ≡ Ok state → Leads at front back state
@@ -165,7 +165,7 @@ leads at (piece ∷ front) back state is =
           → (j : Result (State × List ℕ) Bad) → judge script_limits at piece (excess_of script_limits at.offset piece) ≡ j → Leads at (piece ∷ front) back state
       by more (Ok done) e = further at piece front back state done e (more done (ap (λ (w : Walk). w.last) (sym (walk_on at piece done e front)) ∙ is))
       by more (Err bad) e =
-          let ends : walk script_limits at (piece ∷ front) ≡ stopped (Err bad) = ap (λ j. onward j (λ s. walk script_limits (behind_line at (length piece) s) front)) e in
+          let ends : walk script_limits at (piece ∷ front) ≡ stopped (Err bad) = ap (λ j. onward j (λ s. walk script_limits (past_line at (length piece) s) front)) e in
           let last : Err bad ≡ Ok state = sym (ap (λ (w : Walk). w.last) ends) ∙ is in absurd cc
 
 -- ---- the output
@@ -179,12 +179,12 @@ shown (Some n) options text more (Ok s) = (_, refl)
 shown (Some n) options text more (Err bad) = (_, refl)
 
 shown-bad : (g : Option ℕ) (options : Options) (text : List ℕ) (bad : Bad)
-    → output_of g options (behind text (stopped (Err bad))) ≡ record { bytes = lines_shown g text ++ bad_text bad.line bad.cause; status = BadLine bad.line bad.cause }
+    → output_of g options (after_text text (stopped (Err bad))) ≡ record { bytes = lines_shown g text ++ bad_text bad.line bad.cause; status = BadLine bad.line bad.cause }
 shown-bad None options text bad = ap (λ t. record { bytes = t ++ bad_text bad.line bad.cause; status = BadLine bad.line bad.cause }) (append-nil text)
 shown-bad (Some n) options text bad = refl
 
 shown-end : (g : Option ℕ) (options : Options) (text : List ℕ) (s : State)
-    → output_of g options (behind text (stopped (Ok s))) ≡ record { bytes = lines_shown g text ++ state_shown g (end_state options s); status = Done }
+    → output_of g options (after_text text (stopped (Ok s))) ≡ record { bytes = lines_shown g text ++ state_shown g (end_state options s); status = Done }
 shown-end None options text s = ap (λ t. record { bytes = t ++ state_shown None (end_state options s); status = Done }) (append-nil text)
 shown-end (Some n) options text s = refl
 
@@ -230,7 +230,7 @@ module _ (words : List (List ℕ)) (bytes : List ℕ) (options : Options) (is : 
     run_is : trace words bytes ≡ acts_along (start options) front ++ acts_from script_limits (there front s) back
     run_is = trace_is ∙ ap (acts_from script_limits (start options)) cut.whole ∙ led.trace
 
-    way_is : out words bytes ≡ output_of options.generate options (behind (way options front).text (walk script_limits (there front s) back))
+    way_is : out words bytes ≡ output_of options.generate options (after_text (way options front).text (walk script_limits (there front s) back))
     way_is = out_is ∙ ap (λ ps. output_of options.generate options (way options ps)) cut.whole ∙ ap (output_of options.generate options) led.way
 
   -- the last state of a run without a bad line
@@ -275,7 +275,7 @@ module _ (words : List (List ℕ)) (bytes : List ℕ) (options : Options) (is : 
           single.acts ∙ ap (λ acts. A ++ acts) (along_on at piece done goes [] ∙ append-nil (acts_of options s good.command)),
           run_is front (piece ∷ back) s cut ∙ ap (λ acts. A ++ acts) (from_on at piece done goes back),
           single.way
-              ∙ ap (behind (way options front).text) (walk_on at piece done goes [])
+              ∙ ap (after_text (way options front).text) (walk_on at piece done goes [])
               ∙ ap (λ t. record { text = (way options front).text ++ t; last = Ok done.0 }) (append-nil done.1 ∙ good.text),
         );
     bad = λ front back piece s bad cut e.
@@ -283,10 +283,10 @@ module _ (words : List (List ℕ)) (bytes : List ℕ) (options : Options) (is : 
         let ends = judged_there options front s piece ∙ e in
         let A = acts_along (start options) front in (
           run_is front (piece ∷ back) s cut
-              ∙ ap (λ j. A ++ acting (acts_of_line options s (line_of piece)) j (λ t. acts_from script_limits (behind_line at (length piece) t) back)) ends
+              ∙ ap (λ j. A ++ acting (acts_of_line options s (line_of piece)) j (λ t. acts_from script_limits (past_line at (length piece) t) back)) ends
               ∙ append-nil A,
           way_is front (piece ∷ back) s cut
-              ∙ ap (λ j. output_of options.generate options (behind (way options front).text (onward j (λ t. walk script_limits (behind_line at (length piece) t) back)))) ends
+              ∙ ap (λ j. output_of options.generate options (after_text (way options front).text (onward j (λ t. walk script_limits (past_line at (length piece) t) back)))) ends
               ∙ shown-bad options.generate options (way options front).text bad,
         );
     ended = λ front s cut. (run_is front [] s cut, last_is front s cut, end_is front s cut);

@@ -26,7 +26,7 @@ use Rattle.ic_options.specs.Options.{options_of}
 use Rattle.ic_script_runner.specs.AfterCommand.{accepts_now, acts_of, acts_of_rounds, fault_of}
 use Rattle.ic_script_runner.specs.AfterLine.{after_line}
 use Rattle.ic_script_runner.specs.Script.{script_for}
-use Rattle.ic_script_runner.specs.Walk.{Place, start, behind_line, judge, judge_line}
+use Rattle.ic_script_runner.specs.Walk.{Place, start, past_line, judge, judge_line}
 use Rattle.ic_host.specs.Trace.{acts_of_spelled, acts_of_line, acting, acts_from, trace_of, trace, rules}
 use Rattle.ic_script_runner.proofs.Keeps.{rules_keep, after_sound, rounds_eligible}
 use Rattle.ic_host.proofs.Cuts.{spells}
@@ -95,26 +95,26 @@ acts_allowed : (limits : Limits) (at : Place) (ps : List (List ℕ)) → Sound a
 unfolding acts_from
 acts_allowed limits at [] sound = rounds_allowed at.options at.options.rounds at.state sound
 acts_allowed limits at (piece ∷ ps) sound =
-    judged (λ state there. acts_allowed limits (behind_line at (length piece) state) ps there) (excess_of limits at.offset piece) where
-      judged : ((state : State) → Sound state → AreAllowed IsEligible (rules_of at.options) state (acts_from limits (behind_line at (length piece) state) ps))
+    judged (λ state there. acts_allowed limits (past_line at (length piece) state) ps there) (excess_of limits at.offset piece) where
+      judged : ((state : State) → Sound state → AreAllowed IsEligible (rules_of at.options) state (acts_from limits (past_line at (length piece) state) ps))
           → (excess : Option Excess)
           → AreAllowed IsEligible (rules_of at.options) at.state
-          (acting (acts_of_line at.options at.state (line_of piece)) (judge limits at piece excess) (λ state. acts_from limits (behind_line at (length piece) state) ps))
+          (acting (acts_of_line at.options at.state (line_of piece)) (judge limits at piece excess) (λ state. acts_from limits (past_line at (length piece) state) ps))
       judged more (Some LongLine) = tt
       judged more (Some LongScript) = tt
       judged more None = within (after_line at.options at.state (line_of piece)) refl where
         within : (r : Result (State × List ℕ) LineCause) → after_line at.options at.state (line_of piece) ≡ r
             → AreAllowed IsEligible (rules_of at.options) at.state
-            (acting (acts_of_line at.options at.state (line_of piece)) (judge_line at (length piece) r) (λ state. acts_from limits (behind_line at (length piece) state) ps))
+            (acting (acts_of_line at.options at.state (line_of piece)) (judge_line at (length piece) r) (λ state. acts_from limits (past_line at (length piece) state) ps))
         within (Err cause) is = tt
         within (Ok done) is =
             let rules = rules_of at.options in
             let acts = acts_of_line at.options at.state (line_of piece) in
             let good = line_good at.options at.state (line_of piece) done sound is in
             let there = after_sound rules (rules_keep at.options) at.state acts sound good.0 in
-            let Q = λ (t : State). AreAllowed IsEligible rules t (acts_from limits (behind_line at (length piece) t) ps) in
+            let Q = λ (t : State). AreAllowed IsEligible rules t (acts_from limits (past_line at (length piece) t) ps) in
             let rest : Q (after rules at.state acts) = more _ there in
-            let P = λ (t : State). AreAllowed IsEligible rules (after rules at.state acts) (acts_from limits (behind_line at (length piece) t) ps) in
+            let P = λ (t : State). AreAllowed IsEligible rules (after rules at.state acts) (acts_from limits (past_line at (length piece) t) ps) in
             allowed-append IsEligible rules at.state acts _ good.0 (subst P (sym good.1) rest)
 
 pub empty_sound : Sound empty

@@ -16,7 +16,7 @@ use Rattle.ic_script_runner.specs.AfterLine.{after_line, after_spelled}
 use Rattle.ic_script_runner.specs.Options.{default_options, rules_of}
 use Rattle.ic_script_runner.specs.Out.{out, out_of, output_of}
 use Rattle.ic_script_runner.specs.Script.{script_for, walk_of}
-use Rattle.ic_script_runner.specs.Walk.{Place, Bad, Walk, start, behind_line, behind, judge, judge_line, onward, walk}
+use Rattle.ic_script_runner.specs.Walk.{Place, Bad, Walk, start, past_line, after_text, judge, judge_line, onward, walk}
 use Rattle.ic_host.specs.Trace.{acts_of_spelled, acts_of_line, acting, acts_from, trace_of, trace, rules}
 use Rattle.ic_host.specs.Printed.{ButForWorkers}
 
@@ -56,7 +56,7 @@ judge_same at n piece None = ap (judge_line at (length piece)) (after_same at.op
       by (Err cause) = refl
 
 onward_same : (j : Result (State × List ℕ) Bad) (f g : State → Walk) → ((s : State) → f s ≡ g s) → onward j f ≡ onward j g
-onward_same (Ok done) f g each = ap (behind done.1) (each done.0)
+onward_same (Ok done) f g each = ap (after_text done.1) (each done.0)
 onward_same (Err bad) f g each = refl
 
 acting_same : (acts : List Act) (j : Result (State × List ℕ) Bad) (f g : State → List Act) → ((s : State) → f s ≡ g s) → acting acts j f ≡ acting acts j g
@@ -68,9 +68,9 @@ walk_same : (at : Place) (n : ℕ) (ps : List (List ℕ)) → walk script_limits
 unfolding walk
 walk_same at n [] = refl
 walk_same at n (piece ∷ ps) =
-    let rest = λ (s : State). walk script_limits (behind_line (crewed at n) (length piece) s) ps in
-    onward_same (judge script_limits at piece (excess_of script_limits at.offset piece)) (λ s. walk script_limits (behind_line at (length piece) s) ps) rest
-    (λ s. walk_same (behind_line at (length piece) s) n ps)
+    let rest = λ (s : State). walk script_limits (past_line (crewed at n) (length piece) s) ps in
+    onward_same (judge script_limits at piece (excess_of script_limits at.offset piece)) (λ s. walk script_limits (past_line at (length piece) s) ps) rest
+    (λ s. walk_same (past_line at (length piece) s) n ps)
     ∙ ap (λ j. onward j rest) (judge_same at n piece (excess_of script_limits at.offset piece))
 
 run_same : (at : Place) (n : ℕ) (ps : List (List ℕ)) → acts_from script_limits at ps ≡ acts_from script_limits (crewed at n) ps
@@ -78,9 +78,9 @@ unfolding acts_from acts_of_rounds
 run_same at n [] = refl
 run_same at n (piece ∷ ps) =
     let acts = acts_of_line at.options at.state (line_of piece) in
-    let rest = λ (s : State). acts_from script_limits (behind_line (crewed at n) (length piece) s) ps in
-    acting_same acts (judge script_limits at piece (excess_of script_limits at.offset piece)) (λ s. acts_from script_limits (behind_line at (length piece) s) ps) rest
-    (λ s. run_same (behind_line at (length piece) s) n ps)
+    let rest = λ (s : State). acts_from script_limits (past_line (crewed at n) (length piece) s) ps in
+    acting_same acts (judge script_limits at piece (excess_of script_limits at.offset piece)) (λ s. acts_from script_limits (past_line at (length piece) s) ps) rest
+    (λ s. run_same (past_line at (length piece) s) n ps)
     ∙ ap (λ j. acting acts j rest) (judge_same at n piece (excess_of script_limits at.offset piece))
     ∙ ap (λ acts. acting acts (judge script_limits (crewed at n) piece (excess_of script_limits at.offset piece)) rest)
     (spelled_same at.options n at.state (command_of (line_of piece)))

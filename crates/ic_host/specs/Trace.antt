@@ -13,7 +13,7 @@ use Rattle.ic_script_runner.specs.AfterCommand.{acts_of, acts_of_rounds}
 use Rattle.ic_script_runner.specs.Options.{default_options, rules_of}
 use Rattle.ic_options.specs.Options.{options_of}
 use Rattle.ic_script_runner.specs.Script.{script_for}
-use Rattle.ic_script_runner.specs.Walk.{Place, Bad, start, behind_line, judge}
+use Rattle.ic_script_runner.specs.Walk.{Place, Bad, start, past_line, judge}
 
 abbrev pub acts_of_spelled : Options → State → Result Command LineCause → List Act
 acts_of_spelled options state (Ok command) = acts_of options state command
@@ -33,7 +33,7 @@ unfoldable pub acts_from : Limits → Place → List (List ℕ) → List Act
 acts_from limits at [] = acts_of_rounds at.options at.options.rounds at.state
 acts_from limits at (piece ∷ pieces) =
     acting (acts_of_line at.options at.state (line_of piece)) (judge limits at piece (excess_of limits at.offset piece))
-    (λ state. acts_from limits (behind_line at (length piece) state) pieces)
+    (λ state. acts_from limits (past_line at (length piece) state) pieces)
 
 -- what the script makes happen that runs with the options; where the words are refused nothing happens
 abbrev pub trace_of : Option Options → List ℕ → List Act

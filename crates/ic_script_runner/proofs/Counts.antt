@@ -7,7 +7,7 @@ use Rattle.ic_outside.specs.declared.LineFault.TheVariants as fault
 use Rattle.ic_script.specs.declared.LineCause.{LineCause}
 use Rattle.ic_script_runner.specs.declared.status.Status.{Status}
 use Rattle.ic_script_runner.specs.declared.status.Status.TheVariants.{Done, BadWords, BadLine, ReadFault, WriteFault, NoMemory}
-use Rattle.ic_script_runner.specs.Acts.{Concludes, DoesAndGathers, Stops, bad_output, behind_gathered}
+use Rattle.ic_script_runner.specs.Acts.{Concludes, DoesAndGathers, Stops, bad_output, after_gathered}
 use Rattle.ic_script_runner.specs.Counts.{source_count_after, sink_count_after}
 use Rattle.ic_script_runner.specs.EndPart.{short_end_part}
 use Rattle.ic_script_runner.specs.Out.{Output, short_output}
@@ -59,9 +59,9 @@ Done-counted old new bytes status = Concludes-counted old new (record { bytes = 
 
 -- at a bad line
 BadLine-counted : (old new : Taken) (gathered : List ℕ) (line : ℕ) (cause : LineCause) (status : Status)
-    → Concludes old new (behind_gathered gathered (bad_output line cause)) status → IsSinkCount old new status
+    → Concludes old new (after_gathered gathered (bad_output line cause)) status → IsSinkCount old new status
 BadLine-counted old new gathered line cause status =
-    Concludes-counted old new (behind_gathered gathered (bad_output line cause)) status (λ n. (refl, refl))
+    Concludes-counted old new (after_gathered gathered (bad_output line cause)) status (λ n. (refl, refl))
 
 -- at the end of a generated script, or its bad line
 pub short-counted : (old new : Taken) (options : Options) (last : Result State Bad) (status : Status) → Concludes old new (short_output options last) status → IsSinkCount old new status

@@ -18,7 +18,7 @@ use Rattle.ic_script_runner.specs.Out.{Output, out, out_of, output_of, ended_out
 use Rattle.ic_script_runner.specs.Script.{script, script_of, script_for, lines_of, walk_of, lines_until}
 use Rattle.ic_script_runner.specs.Sending.{Taken, Sent, Interrupts}
 use Rattle.ic_behaviour.specs.State.{State}
-use Rattle.ic_script_runner.specs.Walk.{Bad, Walk, start, behind, walk}
+use Rattle.ic_script_runner.specs.Walk.{Bad, Walk, start, after_text, walk}
 use Rattle.ic_generate.specs.Script.{script as generated}
 use Rattle.ic_script_runner.proofs.Counts.{sink_count_after-same, Interrupts-counted}
 use Rattle.ic_script_runner.proofs.SendLaws.{Interrupts-at_once}
@@ -163,13 +163,13 @@ module _ (words : List (List ℕ)) (options : Options) (accepted : options_of wo
     none_generated = number-is None is_read
 
     -- a way that stops
-    pub out-stopped : (bytes printed : List ℕ) (last : Result State Bad) → walk_of options bytes ≡ behind printed (stopped last)
+    pub out-stopped : (bytes printed : List ℕ) (last : Result State Bad) → walk_of options bytes ≡ after_text printed (stopped last)
         → out words bytes ≡ ended_output options printed last
     out-stopped bytes printed last way =
         out-of_number None is_read bytes ∙ ap (output_of None options) way ∙ ap (λ text. ended_output options text last) (append-nil printed)
 
     -- what is printed so far is a front of the answer
-    pub out-front : (bytes printed : List ℕ) (way : Walk) → walk_of options bytes ≡ behind printed way
+    pub out-front : (bytes printed : List ℕ) (way : Walk) → walk_of options bytes ≡ after_text printed way
         → (rest : List ℕ) × ((out words bytes).bytes ≡ (printed ++ way.text) ++ rest)
     out-front bytes printed way is =
         let whole = ap (λ (o : Output). o.bytes) (out-of_number None is_read bytes ∙ ap (output_of None options) is) in
@@ -178,7 +178,7 @@ module _ (words : List (List ℕ)) (options : Options) (accepted : options_of wo
         let found = tail way.last in
         (found.0, whole ∙ found.1)
 
-    bad_stop-stopped : (bytes printed : List ℕ) (bad : Bad) → walk_of options bytes ≡ behind printed (stopped (Err bad)) → bad_stop words bytes ≡ bad.stop
+    bad_stop-stopped : (bytes printed : List ℕ) (bad : Bad) → walk_of options bytes ≡ after_text printed (stopped (Err bad)) → bad_stop words bytes ≡ bad.stop
     unfolding bad_stop
     bad_stop-stopped bytes printed bad way =
         ap (λ o. bad_stop_of o bytes) accepted ∙ ap (λ g. stop_of (walk_of options (script_for g bytes)).last) is_read ∙ ap (λ (w : Walk). stop_of w.last) way
@@ -188,7 +188,7 @@ module _ (words : List (List ℕ)) (options : Options) (accepted : options_of wo
     body-accepted bytes = ap (λ o. body_of o bytes) accepted
 
     -- a bad line ends the answer
-    pub explains-bad : (read rest printed : List ℕ) (bad : Bad) → walk_of options (read ++ rest) ≡ behind printed (stopped (Err bad))
+    pub explains-bad : (read rest printed : List ℕ) (bad : Bad) → walk_of options (read ++ rest) ≡ after_text printed (stopped (Err bad))
         → bad.stop ≤ length read → length read ≤ bad.stop + 65536
         → Explains words (BadLine bad.line bad.cause) read rest (printed ++ (bad_output bad.line bad.cause).bytes)
     explains-bad read rest printed bad way low high =

@@ -11,15 +11,15 @@ use Rattle.ic_options.specs.declared.Options.{Options}
 use Rattle.ic_script_runner.specs.AfterLine.{after_line}
 use Rattle.ic_script_runner.specs.Body.{whole_lines}
 use Rattle.ic_behaviour.specs.State.{State}
-use Rattle.ic_script_runner.specs.Walk.{Place, start, behind_line, behind, walk}
+use Rattle.ic_script_runner.specs.Walk.{Place, start, past_line, after_text, walk}
 use Rattle.ic_script_runner.proofs.BodyLaws.{whole_lines-line}
-use Rattle.ic_script_runner.proofs.WalkLaws.{stopped, walk-good, walk-bad, behind-behind}
+use Rattle.ic_script_runner.proofs.WalkLaws.{stopped, walk-good, walk-bad, after_text-twice}
 
 pub record Follows (options : Options) (handed printed : List ℕ) (at : Place) (kept : List ℕ) (ended : Bool) : Type 0 where
   pub all : (more : List ℕ) → (IsTrue ended → more ≡ [])
-      → walk script_limits (start options) (pieces (handed ++ (kept ++ more))) ≡ behind printed (walk script_limits at (pieces (kept ++ more)))
+      → walk script_limits (start options) (pieces (handed ++ (kept ++ more))) ≡ after_text printed (walk script_limits at (pieces (kept ++ more)))
   pub whole : ended ≡ false → (more : List ℕ)
-      → walk script_limits (start options) (whole_lines (pieces (handed ++ (kept ++ more)))) ≡ behind printed (walk script_limits at (whole_lines (pieces (kept ++ more))))
+      → walk script_limits (start options) (whole_lines (pieces (handed ++ (kept ++ more)))) ≡ after_text printed (walk script_limits at (whole_lines (pieces (kept ++ more))))
 
 -- how a piece is cut off the bytes that were seen
 abbrev pub IsCut : List ℕ → List ℕ → List ℕ → Bool → Type 0
@@ -64,24 +64,24 @@ module _ (options : Options) (handed printed : List ℕ) (at : Place) (kept : Li
     (still : IsTrue ended → IsTrue new_ended) (cut : IsCut piece line rest new_ended) (none : HasNoLf line) where
   -- the way before the next piece
   before_piece : (more : List ℕ) → (IsTrue new_ended → more ≡ [])
-      → walk script_limits (start options) (pieces ((handed ++ piece) ++ (rest ++ more))) ≡ behind printed (walk script_limits at (piece ∷ pieces (rest ++ more)))
+      → walk script_limits (start options) (pieces ((handed ++ piece) ++ (rest ++ more))) ≡ after_text printed (walk script_limits at (piece ∷ pieces (rest ++ more)))
   before_piece more last =
       let nothing : IsTrue ended → read ++ more ≡ [] = λ e. ap (λ l. l ++ more) (over e) ∙ last (still e) in
       ap (λ l. walk script_limits (start options) (pieces l)) (sym (regroup handed kept read piece rest more seen))
       ∙ so_far.all (read ++ more) nothing
-      ∙ ap (λ l. behind printed (walk script_limits at (pieces l))) (regroup_seen kept read piece rest more seen)
-      ∙ ap (λ l. behind printed (walk script_limits at l)) (pieces-cut piece line rest more new_ended cut none last)
+      ∙ ap (λ l. after_text printed (walk script_limits at (pieces l))) (regroup_seen kept read piece rest more seen)
+      ∙ ap (λ l. after_text printed (walk script_limits at l)) (pieces-cut piece line rest more new_ended cut none last)
 
   is_line : line_of piece ≡ line
   is_line = line_of-cut piece line rest new_ended cut none
 
   -- a good line
   pub Follows-good : (text : List ℕ) (state : State) → excess_of script_limits at.offset piece ≡ None → after_line at.options at.state line ≡ Ok (state, text)
-      → Follows options (handed ++ piece) (printed ++ text) (behind_line at (length piece) state) rest new_ended
+      → Follows options (handed ++ piece) (printed ++ text) (past_line at (length piece) state) rest new_ended
   Follows-good text state fits done =
-      let next = behind_line at (length piece) state in
+      let next = past_line at (length piece) state in
       let good = λ (ps : List (List ℕ)).
-      ap (behind printed) (walk-good script_limits at piece line text ps state fits is_line done) ∙ behind-behind printed text (walk script_limits next ps) in
+      ap (after_text printed) (walk-good script_limits at piece line text ps state fits is_line done) ∙ after_text-twice printed text (walk script_limits next ps) in
       record {
         all = λ more last. before_piece more last ∙ good (pieces (rest ++ more));
         whole = λ unended more.
@@ -91,14 +91,14 @@ module _ (options : Options) (handed printed : List ℕ) (at : Place) (kept : Li
             ap (λ p. whole_lines (p ∷ pieces (rest ++ more))) lf ∙ whole_lines-line line (pieces (rest ++ more)) ∙ ap (λ p. p ∷ whole_lines (pieces (rest ++ more))) (sym lf) in
             ap (λ l. walk script_limits (start options) (whole_lines (pieces l))) (sym (regroup handed kept read piece rest more seen))
             ∙ so_far.whole (false-from ended new_ended still unended) (read ++ more)
-            ∙ ap (λ l. behind printed (walk script_limits at (whole_lines (pieces l)))) (regroup_seen kept read piece rest more seen)
-            ∙ ap (λ l. behind printed (walk script_limits at (whole_lines l))) first
-            ∙ ap (λ l. behind printed (walk script_limits at l)) whole
+            ∙ ap (λ l. after_text printed (walk script_limits at (whole_lines (pieces l)))) (regroup_seen kept read piece rest more seen)
+            ∙ ap (λ l. after_text printed (walk script_limits at (whole_lines l))) first
+            ∙ ap (λ l. after_text printed (walk script_limits at l)) whole
             ∙ good (whole_lines (pieces (rest ++ more)));
       }
 
   -- a bad line
   pub Follows-bad : (cause : LineCause) (more : List ℕ) → (IsTrue new_ended → more ≡ []) → excess_of script_limits at.offset piece ≡ None → after_line at.options at.state line ≡ Err cause
-      → walk script_limits (start options) (pieces ((handed ++ piece) ++ (rest ++ more))) ≡ behind printed (stopped (Err (record { line = at.number; cause = cause; stop = at.offset + length piece })))
+      → walk script_limits (start options) (pieces ((handed ++ piece) ++ (rest ++ more))) ≡ after_text printed (stopped (Err (record { line = at.number; cause = cause; stop = at.offset + length piece })))
   Follows-bad cause more last fits bad =
-      before_piece more last ∙ ap (behind printed) (walk-bad script_limits at piece line (pieces (rest ++ more)) cause fits is_line bad)
+      before_piece more last ∙ ap (after_text printed) (walk-bad script_limits at piece line (pieces (rest ++ more)) cause fits is_line bad)

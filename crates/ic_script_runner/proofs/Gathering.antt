@@ -29,19 +29,19 @@ module _ {T : Type 0} (u : T) (old mid new : Taken) (gathered text left : List �
       (one.0 ++ two.0, Sent-append old mid new one.0 two.0 one.1 two.1, onward more ∙ ap (λ l. one.0 ++ l) two.2 ∙ sym (append_assoc one.0 two.0 rest))
 
 -- a text after what was flushed
-pub Gathers-behind : {T V : Type 0} (u : T) (r : Result V Status) (old mid new : Taken) (gathered left text rest : List ℕ) → Gathers old mid gathered [] left (Ok u) → Gathers mid new left text rest r
+pub Gathers-both : {T V : Type 0} (u : T) (r : Result V Status) (old mid new : Taken) (gathered left text rest : List ℕ) → Gathers old mid gathered [] left (Ok u) → Gathers mid new left text rest r
     → Gathers old new gathered text rest r
-Gathers-behind u (Ok v) old mid new gathered left text rest one two =
+Gathers-both u (Ok v) old mid new gathered left text rest one two =
     let all = Gathers-more u old mid new gathered [] left one v text rest two in
     (all.0, all.1, ap (λ l. l ++ text) (sym (append-nil gathered)) ∙ all.2)
-Gathers-behind u (Err status) old mid new gathered left text rest one two =
+Gathers-both u (Err status) old mid new gathered left text rest one two =
     let P = λ (l : List ℕ). Interrupts old new (l ++ text) status in
     subst P (append-nil gathered) (Gathers-interrupted u old mid new gathered [] left one text status two)
 
 -- an output after a text that was gathered
-pub Concludes-behind : (old mid new : Taken) (sent gathered text left more : List ℕ) (last status : Status) → Sent old mid sent → gathered ++ text ≡ sent ++ left
+pub Concludes-more : (old mid new : Taken) (sent gathered text left more : List ℕ) (last status : Status) → Sent old mid sent → gathered ++ text ≡ sent ++ left
     → Concludes mid new (record { bytes = left ++ more; status = last }) status → Concludes old new (record { bytes = gathered ++ (text ++ more); status = last }) status
-Concludes-behind old mid new sent gathered text left more last status one cut two =
+Concludes-more old mid new sent gathered text left more last status one cut two =
     let P = λ (l : List ℕ). Concludes old new (record { bytes = l; status = last }) status in
     subst P (sym (append_assoc sent left more) ∙ ap (λ l. l ++ more) (sym cut) ∙ append_assoc gathered text more)
     (Concludes-after old mid new sent (record { bytes = left ++ more; status = last }) status one two)

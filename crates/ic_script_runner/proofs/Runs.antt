@@ -17,7 +17,7 @@ use Rattle.ic_script.specs.declared.LineCause.TheVariants.{LineTooLong, ScriptTo
 use Rattle.ic_options.specs.declared.Options.{Options}
 use Rattle.ic_script_runner.specs.declared.status.Status.{Status}
 use Rattle.ic_script_runner.specs.declared.status.Status.TheVariants.{Done, BadLine, ReadFault}
-use Rattle.ic_script_runner.specs.Acts.{Concludes, DoesAndGathers, Stops, bad_output, end_output, behind_gathered}
+use Rattle.ic_script_runner.specs.Acts.{Concludes, DoesAndGathers, Stops, bad_output, end_output, after_gathered}
 use Rattle.ic_script_runner.specs.AfterLine.{after_line}
 use Rattle.ic_script_runner.specs.Body.{body, whole_lines}
 use Rattle.ic_script_runner.specs.EndPart.{end_part}
@@ -28,7 +28,7 @@ use Rattle.ic_script_runner.specs.Script.{walk_of}
 use Rattle.ic_script_runner.specs.Sending.{Taken, Sent, Interrupts, Gathers}
 use Rattle.ic_behaviour.specs.State.{State}
 use Rattle.ic_behaviour.specs.Submitted.{empty}
-use Rattle.ic_script_runner.specs.Walk.{Place, Bad, Walk, start, behind_line, behind, walk, judge}
+use Rattle.ic_script_runner.specs.Walk.{Place, Bad, Walk, start, past_line, after_text, walk, judge}
 use Rattle.ic_script_runner.proofs.Exits.{explain-sent, explain-interrupted, explain-concludes, none_generated, of_read, out-stopped, out-front, body-accepted, explains-bad}
 use Rattle.ic_script_runner.proofs.Follows.{Follows, Follows-good, Follows-bad}
 use Rattle.ic_script_runner.proofs.BodyLaws.{whole_lines-none}
@@ -105,11 +105,11 @@ module _ (options : Options) (left_before left left_after : Option (List ℕ)) (
       let P = λ (l : List ℕ). Interrupts before after l status in
       subst P (sym (printed-more text)) (Interrupts-after before now after runs.front (pending ++ text) status runs.sent interrupted)
 
-  concludes-all : (output : Output) (status : Status) → Concludes now after (behind_gathered pending output) status
+  concludes-all : (output : Output) (status : Status) → Concludes now after (after_gathered pending output) status
       → Concludes before after (record output { bytes = runs.printed ++ output.bytes }) status
   concludes-all output status concludes =
       let P = λ (l : List ℕ). Concludes before after (record output { bytes = l }) status in
-      subst P (sym (printed-more output.bytes)) (Concludes-after before now after runs.front (behind_gathered pending output) status runs.sent concludes)
+      subst P (sym (printed-more output.bytes)) (Concludes-after before now after runs.front (after_gathered pending output) status runs.sent concludes)
 
   -- what was read so far
   read_so_far : (read : List ℕ) → left ≡ prepend_known read left_after → left_before ≡ prepend_known (runs.handed ++ (old.kept ++ read)) left_after
@@ -119,12 +119,12 @@ module _ (options : Options) (left_before left left_after : Option (List ℕ)) (
 
   -- the bytes of the script, and the way through them from here
   way_on : (read : List ℕ) → (IsTrue old.ended → read ≡ []) → (more : List ℕ) → (IsTrue old.ended → more ≡ [])
-      → walk_of options ((runs.handed ++ (old.kept ++ read)) ++ more) ≡ behind runs.printed (walk script_limits (place_of options state old) (pieces ((old.kept ++ read) ++ more)))
+      → walk_of options ((runs.handed ++ (old.kept ++ read)) ++ more) ≡ after_text runs.printed (walk script_limits (place_of options state old) (pieces ((old.kept ++ read) ++ more)))
   unfolding walk_of
   way_on read over more last =
       ap (λ l. walk script_limits (start options) (pieces l)) (append_assoc runs.handed (old.kept ++ read) more ∙ ap (λ l. runs.handed ++ l) (append_assoc old.kept read more))
       ∙ runs.follows.all (read ++ more) (λ e. ap (λ l. l ++ more) (over e) ∙ last e)
-      ∙ ap (λ l. behind runs.printed (walk script_limits (place_of options state old) (pieces l))) (sym (append_assoc old.kept read more))
+      ∙ ap (λ l. after_text runs.printed (walk script_limits (place_of options state old) (pieces l))) (sym (append_assoc old.kept read more))
 
   -- one call of the reader
   module _ (read : List ℕ) (taken : left ≡ prepend_known read left_after) (over : IsTrue old.ended → read ≡ []) where
@@ -145,24 +145,24 @@ module _ (options : Options) (left_before left left_after : Option (List ℕ)) (
 
     -- the way where the script was read to its end
     pub way-end : old.kept ++ read ≡ [] → rest_of left_after ≡ []
-        → walk_of options ((runs.handed ++ (old.kept ++ read)) ++ rest_of left_after) ≡ behind runs.printed (stopped (Ok state))
+        → walk_of options ((runs.handed ++ (old.kept ++ read)) ++ rest_of left_after) ≡ after_text runs.printed (stopped (Ok state))
     way-end none nothing =
         let at = place_of options state old in
         let empty : (old.kept ++ read) ++ rest_of left_after ≡ [] = ap (λ l. l ++ rest_of left_after) none ∙ nothing in
-        way_on read over (rest_of left_after) last ∙ ap (λ l. behind runs.printed (walk script_limits at (pieces l))) empty
-        ∙ ap (λ l. behind runs.printed (walk script_limits at l)) pieces-nil ∙ ap (behind runs.printed) (walk-nil script_limits at)
+        way_on read over (rest_of left_after) last ∙ ap (λ l. after_text runs.printed (walk script_limits at (pieces l))) empty
+        ∙ ap (λ l. after_text runs.printed (walk script_limits at l)) pieces-nil ∙ ap (after_text runs.printed) (walk-nil script_limits at)
 
     -- the way to a limit that was passed
     pub way-excess : (line : ℕ) (excess : Excess) (cause : LineCause) (stop : ℕ) → Exceeds old (old.kept ++ read) excess line
         → ((piece : List ℕ) → judge script_limits (place_of options state old) piece (Some excess) ≡ Err (record { line = old.handed + 1; cause = cause; stop = stop }))
-        → walk_of options ((runs.handed ++ (old.kept ++ read)) ++ rest_of left_after) ≡ behind runs.printed (stopped (Err (record { line = old.handed + 1; cause = cause; stop = stop })))
+        → walk_of options ((runs.handed ++ (old.kept ++ read)) ++ rest_of left_after) ≡ after_text runs.printed (stopped (Err (record { line = old.handed + 1; cause = cause; stop = stop })))
     way-excess line excess cause stop exceeds judged =
         let at = place_of options state old in
         let bad : Bad = record { line = old.handed + 1; cause = cause; stop = stop } in
         let first = exceeds.passes (rest_of left_after) in
         let L = λ (l : Limits). excess_of l old.offset first.0 ≡ Some excess in
-        way_on read over (rest_of left_after) last ∙ ap (λ l. behind runs.printed (walk script_limits at l)) first.2
-        ∙ ap (behind runs.printed) (walk-excess script_limits at first.0 first.1 excess bad (subst L runs.limits first.3) (judged first.0))
+        way_on read over (rest_of left_after) last ∙ ap (λ l. after_text runs.printed (walk script_limits at l)) first.2
+        ∙ ap (after_text runs.printed) (walk-excess script_limits at first.0 first.1 excess bad (subst L runs.limits first.3) (judged first.0))
 
     -- a line was handed out
     module _ (line : Line) (out_of : HandsOut old (old.kept ++ read) line new) (open_end : IsTrue new.ended → IsTrue old.ended ⊎ IsAtEnd left_after) where
@@ -172,13 +172,13 @@ module _ (options : Options) (left_before left left_after : Option (List ℕ)) (
       fits : excess_of script_limits old.offset out_of.piece ≡ None
       fits = let L = λ (l : Limits). excess_of l old.offset out_of.piece ≡ None in subst L runs.limits out_of.fits
 
-      next_place : (next : State) → behind_line (place_of options state old) (length out_of.piece) next ≡ place_of options next new
+      next_place : (next : State) → past_line (place_of options state old) (length out_of.piece) next ≡ place_of options next new
       next_place next =
           ap (λ n. record (place_of options next old) { number = n + 1; offset = old.offset + length out_of.piece }) (sym out_of.handed)
           ∙ ap (λ o. record (place_of options next new) { offset = o }) (sym out_of.offset)
 
       good : (next : State) (text : List ℕ) → after_line options state line.bytes ≡ Ok (next, text)
-          → Follows options (runs.handed ++ out_of.piece) (runs.printed ++ text) (behind_line (place_of options state old) (length out_of.piece) next) new.kept new.ended
+          → Follows options (runs.handed ++ out_of.piece) (runs.printed ++ text) (past_line (place_of options state old) (length out_of.piece) next) new.kept new.ended
       good next text done =
           Follows-good options runs.handed runs.printed (place_of options state old) old.kept old.ended runs.follows read out_of.piece line.bytes new.kept new.ended
           out_of.front over out_of.still out_of.cut out_of.one_line text next fits done
@@ -211,7 +211,7 @@ module _ (options : Options) (left_before left left_after : Option (List ℕ)) (
       -- the way to a bad line
       pub way-bad : (cause : LineCause) → after_line options state line.bytes ≡ Err cause
           → walk_of options ((runs.handed ++ (old.kept ++ read)) ++ rest_of left_after)
-          ≡ behind runs.printed (stopped (Err (record { line = old.handed + 1; cause = cause; stop = old.offset + length out_of.piece })))
+          ≡ after_text runs.printed (stopped (Err (record { line = old.handed + 1; cause = cause; stop = old.offset + length out_of.piece })))
       unfolding walk_of
       way-bad cause bad_line =
           let more = rest_of left_after in
@@ -257,12 +257,12 @@ module _ (options : Options) (left_before left left_after : Option (List ℕ)) (
           let ends : walk script_limits (place_of options state old) (whole_lines (pieces (old.kept ++ read))) ≡ stopped (Ok state) =
           ap (walk script_limits (place_of options state old)) (whole_lines-none (old.kept ++ read) none) ∙ walk-nil script_limits (place_of options state old) in
           let printed : runs.printed ≡ body words (runs.handed ++ (old.kept ++ read)) =
-          sym (body-accepted words options accepted is_read (runs.handed ++ (old.kept ++ read)) ∙ ap (λ (w : Walk). w.text) (way ∙ ap (behind runs.printed) ends) ∙ append-nil runs.printed) in
+          sym (body-accepted words options accepted is_read (runs.handed ++ (old.kept ++ read)) ∙ ap (λ (w : Walk). w.text) (way ∙ ap (after_text runs.printed) ends) ∙ append-nil runs.printed) in
           explain-sent words left_before left_after before after (runs.handed ++ (old.kept ++ read)) (read_so_far read taken)
           ReadFault runs.printed (same_sent same nothing) (printed, front, (λ e. let is = accepted in cc), none_generated words options accepted is_read) (λ e. cc)
 
       -- the script was read to its end
-      pub explain-end : (status : Status) → old.kept ++ read ≡ [] → rest_of left_after ≡ [] → Concludes now after (behind_gathered pending (end_output options state)) status
+      pub explain-end : (status : Status) → old.kept ++ read ≡ [] → rest_of left_after ≡ [] → Concludes now after (after_gathered pending (end_output options state)) status
           → Explained words left_before left_after before after status
       explain-end status none nothing concludes =
           let is = out-stopped words options accepted is_read ((runs.handed ++ (old.kept ++ read)) ++ rest_of left_after) runs.printed (Ok state) (way-end none nothing) in
@@ -274,11 +274,11 @@ module _ (options : Options) (left_before left left_after : Option (List ℕ)) (
       explain-excess : (status : Status) (line : ℕ) (excess : Excess) (cause : LineCause) (stop : ℕ) → Exceeds old (old.kept ++ read) excess line
           → ((piece : List ℕ) → judge script_limits (place_of options state old) piece (Some excess) ≡ Err (record { line = old.handed + 1; cause = cause; stop = stop }))
           → stop ≤ length (runs.handed ++ (old.kept ++ read)) → length (runs.handed ++ (old.kept ++ read)) ≤ stop + 65536
-          → Concludes now after (behind_gathered pending (bad_output line cause)) status → Explained words left_before left_after before after status
+          → Concludes now after (after_gathered pending (bad_output line cause)) status → Explained words left_before left_after before after status
       explain-excess status line excess cause stop exceeds judged low high concludes =
           let bad : Bad = record { line = old.handed + 1; cause = cause; stop = stop } in
           let way = way-excess line excess cause stop exceeds judged in
-          let N = λ (n : ℕ). Concludes now after (behind_gathered pending (bad_output n cause)) status in
+          let N = λ (n : ℕ). Concludes now after (after_gathered pending (bad_output n cause)) status in
           explain-concludes words left_before left_after before after (runs.handed ++ (old.kept ++ read)) (read_so_far read taken)
           (record { bytes = runs.printed ++ (bad_output bad.line cause).bytes; status = BadLine bad.line cause }) status
           (out-stopped words options accepted is_read ((runs.handed ++ (old.kept ++ read)) ++ rest_of left_after) runs.printed (Err bad) way)
@@ -330,7 +330,7 @@ module _ (options : Options) (left_before left left_after : Option (List ℕ)) (
             (subst I (sym whole.1) (Interrupts-more before after _ whole.0 status (Interrupts-more before after (runs.printed ++ text) _ status
             (interrupts-all text status interrupted))))
 
-        explain-bad : (status : Status) (cause : LineCause) → after_line options state line.bytes ≡ Err cause → Concludes now after (behind_gathered pending (bad_output line.number cause)) status
+        explain-bad : (status : Status) (cause : LineCause) → after_line options state line.bytes ≡ Err cause → Concludes now after (after_gathered pending (bad_output line.number cause)) status
             → Explained words left_before left_after before after status
         explain-bad status cause bad_line concludes =
             let more = rest_of left_after in
@@ -338,7 +338,7 @@ module _ (options : Options) (left_before left left_after : Option (List ℕ)) (
             let way = way-bad line out_of open_end cause bad_line in
             let size = ap length (regrouped line out_of open_end) ∙ length-append (runs.handed ++ out_of.piece) new.kept in
             let inner = length-append runs.handed out_of.piece in
-            let N = λ (n : ℕ). Concludes now after (behind_gathered pending (bad_output n cause)) status in
+            let N = λ (n : ℕ). Concludes now after (after_gathered pending (bad_output n cause)) status in
             explain-concludes words left_before left_after before after (runs.handed ++ (old.kept ++ read)) (read_so_far read taken)
             (record { bytes = runs.printed ++ (bad_output bad.line cause).bytes; status = BadLine bad.line cause }) status
             (out-stopped words options accepted is_read ((runs.handed ++ (old.kept ++ read)) ++ more) runs.printed (Err bad) way)

@@ -43,8 +43,8 @@ Concludes old new output status =
     ((status ≡ output.status) × Sent old new output.bytes) ⊎ Interrupts old new output.bytes status
 
 -- an output after what was gathered
-abbrev pub behind_gathered : List ℕ → Output → Output
-behind_gathered gathered output = record output { bytes = gathered ++ output.bytes }
+abbrev pub after_gathered : List ℕ → Output → Output
+after_gathered gathered output = record output { bytes = gathered ++ output.bytes }
 
 -- a line was done and what it prints was gathered, or the status says why the run ends here
 abbrev pub DoesAndGathers : Taken → Taken → (gathered left : List ℕ) → ℕ → Result (State × List ℕ) LineCause → Result State Status → Type 0
@@ -52,7 +52,7 @@ DoesAndGathers old new gathered left number said (Ok state) =
     (text : List ℕ) × (sent : List ℕ) × (said ≡ Ok (state, text)) × Sent old new sent × (gathered ++ text ≡ sent ++ left)
 DoesAndGathers old new gathered left number said (Err status) =
     ((done : State × List ℕ) × (said ≡ Ok done) × Interrupts old new (gathered ++ done.1) status)
-    ⊎ ((cause : LineCause) × (said ≡ Err cause) × Concludes old new (behind_gathered gathered (bad_output number cause)) status)
+    ⊎ ((cause : LineCause) × (said ≡ Err cause) × Concludes old new (after_gathered gathered (bad_output number cause)) status)
     ⊎ Interrupts old new gathered status
 
 -- the state after a line, or that it is bad, unless out of memory
@@ -69,8 +69,8 @@ Ends last (Err status) = status ≡ NoMemory
 
 -- what came of a fault of the reader of lines
 abbrev pub Stops : Taken → Taken → (gathered : List ℕ) → LineFault → Status → Type 0
-Stops old new gathered (fault.LineTooLong line) status = Concludes old new (behind_gathered gathered (bad_output line cause.LineTooLong)) status
-Stops old new gathered (fault.ScriptTooLong line) status = Concludes old new (behind_gathered gathered (bad_output line cause.ScriptTooLong)) status
+Stops old new gathered (fault.LineTooLong line) status = Concludes old new (after_gathered gathered (bad_output line cause.LineTooLong)) status
+Stops old new gathered (fault.ScriptTooLong line) status = Concludes old new (after_gathered gathered (bad_output line cause.ScriptTooLong)) status
 Stops old new gathered fault.ReadFault status = (status ≡ ReadFault) × (new ≡ old)
 Stops old new gathered fault.NoMemory status = Interrupts old new gathered status
 

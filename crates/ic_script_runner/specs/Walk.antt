@@ -21,8 +21,8 @@ abbrev pub start : Options → Place
 start options = record { options = options; state = empty; number = 1; offset = 0 }
 
 -- the place after a line whose piece of the script has this many bytes
-abbrev pub behind_line : Place → ℕ → State → Place
-behind_line at size state = record at { state = state; number = at.number + 1; offset = at.offset + size }
+abbrev pub past_line : Place → ℕ → State → Place
+past_line at size state = record at { state = state; number = at.number + 1; offset = at.offset + size }
 
 -- a bad line: its number, its cause, and how many bytes of the script show that it is bad
 pub record Bad : Type 0 where
@@ -49,12 +49,12 @@ judge limits at piece (Some LongScript) =
     Err (record { line = at.number; cause = ScriptTooLong; stop = limits.script + 1 })
 
 -- a way with a text before what it prints
-abbrev pub behind : List ℕ → Walk → Walk
-behind text way = record { text = text ++ way.text; last = way.last }
+abbrev pub after_text : List ℕ → Walk → Walk
+after_text text way = record { text = text ++ way.text; last = way.last }
 
 -- a step, and the way from there; a bad line is the end
 abbrev pub onward : Result (State × List ℕ) Bad → (State → Walk) → Walk
-onward (Ok done) rest = behind done.1 (rest done.0)
+onward (Ok done) rest = after_text done.1 (rest done.0)
 onward (Err bad) rest = record { text = []; last = Err bad }
 
 -- the way from a place through the pieces of a script
@@ -62,4 +62,4 @@ unfoldable pub walk : Limits → Place → List (List ℕ) → Walk
 walk limits at [] = record { text = []; last = Ok at.state }
 walk limits at (piece ∷ pieces) =
     onward (judge limits at piece (excess_of limits at.offset piece))
-    (λ state. walk limits (behind_line at (length piece) state) pieces)
+    (λ state. walk limits (past_line at (length piece) state) pieces)

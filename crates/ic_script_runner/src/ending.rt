@@ -1,6 +1,6 @@
 ghost use Rattle.std.specs.Prelude.{◌≡◌, ◌++◌, IfOk};
 ghost use Rattle.ic_behaviour.specs.declared.request.Request.{Request as SomeRequest};
-ghost use Rattle.ic_script_runner.specs.Acts.{Concludes, behind_gathered, end_output};
+ghost use Rattle.ic_script_runner.specs.Acts.{Concludes, after_gathered, end_output};
 ghost use Rattle.ic_script_runner.specs.EndPart.{answers_from, end_state, short_end_part};
 ghost use Rattle.ic_script_runner.specs.Sending.{Gathers, sink_at};
 ghost use Rattle.ic_output.specs.Texts.{calls_line, closing};
@@ -29,7 +29,7 @@ pub fn finish<R: Threads + Sync, K: Sink, G: Gate + Sync>(
 ) -> Status
     requires { HasBounds setting.now.options.now }
     ensures finished { Concludes (sink_at K.taken K.fits K.faults sink.old) (sink_at K.taken K.fits K.faults sink.new)
-        (behind_gathered gathered.old (end_output setting.now.options.now world)) result }
+        (after_gathered gathered.old (end_output setting.now.options.now world)) result }
 {
     match end_world(alloc, setting.rt, setting.options, world, setting.gate) {
         Ok(world) => print_end(alloc, &world, gathered, sink),

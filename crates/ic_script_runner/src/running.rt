@@ -1,7 +1,7 @@
 ghost use Rattle.std.specs.Prelude.{◌≡◌, ◌≢◌, ◌≤◌, ℕ, List, Some, None, IsTrue};
 ghost use Rattle.ic_outside.specs.Faults.{Rose};
 ghost use Rattle.ic_options.specs.Options.{HasBounds, options_of};
-ghost use Rattle.ic_script_runner.specs.Acts.{Concludes, DoesAndGathers, Stops, bad_output, behind_gathered};
+ghost use Rattle.ic_script_runner.specs.Acts.{Concludes, DoesAndGathers, Stops, bad_output, after_gathered};
 ghost use Rattle.ic_script_runner.specs.AfterLine.{after_line};
 ghost use Rattle.ic_script_runner.specs.Counts.{source_count_after, sink_count_after};
 ghost use Rattle.ic_script_runner.specs.Explained.{Explained};
@@ -113,7 +113,7 @@ fn report<K: Sink>(
     sink: &mut K,
 ) -> Status
     ensures reported { Concludes (sink_at K.taken K.fits K.faults sink.old) (sink_at K.taken K.fits K.faults sink.new)
-        (behind_gathered gathered.old (bad_output line cause)) result }
+        (after_gathered gathered.old (bad_output line cause)) result }
 {
     match bad_text(alloc, line, cause) {
         Ok(text) => gathered.conclude(sink, &text.items, Status::BadLine { line, cause }),
