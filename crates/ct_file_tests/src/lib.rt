@@ -6,9 +6,15 @@ mod faults;
 #[cfg(test)]
 mod files;
 #[cfg(test)]
+mod met;
+#[cfg(test)]
 mod names;
 #[cfg(test)]
 mod patterns;
+#[cfg(test)]
+mod types;
+#[cfg(test)]
+mod value_faults;
 
 use ct_file::{FileError, position_of, read};
 use std::alloc::{AllocError, Global};
