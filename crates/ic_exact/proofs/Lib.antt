@@ -1,2 +1,3 @@
-pub mod Same
+pub mod Deciding
+pub mod OneRow
 pub mod Once

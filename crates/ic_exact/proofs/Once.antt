@@ -3,7 +3,7 @@ use Rattle.std.proofs.Common.{◌≡◌, ℕ, zero, suc, ◌+◌, ◌*◌, ◌<�
 use Rattle.std.specs.Prelude.{nat_eq}
 use Rattle.std.specs.List.{AllByRecursion, IsDistinct}
 use Rattle.std.specs.Cmp.Lexicographic.{pointwise, bytes_decides}
-use Rattle.std.proofs.Math.Seq.{take-add}
+use Rattle.std.proofs.Math.Seq.{take-add, take-suc}
 use Rattle.std.proofs.lemmas.List.{append-nil, length-append}
 use Rattle.std.proofs.lemmas.List.{get_or_append_left}
 use Rattle.std.proofs.lemmas.Option.{get_or_from_slice_get, slice_get_within}
@@ -80,3 +80,12 @@ one_list xs (n ∷ ns) (m ∷ ms) is a b e =
       apart [] (y ∷ b) c d l e = absurd (omega (arith, l))
       apart (x ∷ a) [] c d l e = absurd (omega (arith, l))
       apart (x ∷ a) (y ∷ b) c d l e = let rest : (a ≡ b) × (c ≡ d) = apart a b c d (omega (arith, l)) (cc) in let head : x ≡ y = cc in (ap₂ (λ (k : ℕ) (m : List ℕ). k ∷ m) head rest.0, rest.1)
+
+-- ---- bytes are put together
+
+pub more_bytes : (xs : List (List ℕ)) (ns : List ℕ) (i d : ℕ) (so_far now : List ℕ) → i < length ns → so_far ≡ bytes_of xs (take i ns)
+    → now ≡ so_far ++ slice_index_or xs (slice_index_or ns i d) [] → now ≡ bytes_of xs (take (i + 1) ns)
+more_bytes xs ns i d so_far now below before more =
+    let next : suc i ≡ i + 1 = omega arith in
+    let front : take (i + 1) ns ≡ take i ns ++ slice_index_or ns i d ∷ [] = ap (λ k. take k ns) (sym next) ∙ take-suc ns i d below in
+    more ∙ ap (λ l. l ++ slice_index_or xs (slice_index_or ns i d) []) before ∙ sym (bytes_append xs (take i ns) (slice_index_or ns i d)) ∙ ap (bytes_of xs) (sym front)

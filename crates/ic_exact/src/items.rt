@@ -1,11 +1,11 @@
 ghost use Rattle.std.specs.Prelude.{◌≡◌, ◌↔◌, IfOk, IsTrue};
 
-use crate::exact::Exact;
+use crate::exact::{Exact, Same};
 use ic_base::NoMemory;
 use std::alloc::Global;
 
 /// Whether both lists have the same items, in the same order.
-pub fn same_items<T: Exact>(a: &[T], b: &[T]) -> bool
+pub fn same_items<T: Same>(a: &[T], b: &[T]) -> bool
     ensures { IsTrue result ↔ (a.now ≡ b.now) }
 {
     if a.len() != b.len() {

@@ -5,14 +5,18 @@
 //! so that memories are lists of numbers.
 #![tactic(auto)]
 
+mod calls;
+mod canisters;
 mod exact;
+mod instructions;
 mod items;
 mod lists;
+mod modules;
 mod ranges;
 mod shared;
 
-pub use exact::Exact;
+pub use exact::{Exact, Same};
 pub use items::{copied, same_items};
-pub use lists::{Indices, Numbers, Words};
+pub use lists::{Entries, Numbers, Words};
 pub use ranges::Ranges;
-pub use shared::{Shared, shared_items};
+pub use shared::{Shared, shared_items, unshared};

@@ -1,4 +1,4 @@
-use crate::exact::Exact;
+use crate::exact::{Exact, Same};
 use ic_base::NoMemory;
 use std::alloc::Global;
 use std::marker::Model;
@@ -17,12 +17,14 @@ impl Model for Numbers {
     ghost view = { λ l. l.items.items };
 }
 
-impl Exact for Numbers {
-    #[tactic(auto, using(crate::proofs::Same::same_bytes))]
+impl Same for Numbers {
+    #[tactic(auto, using(crate::proofs::Deciding::same_bytes))]
     fn same(&self, other: &Numbers) -> bool {
         self.items.as_slice() == other.items.as_slice()
     }
+}
 
+impl Exact for Numbers {
     fn copy(&self, alloc: Global) -> Result<Numbers, NoMemory> {
         Ok(Numbers {
             items: Vec::from_slice(alloc, self.items.as_slice())?,
@@ -44,12 +46,14 @@ impl Model for Words {
     ghost view = { λ l. l.items.items };
 }
 
-impl Exact for Words {
-    #[tactic(auto, using(crate::proofs::Same::same_bytes))]
+impl Same for Words {
+    #[tactic(auto, using(crate::proofs::Deciding::same_bytes))]
     fn same(&self, other: &Words) -> bool {
         self.items.as_slice() == other.items.as_slice()
     }
+}
 
+impl Exact for Words {
     fn copy(&self, alloc: Global) -> Result<Words, NoMemory> {
         Ok(Words {
             items: Vec::from_slice(alloc, self.items.as_slice())?,
@@ -59,11 +63,11 @@ impl Exact for Words {
 
 /// Places that have a number of 32 bits, or none. Contracts see the list.
 #[derive(Debug, Drop)]
-pub struct Indices {
+pub struct Entries {
     pub items: Vec<Option<u32>>,
 }
 
-impl Model for Indices {
+impl Model for Entries {
     ghost use Rattle.std.specs.Prelude.{List, ℕ, Option};
 
     ghost Value = { List (Option ℕ) };
@@ -71,14 +75,16 @@ impl Model for Indices {
     ghost view = { λ l. l.items.items };
 }
 
-impl Exact for Indices {
-    #[tactic(auto, using(crate::proofs::Same::same_options))]
-    fn same(&self, other: &Indices) -> bool {
+impl Same for Entries {
+    #[tactic(auto, using(crate::proofs::Deciding::same_options))]
+    fn same(&self, other: &Entries) -> bool {
         self.items.as_slice() == other.items.as_slice()
     }
+}
 
-    fn copy(&self, alloc: Global) -> Result<Indices, NoMemory> {
-        Ok(Indices {
+impl Exact for Entries {
+    fn copy(&self, alloc: Global) -> Result<Entries, NoMemory> {
+        Ok(Entries {
             items: Vec::from_slice(alloc, self.items.as_slice())?,
         })
     }

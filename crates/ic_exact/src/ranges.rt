@@ -1,4 +1,4 @@
-ghost use Rattle.std.specs.Prelude.{◌≡◌, ◌*◌, ◌%◌, [], length, Some, IfOk, nat_eq, slice_get};
+ghost use Rattle.std.specs.Prelude.{◌≡◌, ◌*◌, ◌%◌, [], length, Some, IfOk, nat_eq, slice_get, slice_index_or, ◌<◌};
 ghost use Rattle.std.specs.Option.{option_copied};
 ghost use Rattle.std.specs.Cmp.{partial_equiv_from_equiv};
 ghost use Rattle.std.specs.Cmp.Lexicographic.{bytes_decides, pointwise, nat_list_eq_equiv};
@@ -82,8 +82,18 @@ impl Ranges {
         }
     }
 
-    /// The range of this number.
-    pub fn get(&self, number: u32) -> Option<&[u8]>
+    /// The bytes of the range of this number.
+    pub fn range(&self, number: u32) -> &[u8]
+        requires { number < length self.now }
+        ensures { result.now ≡ slice_index_or self.now number [] }
+    {
+        let ranges = self.set.as_slice();
+        let range = &ranges[number as usize];
+        range.bytes.as_slice()
+    }
+
+    // The range of this number, if there is one.
+    fn get(&self, number: u32) -> Option<&[u8]>
         ensures { option_copied result ≡ slice_get self.now number }
     {
         let range = self.set.get_index(number as usize)?;
@@ -134,5 +144,17 @@ impl Ranges {
             numbers.push(number)?;
         }
         Ok(Numbers { items: numbers })
+    }
+
+    /// The bytes of the ranges of these numbers.
+    pub fn bytes(&self, alloc: Global, numbers: &[u32]) -> Result<Vec<u8>, NoMemory>
+        requires { AreNumbers self.now numbers.now }
+        ensures { IfOk result (λ bytes. bytes.items ≡ bytes_of self.now numbers.now) }
+    {
+        let mut bytes = Vec::with_capacity(alloc, RANGE.saturating_mul(numbers.len()))?;
+        for number in numbers {
+            bytes.extend_from_slice(self.range(*number))?;
+        }
+        Ok(bytes)
     }
 }

@@ -1,7 +1,7 @@
 ghost use Rattle.std.specs.Prelude.{◌≡◌, IfOk};
 ghost use Rattle.std.specs.Arc.{arc_value};
 
-use crate::exact::Exact;
+use crate::exact::{Exact, Same};
 use ic_base::NoMemory;
 use std::alloc::Global;
 use std::marker::Model;
@@ -48,11 +48,13 @@ impl<T> Shared<T> {
     }
 }
 
-impl<T: Exact> Exact for Shared<T> {
+impl<T: Same> Same for Shared<T> {
     fn same(&self, other: &Shared<T>) -> bool {
         self.get().same(other.get())
     }
+}
 
+impl<T: Same + Drop> Exact for Shared<T> {
     fn copy(&self, _alloc: Global) -> Result<Shared<T>, NoMemory> {
         self.share()
     }
@@ -97,4 +99,15 @@ pub fn shared_items<T: Exact>(
         near = others;
     }
     Ok(places)
+}
+
+/// Equal values, in memory of their own.
+pub fn unshared<T: Exact>(alloc: Global, places: &[Shared<T>]) -> Result<Vec<T>, NoMemory>
+    ensures { IfOk result (λ values. values.items ≡ places.now) }
+{
+    let mut values = Vec::with_capacity(alloc, places.len())?;
+    for place in places {
+        values.push(place.get().copy(alloc)?)?;
+    }
+    Ok(values)
 }

@@ -1,8 +1,8 @@
 use Rattle.std.proofs.Common.{◌≡◌, nat_eq, sym, ap₂, ◌∙◌}
 use Rattle.std.specs.Option.{option_eq}
 use Rattle.std.specs.Cmp.Lexicographic.{pointwise}
-use Rattle.ic_exact.proofs.Same.{same_options}
-use Rattle.ic_exact.proofs.lists.IndicesExact.same.Goals as goal
+use Rattle.ic_exact.proofs.Deciding.{same_options}
+use Rattle.ic_exact.proofs.lists.EntriesSame.same.Goals as goal
 
 pub returns : goal.returns
 returns c =
