@@ -1,11 +1,10 @@
 ghost use Rattle.std.specs.Prelude.{◌≡◌, [], None, IfSome};
 ghost use Rattle.ic_state.specs.IsCanister.{IsCanister};
 
-use crate::failing::failing_bytes;
 use ic_base::NoMemory;
 use ic_exec::place_code;
 use ic_principal::{Bytes, Principal};
-use ic_state::{Canister, Code, Controllers, Phase};
+use ic_state::{Canister, Code, Controllers};
 use std::alloc::Global;
 use wm_decode::decode;
 use wm_encode::{encode, relay_fits};
@@ -113,30 +112,5 @@ pub fn probing(alloc: Global, inspection: u8) -> Option<Canister>
     match bytes_of(alloc, inspection) {
         Ok(bytes) => canister_with(alloc, valid_of(alloc, bytes.as_slice())),
         Err(_) => None,
-    }
-}
-
-/// A canister with 1,000 cycles, which runs the module whose methods fail.
-pub fn failing(alloc: Global) -> Option<Canister>
-    ensures keeps { IfSome result IsCanister }
-    ensures fresh { IfSome result (λ c. c.contexts ≡ []) }
-{
-    match failing_bytes(alloc) {
-        Ok(bytes) => canister_with(alloc, valid_of(alloc, bytes.as_slice())),
-        Err(_) => None,
-    }
-}
-
-/// A canister that is stopped, without code.
-pub fn stopped(alloc: Global) -> Option<Canister>
-    ensures keeps { IfSome result IsCanister }
-    ensures fresh { IfSome result (λ c. c.contexts ≡ []) }
-{
-    match empty_canister(alloc) {
-        Some(mut canister) => {
-            canister.phase = Phase::Stopped;
-            Some(canister)
-        }
-        None => None,
     }
 }

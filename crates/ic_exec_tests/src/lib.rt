@@ -5,8 +5,6 @@
 #[cfg(test)]
 mod canisters;
 #[cfg(test)]
-mod failing;
-#[cfg(test)]
 mod installs;
 #[cfg(test)]
 mod keeper;

@@ -1,11 +1,8 @@
 ghost use Rattle.std.specs.Prelude.{◌≡◌, ◌≤◌, [], IfSome};
 ghost use Rattle.ic_state.specs.IsCanister.{IsCanister};
 
-use crate::canisters::{empty_canister, failing, probing, relaying, stopped};
-use crate::rows::{
-    Row, empty as empty_row, failing as failing_rows, probing as probing_rows,
-    relaying as relaying_rows, stopped as stopped_row,
-};
+use crate::canisters::{probing, relaying};
+use crate::rows::{Row, relaying as relaying_rows};
 use ic_calls::{admit, take_call};
 use ic_exec::{Env, Executed, execute, inspect, query};
 use ic_principal::{Bytes, Principal, Text};
@@ -91,13 +88,6 @@ fn parts(response: &Response) -> (u32, &[u8]) {
     }
 }
 
-/// The first four bytes of memory.
-fn word(canister: &Canister) -> [u8; 4] {
-    let mut bytes = [9; 4];
-    canister.store.get().copy_out(0, &mut bytes);
-    bytes
-}
-
 fn compare(rt: &impl Abort, row: &Row, done: &Option<Executed>) {
     let Some(done) = done else {
         panic!(rt; "not executed");
@@ -141,31 +131,6 @@ fn a_message_empties_the_balance(rt: HostRuntime) {
         }
         None => panic!(rt; "not executed"),
     }
-}
-
-#[test]
-fn traps_leave_no_trace(rt: HostRuntime) {
-    for row in &probing_rows() {
-        let done = run_row(rt.alloc(), probing(rt.alloc(), 11), row);
-        compare(&rt, row, &done);
-        if let Some(done) = &done {
-            assert_eq!(rt; word(&done.canister), [0; 4]);
-        }
-    }
-}
-
-// What the caller of a call that fails is told.
-#[test]
-fn failures(rt: HostRuntime) {
-    for row in &failing_rows() {
-        check_row(&rt, rt.alloc(), failing(rt.alloc()), row);
-    }
-}
-
-#[test]
-fn refusals(rt: HostRuntime) {
-    check_row(&rt, rt.alloc(), empty_canister(rt.alloc()), &empty_row());
-    check_row(&rt, rt.alloc(), stopped(rt.alloc()), &stopped_row());
 }
 
 fn env() -> Env
