@@ -1,0 +1,5 @@
+pub mod Stays
+pub mod Alike
+pub mod Unique
+pub mod Makes
+pub mod Entering

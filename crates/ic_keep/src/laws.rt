@@ -1,0 +1,8 @@
+ghost use Rattle.std.specs.Prelude.{◌≡◌};
+ghost use Rattle.ic_keep.specs.Kept.{KeptState, Tables, state_at};
+ghost use Rattle.ic_keep.specs.IsKept.{Grows, IsKept};
+
+/// What is kept stays, as the same state, while tables grow. It is a law, and does nothing when it is called.
+pub fn growth_keeps()
+    ensures { (t u : Tables) → Grows t u → (k : KeptState) → IsKept t k → IsKept u k × (state_at u k ≡ state_at t k) }
+{}

@@ -1,0 +1,18 @@
+//! States that are kept.
+//!
+//! A search over orders meets many states, of which each differs little from one that it met before. A
+//! `Keeper` keeps them: ranges of memories, codes, and whole parts that two states have alike are kept
+//! once. What is given back is the state, and two kept states are told to be the same exactly where they
+//! are.
+#![tactic(auto)]
+
+mod codes;
+mod keeper;
+mod kept;
+mod laws;
+mod making;
+mod parts;
+
+pub use keeper::Keeper;
+pub use kept::Kept;
+pub use laws::growth_keeps;
