@@ -1,0 +1,4 @@
+pub mod Failing
+pub mod Loops
+pub mod Names
+pub mod Spelling
