@@ -1,4 +1,5 @@
 pub mod Lists
+pub mod Ranges
 pub mod Keeping
 pub mod Orders
 pub mod Further

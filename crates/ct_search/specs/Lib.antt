@@ -1,3 +1,4 @@
 pub mod Meaning
 pub mod Visits
 pub mod Search
+pub mod Index

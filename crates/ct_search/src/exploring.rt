@@ -4,6 +4,7 @@ ghost use Rattle.ct_search.specs.Visits.{Tells};
 ghost use Rattle.ct_search.specs.Search.{Stays, all_seen, AreHeld, AreStarts};
 
 use crate::case::{Case, Met};
+use crate::index::Table;
 use crate::machine::Machine;
 use crate::moving::cases_after;
 use crate::visiting::visit_all;
@@ -55,17 +56,26 @@ where
     ensures met { IfOk result (λ met. Tells (M.meaning machine.now) (map (M.state keeper.old) starts.items) most (all_seen M.state keeper.new met.cases.items) met.all) }
 {
     let first = started(alloc, machine, keeper, starts)?;
-    let mut cases = Vec::new(alloc);
-    if !visit_all(machine, keeper, &mut cases, first, most)? {
-        return Ok(Met { cases, all: false });
+    let mut met = Table::new(alloc);
+    if !visit_all(alloc, machine, keeper, &mut met, first, most)? {
+        return Ok(Met {
+            cases: met.cases,
+            all: false,
+        });
     }
     let mut next = 0;
-    while next < cases.len() {
-        let found = cases_after(alloc, machine, keeper, &cases[next])?;
-        if !visit_all(machine, keeper, &mut cases, found, most)? {
-            return Ok(Met { cases, all: false });
+    while next < met.cases.len() {
+        let found = cases_after(alloc, machine, keeper, &met.cases[next])?;
+        if !visit_all(alloc, machine, keeper, &mut met, found, most)? {
+            return Ok(Met {
+                cases: met.cases,
+                all: false,
+            });
         }
         next += 1;
     }
-    Ok(Met { cases, all: true })
+    Ok(Met {
+        cases: met.cases,
+        all: true,
+    })
 }

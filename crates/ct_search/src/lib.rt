@@ -7,6 +7,7 @@
 
 mod case;
 mod exploring;
+mod index;
 mod laws;
 mod machine;
 mod moving;

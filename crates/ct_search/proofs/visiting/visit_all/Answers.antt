@@ -19,9 +19,9 @@ returns-then-not-branch-clause-visited g c =
     let m = g.M.Machine.meaning c.args.machine.now in
     let q = c.args.keeper.now in
     let it = seen state q c.in-Some.case in
-    let mid = all_seen state q c.loop-case.cases.items in
-    let new = all_seen state q c.visit.new.cases.items in
-    let old = all_seen state q c.args.cases.now.items in
+    let mid = all_seen state q c.loop-case.met.cases.items in
+    let new = all_seen state q c.visit.new.met.cases.items in
+    let old = all_seen state q c.args.met.now.cases.items in
     let whole =
     ap (all_seen state q) (c.loop-case.invariant.whole ∙ ap (λ l. c.loop-case.yielded ++ l) c.in-Some.ensures.steps.0)
     ∙ map-append (seen state q) c.loop-case.yielded (c.in-Some.case ∷ c.next.new.self.rest.items) in
@@ -35,15 +35,16 @@ loop-case-preserved g c =
     let m = g.M.Machine.meaning c.args.machine.now in
     let q = c.args.keeper.now in
     let it = seen state q c.in-Some.case in
-    let mid = all_seen state q c.loop-case.cases.items in
-    let new = all_seen state q c.visit.new.cases.items in
-    let old = all_seen state q c.args.cases.now.items in
+    let mid = all_seen state q c.loop-case.met.cases.items in
+    let new = all_seen state q c.visit.new.met.cases.items in
+    let old = all_seen state q c.args.met.now.cases.items in
     let whole = c.loop-case.invariant.whole ∙ ap (λ l. c.loop-case.yielded ++ l) c.in-Some.ensures.steps.0 in
     let last = subst (λ room. HasVisited m c.args.most mid it room new) c.if-not-branch.false c.in_ok-visit.ensures.visited in
     record {
       visited =
           subst (λ some. HaveVisited m c.args.most old some true new) (sym (map-append (seen state q) c.loop-case.yielded (c.in-Some.case ∷ [])))
           (visited_more m c.args.most old (all_seen state q c.loop-case.yielded) mid it new c.loop-case.invariant.visited last);
+      indexed = c.in_ok-visit.ensures.indexed;
       held = c.in_ok-visit.ensures.held;
       whole = whole ∙ sym (append_assoc c.loop-case.yielded (c.in-Some.case ∷ []) c.next.new.self.rest.items);
       rest =
@@ -58,4 +59,4 @@ returns-clause-visited g c =
     let m = g.M.Machine.meaning c.args.machine.now in
     let q = c.args.keeper.now in
     let whole : c.args.found.items ≡ c.loop-case.yielded = first_of (search rules, grind (arith, common_steps)) in
-    subst (λ some. HaveVisited m c.args.most (all_seen state q c.args.cases.now.items) (all_seen state q some) true (all_seen state q c.loop-case.cases.items)) (sym whole) c.loop-case.invariant.visited
+    subst (λ some. HaveVisited m c.args.most (all_seen state q c.args.met.now.cases.items) (all_seen state q some) true (all_seen state q c.loop-case.met.cases.items)) (sym whole) c.loop-case.invariant.visited
