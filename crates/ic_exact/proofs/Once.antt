@@ -28,7 +28,7 @@ bytes_stay xs more (n ∷ ns) all = ap₂ (λ (a b : List ℕ). a ++ b) (get_or_
 pub extends_again : {A : Type 0} (xs ys zs : List A) → Extends xs ys → Extends ys zs → Extends xs zs
 extends_again xs ys zs (more, a) (others, b) = (more ++ others, b ∙ ap (λ l. l ++ others) a ∙ append_assoc xs more others)
 
-bytes_append : (xs : List (List ℕ)) (ns : List ℕ) (n : ℕ) → bytes_of xs (ns ++ n ∷ []) ≡ bytes_of xs ns ++ slice_index_or xs n []
+pub bytes_append : (xs : List (List ℕ)) (ns : List ℕ) (n : ℕ) → bytes_of xs (ns ++ n ∷ []) ≡ bytes_of xs ns ++ slice_index_or xs n []
 bytes_append xs [] n = append-nil (slice_index_or xs n [])
 bytes_append xs (m ∷ ns) n = ap (λ l. slice_index_or xs m [] ++ l) (bytes_append xs ns n) ∙ sym (append_assoc (slice_index_or xs m []) (bytes_of xs ns) (slice_index_or xs n []))
 

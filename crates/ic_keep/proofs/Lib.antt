@@ -3,3 +3,4 @@ pub mod Alike
 pub mod Unique
 pub mod Makes
 pub mod Entering
+pub mod Turns

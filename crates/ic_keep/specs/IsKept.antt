@@ -64,3 +64,12 @@ codes_in s = map (λ e. e.1.code) s.canisters
 pub record HasCodes (t : Tables) (k : KeptState) (s : State) : Type 0 where
   pub stored : AllByRecursion (IsStored t) k.canisters
   pub same : map (λ (c : KeptCanister). code_at t.codes c.code) k.canisters ≡ codes_in s
+
+-- the store of the one can be turned into that of the other by writing
+pub record HasShape (c d : KeptCanister) : Type 0 where
+  pub code : c.code ≡ d.code
+  pub table : c.store.table ≡ d.store.table
+  pub globals : length c.store.globals ≡ length d.store.globals
+  pub few : length d.store.globals ≤ 65535
+  pub memory : length c.store.memory ≡ length d.store.memory
+  pub stable : length c.store.stable ≡ length d.store.stable

@@ -12,6 +12,7 @@ mod kept;
 mod laws;
 mod making;
 mod parts;
+mod turning;
 
 pub use keeper::Keeper;
 pub use kept::Kept;

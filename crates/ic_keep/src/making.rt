@@ -110,7 +110,7 @@ impl Keeper {
     }
 
     // The last goes into the map first, so that each one goes to its front.
-    fn make_canisters(
+    pub(crate) fn make_canisters(
         &self,
         alloc: Global,
         kept: &[Shared<KeptCanister>],
