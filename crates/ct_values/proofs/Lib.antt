@@ -1,2 +1,9 @@
 pub mod Loops
 mod Rows
+pub mod Meant
+pub mod Ties
+pub mod Cases
+pub mod Plains
+pub mod Records
+pub mod Values
+pub mod Whole

@@ -7,6 +7,7 @@
 
 mod cursor;
 mod fault;
+pub mod laws;
 mod plain;
 mod reader;
 mod reading;
