@@ -1,5 +1,6 @@
 pub mod Loops
 mod Rows
+pub mod Starts
 pub mod Meant
 pub mod Ties
 pub mod Cases

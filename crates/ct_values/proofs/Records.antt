@@ -31,6 +31,7 @@ use Rattle.ct_patterns.specs.Meets.{is_leaf, fields_at}
 use Rattle.ct_values.specs.declared.reader.Admitted.{Admitted}
 use Rattle.ct_values.specs.Steps.{Step, exactly, some_fields, Reading, Giving, Said}
 use Rattle.ct_values.specs.Spelled.{separator_at, annotated_at, is_said, starts_others, field_at, fields_said_at, missing_from, record_at}
+use Rattle.ct_values.proofs.Starts.{NoDots, and_false, no_dot}
 use Rattle.ct_values.proofs.Meant.{AreMet, nothing_met, one_met, both_met, leaf_met}
 use Rattle.ct_values.proofs.Ties.{Tied, Read, Ties, spends, put_there, braces_are, annotated_tied}
 
@@ -114,13 +115,13 @@ unfolding fields_said_at
 fields_stop admitted fields ours zero said c ended = rw ended refl
 fields_stop admitted fields ours (suc most) said c ended = rw ended refl
 
-no_dots : (admitted : Admitted) (tokens : List Token) → admitted.patterns ≡ false → starts_others admitted tokens ≡ false
-no_dots admitted tokens closed = rw closed refl
+quiet_there : (admitted : Admitted) (tokens : List Token) → starts (is_mark 46) tokens ≡ false → starts_others admitted tokens ≡ false
+quiet_there admitted tokens no_dot_there = rw no_dot_there (and_false admitted.patterns)
 
-more_fields : (admitted : Admitted) (fields : List (ℕ × TyRef)) (ours : TyRef → Giving Bool) (most : ℕ) (said after : Said) (c d f : Reading) → admitted.patterns ≡ false → starts (is_mark 125) c.2 ≡ false
+more_fields : (admitted : Admitted) (fields : List (ℕ × TyRef)) (ours : TyRef → Giving Bool) (most : ℕ) (said after : Said) (c d f : Reading) → starts_others admitted c.2 ≡ false → starts (is_mark 125) c.2 ≡ false
     → field_at ours fields said c ≡ Some (after, d) → separator_at d ≡ Some f → fields_said_at admitted ours fields (suc most) said c ≡ fields_said_at admitted ours fields most after f
 unfolding fields_said_at
-more_fields admitted fields ours most said after c d f closed on one separated = let plain = no_dots admitted c.2 closed in rw (on, plain, one, separated) refl
+more_fields admitted fields ours most said after c d f closed on one separated = rw (on, closed, one, separated) refl
 
 no_fields : (admitted : Admitted) (fields : List (ℕ × TyRef)) (ours : TyRef → Giving Bool) (most next : ℕ) (places : List ℕ) (left : ℕ) (tokens : List Token) → starts (is_mark 125) tokens ≡ true
     → FieldsRead admitted fields ours most next places left tokens [] left (drop 1 tokens)
@@ -134,7 +135,7 @@ no_fields admitted fields ours most next places left tokens ended = record {
   met = nothing_met;
 }
 
-last_field : (admitted : Admitted) (fields : List (ℕ × TyRef)) (ours : TyRef → Giving Bool) (most next : ℕ) (places : List ℕ) (left : ℕ) (tokens : List Token) (x : ℕ × Content) (less : ℕ) (rest : List Token) → admitted.patterns ≡ false
+last_field : (admitted : Admitted) (fields : List (ℕ × TyRef)) (ours : TyRef → Giving Bool) (most next : ℕ) (places : List ℕ) (left : ℕ) (tokens : List Token) (x : ℕ × Content) (less : ℕ) (rest : List Token) → starts_others admitted tokens ≡ false
     → starts (is_mark 125) tokens ≡ false → OneField fields ours next places left tokens x less rest (where_is fields x.0) → starts (is_mark 125) rest ≡ true → FieldsRead admitted fields ours (suc most) next places left tokens (x ∷ []) less (drop 1 rest)
 last_field admitted fields ours most next places left tokens x less rest closed on one ended = record {
   steps = one.steps;
@@ -151,7 +152,7 @@ last_field admitted fields ours most next places left tokens x less rest closed 
 }
 
 one_more : (admitted : Admitted) (fields : List (ℕ × TyRef)) (ours : TyRef → Giving Bool) (most next : ℕ) (places : List ℕ) (left : ℕ) (tokens : List Token) (x : ℕ × Content) (said : List (ℕ × Content)) (middle : ℕ) (after : List Token) (less : ℕ) (rest : List Token)
-    → admitted.patterns ≡ false → starts (is_mark 125) tokens ≡ false → OneField fields ours next places left tokens x middle after (where_is fields x.0) → starts (is_mark 125) after ≡ false → starts (is_mark 59) after ≡ true
+    → starts_others admitted tokens ≡ false → starts (is_mark 125) tokens ≡ false → OneField fields ours next places left tokens x middle after (where_is fields x.0) → starts (is_mark 125) after ≡ false → starts (is_mark 59) after ≡ true
     → FieldsRead admitted fields ours most (suc x.0) (places ++ where_is fields x.0 ∷ []) middle (drop 1 after) said less rest → FieldsRead admitted fields ours (suc most) next places left tokens (x ∷ said) less rest
 one_more admitted fields ours most next places left tokens x said middle after less rest closed on one other semicolon more = record {
   steps = one.steps ++ more.steps;
@@ -176,18 +177,19 @@ not_parted : (y : (ℕ × Content) × ℕ × List Token) (more : ℕ × Content 
     → after_part 59 125 more y ≡ Some x → None ≡ Some x
 not_parted y more x other stuck e = rw (other, stuck) at e
 
-fields_tied : (admitted : Admitted) (fields : List (ℕ × TyRef)) (theirs : TyRef → Budgeted Content) (ours : TyRef → Giving Bool) → admitted.patterns ≡ false → ((type : TyRef) → Ties (λ v. v) (theirs type) (ours type))
+fields_tied : (admitted : Admitted) (fields : List (ℕ × TyRef)) (theirs : TyRef → Budgeted Content) (ours : TyRef → Giving Bool) → NoDots theirs → ((type : TyRef) → Ties (λ v. v) (theirs type) (ours type))
     → (most next : ℕ) (places : List ℕ) (left : ℕ) (tokens : List Token) (said : List (ℕ × Content)) (less : ℕ) (rest : List Token) → their_parts 59 125 (their_field theirs fields) after_field most next left tokens ≡ Some (said, less, rest)
     → Fresh fields places said → FieldsRead admitted fields ours most next places left tokens said less rest
 unfolding their_parts
-fields_tied admitted fields theirs ours closed law zero next places left tokens said less rest e fresh = absurd cc
-fields_tied admitted fields theirs ours closed law (suc most) next places left tokens said less rest e fresh = elim (true_or_false (starts (is_mark 125) tokens)) [
+fields_tied admitted fields theirs ours dots law zero next places left tokens said less rest e fresh = absurd cc
+fields_tied admitted fields theirs ours dots law (suc most) next places left tokens said less rest e fresh = elim (true_or_false (starts (is_mark 125) tokens)) [
   | inl ended ↦
       let same : ([], left, drop 1 tokens) ≡ (said, less, rest) = some_is {A = List (ℕ × Content) × ℕ × List Token} ([], left, drop 1 tokens) (said, less, rest) (rw ended at e) in
       subst (λ (z : List (ℕ × Content) × ℕ × List Token). FieldsRead admitted fields ours (suc most) next places left tokens z.0 z.1 z.2) same (no_fields admitted fields ours (suc most) next places left tokens ended)
   | inr on ↦
       let b = bind_some (their_field theirs fields next left tokens) (after_part 59 125 (λ (x : ℕ × Content). their_parts 59 125 (their_field theirs fields) after_field most (suc x.0))) (said, less, rest) (rw on at e) in
       let y : (ℕ × Content) × ℕ × List Token = b.0 in
+      let closed = quiet_there admitted tokens (no_dot theirs dots fields next left tokens y b.1) in
       elim (true_or_false (starts (is_mark 125) y.2)) [
         | inl ended ↦
             let same : (y.0 ∷ [], y.1, drop 1 y.2) ≡ (said, less, rest) = some_is {A = List (ℕ × Content) × ℕ × List Token} (y.0 ∷ [], y.1, drop 1 y.2) (said, less, rest) (rw ended at b.2) in
@@ -201,7 +203,7 @@ fields_tied admitted fields theirs ours closed law (suc most) next places left t
               let same : (y.0 ∷ z.0, z.1, z.2) ≡ (said, less, rest) = some_is {A = List (ℕ × Content) × ℕ × List Token} (y.0 ∷ z.0, z.1, z.2) (said, less, rest) c.2 in
               let new = subst (λ (xs : List (ℕ × Content)). Fresh fields places xs) (sym (ap (λ (w : List (ℕ × Content) × ℕ × List Token). w.0) same)) fresh in
               let one = field_tied fields theirs ours law next places left tokens y.0 y.1 y.2 (where_is fields y.0.0) b.1 new.0 new.1 in
-              let more = fields_tied admitted fields theirs ours closed law most (suc y.0.0) (places ++ where_is fields y.0.0 ∷ []) y.1 (drop 1 y.2) z.0 z.1 z.2 c.1 new.2 in
+              let more = fields_tied admitted fields theirs ours dots law most (suc y.0.0) (places ++ where_is fields y.0.0 ∷ []) y.1 (drop 1 y.2) z.0 z.1 z.2 c.1 new.2 in
               subst (λ (w : List (ℕ × Content) × ℕ × List Token). FieldsRead admitted fields ours (suc most) next places left tokens w.0 w.1 w.2) same (one_more admitted fields ours most next places left tokens y.0 z.0 y.1 y.2 z.1 z.2 closed on one other semicolon more)
           | inr stuck ↦ absurd (no_some (said, less, rest) (not_parted y (λ (x : ℕ × Content). their_parts 59 125 (their_field theirs fields) after_field most (suc x.0)) (said, less, rest) other stuck b.2))
         ]
@@ -554,10 +556,10 @@ record_of_fields admitted depth table ours fields left tokens said middle v less
       met = rw m.is (one_met (some_fields (places_of fields said ++ ms.new)) (record_of (parts_of m.parts)) (map (λ x. x.1) said ++ ms.values) (fs.steps ++ ms.steps) (m.parts, refl, found) (both_met fs.steps ms.steps (map (λ x. x.1) said) ms.values fs.met ms.met));
     }
 
-pub record_tied : (admitted : Admitted) (depth : ℕ) (table : List Entry) (theirs : TyRef → Budgeted Content) (ours : TyRef → Giving Bool) → admitted.patterns ≡ false → ((type : TyRef) → Ties (λ v. v) (theirs type) (ours type))
+pub record_tied : (admitted : Admitted) (depth : ℕ) (table : List Entry) (theirs : TyRef → Budgeted Content) (ours : TyRef → Giving Bool) → NoDots theirs → ((type : TyRef) → Ties (λ v. v) (theirs type) (ours type))
     → (fields : List (ℕ × TyRef)) → Rise 0 fields → (left : ℕ) (tokens : List Token) (v : Content) (less : ℕ) (rest : List Token) → their_record theirs depth table fields left tokens ≡ Some (v, less, rest)
     → Read (record_at admitted depth table ours fields) left tokens (v ∷ []) less rest
-record_tied admitted depth table theirs ours closed law fields rise left tokens v less rest e =
+record_tied admitted depth table theirs ours dots law fields rise left tokens v less rest e =
     let a = bind_some (in_braces (codes "record") (their_field theirs fields) after_field left tokens) (λ (x : List (ℕ × Content) × ℕ × List Token). made depth table fields x.0 x.1 >>= λ y. Some (y.0, y.1, x.2)) (v, less, rest) e in
     let x : List (ℕ × Content) × ℕ × List Token = a.0 in
     let b = bind_some (made depth table fields x.0 x.1) (λ (y : Content × ℕ). Some (y.0, y.1, x.2)) (v, less, rest) a.2 in
@@ -566,5 +568,5 @@ record_tied admitted depth table theirs ours closed law fields rise left tokens 
     let m = made_of depth table fields x.0 x.1 y.0 y.1 b.1 in
     subst (λ (z : Content × ℕ × List Token). Read (record_at admitted depth table ours fields) left tokens (z.0 ∷ []) z.1 z.2) same
     (let c = braces_are (codes "record") (their_field theirs fields) after_field left tokens x a.1 in
-    let fs = fields_tied admitted fields theirs ours closed law (length tokens) 0 [] left (drop 1 (drop 1 tokens)) x.0 x.1 x.2 c.2 (fresh_said fields [] x.0 m.fit (away_first fields x.0)) in
+    let fs = fields_tied admitted fields theirs ours dots law (length tokens) 0 [] left (drop 1 (drop 1 tokens)) x.0 x.1 x.2 c.2 (fresh_said fields [] x.0 m.fit (away_first fields x.0)) in
     record_of_fields admitted depth table ours fields left tokens x.0 x.1 y.0 y.1 x.2 rise c.0 c.1 fs m)

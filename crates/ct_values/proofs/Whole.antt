@@ -1,5 +1,5 @@
 -- Values that tokens say, one at each type, are spelled by them.
-use Rattle.std.proofs.Common.{◌≡◌, ℕ, suc, ◌+◌, ◌-◌, ◌≤◌, true, List, [], ◌∷◌, ◌++◌, length, map, Option, Some, refl, sym, ap, subst, ◌∙◌, append_assoc, inl, inr, arith}
+use Rattle.std.proofs.Common.{◌≡◌, ℕ, suc, ◌+◌, ◌-◌, ◌≤◌, true, List, [], ◌∷◌, ◌++◌, length, map, Option, Some, refl, sym, ap, subst, ◌∙◌, append_assoc, inl, inr, arith, false}
 use Rattle.std.specs.Prelude.{slice_get, IsTrue}
 use Rattle.std.proofs.lemmas.List.{append-nil, nil_from_length}
 use Rattle.ic_base.specs.Reader.{◌>>=◌}
@@ -23,7 +23,7 @@ use Rattle.ct_values.specs.Spelled.{annotated_at, value_at, arguments_at, spelle
 use Rattle.ct_values.specs.SayValues.{SayValues, AreMetBy}
 use Rattle.ct_values.proofs.Meant.{AreMet, nothing_met, both_met, all_met}
 use Rattle.ct_values.proofs.Ties.{Tied, annotated_tied}
-use Rattle.ct_values.proofs.Values.{Plain, values_tied}
+use Rattle.ct_values.proofs.Values.{values_tied}
 
 no_token : (one : Token) (front more : List Token) → [] ≡ front ++ one ∷ more → ⊥
 no_token one [] more e = absurd cc
@@ -73,7 +73,7 @@ record All (admitted : Admitted) (table : List Entry) (types : List TyRef) (left
   met : AreMet steps values
 
 -- an argument is read, whatever follows that is no colon and no equals sign
-one_argument : (admitted : Admitted) (table : List Entry) → Plain admitted → IsTrue (is_table table) → (type : TyRef) (v : Content) (front rest : List Token) (left : ℕ) → Annotated type (Says table 128 type v) front → calm rest ≡ true
+one_argument : (admitted : Admitted) (table : List Entry) → admitted.names ≡ false → IsTrue (is_table table) → (type : TyRef) (v : Content) (front rest : List Token) (left : ℕ) → Annotated type (Says table 128 type v) front → calm rest ≡ true
     → Tied (annotated_at type (value_at admitted table 128 type)) (number v + left) (front ++ rest) (v ∷ []) left rest
 one_argument admitted table only formed type v front rest left is free =
     let said = annotated_again type (Says table 128 type) number (their_value table 128 type) (value_again table (good_table table formed) 128 type) v front rest left is free in
@@ -106,7 +106,7 @@ next_argument admitted table t ts x vs front tokens rest less whole one next =
       met = both_met one.steps next.steps (x.1 ∷ []) vs one.met next.met;
     }
 
-arguments_tied : (admitted : Admitted) (table : List Entry) (types : List TyRef) → Plain admitted → IsTrue (is_table table) → (arguments : List (ℕ × Content)) (place : ℕ) (ts : List TyRef) (tokens : List Token) (less : ℕ) → From types place ts
+arguments_tied : (admitted : Admitted) (table : List Entry) (types : List TyRef) → admitted.names ≡ false → IsTrue (is_table table) → (arguments : List (ℕ × Content)) (place : ℕ) (ts : List TyRef) (tokens : List Token) (less : ℕ) → From types place ts
     → length arguments ≡ length ts → SaysParts (mark 44) (mark 41) (SaysArgument table types) (λ x. suc x.0) place arguments (tokens ++ mark 41 ∷ [])
     → All admitted table ts (number_each (map (λ x. x.1) arguments) + less) tokens (map (λ x. x.1) arguments) less
 arguments_tied admitted table types only formed [] place [] tokens less from all said =
@@ -148,7 +148,7 @@ whole_of admitted table types values tokens few all =
     let reads : arguments_at (value_at admitted table 128) types ([], 1000000, tokens) ≡ Some (all.steps, 1000000 - number_each values, []) = ap (arguments_at (value_at admitted table 128) types) same ∙ all.reads [] in
     (all.steps, ap (λ (x : Option Reading). x >>= λ c. Some c.0) reads, λ pattern e. all_met all.steps values pattern all.met e)
 
-pub spelled_tied : (admitted : Admitted) (table : List Entry) (types : List TyRef) (values : List Content) (tokens : List Token) → Plain admitted → IsTrue (is_table table) → SayValues table types values tokens
+pub spelled_tied : (admitted : Admitted) (table : List Entry) (types : List TyRef) (values : List Content) (tokens : List Token) → admitted.names ≡ false → IsTrue (is_table table) → SayValues table types values tokens
     → (steps : List Step) × (spelled admitted table types tokens ≡ Some steps) × AreMetBy values steps
 spelled_tied admitted table types values tokens only formed s =
     let said = map (λ x. x.1) s.arguments in

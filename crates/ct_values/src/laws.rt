@@ -11,9 +11,9 @@ ghost use Rattle.ct_values.specs.Steps.{Step};
 ghost use Rattle.ct_values.specs.Spelled.{spelled};
 ghost use Rattle.ct_values.specs.SayValues.{SayValues, AreMetBy};
 
-/// Where nothing is admitted in place of a value, tokens that say values, as `cd_text` has it, spell a
+/// Where no name is admitted in place of a value, tokens that say values, as `cd_text` has it, spell a
 /// pattern that these values meet; it binds nothing.
 pub fn values_are_spelled()
-    ensures { (admitted : Admitted) (table : List Entry) (types : List TyRef) (values : List Content) (tokens : List Token) → admitted.patterns ≡ false → admitted.names ≡ false → IsTrue (is_table table)
+    ensures { (admitted : Admitted) (table : List Entry) (types : List TyRef) (values : List Content) (tokens : List Token) → admitted.names ≡ false → IsTrue (is_table table)
         → SayValues table types values tokens → (steps : List Step) × (spelled admitted table types tokens ≡ Some steps) × AreMetBy values steps }
 {}
