@@ -1,5 +1,6 @@
 //! Picks, and the world's calls.
 
+mod keeping;
 mod managing;
 mod tests;
 mod worlds;
