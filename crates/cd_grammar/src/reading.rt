@@ -147,7 +147,7 @@ pub(crate) fn type_of(reader: &mut Reader<'_, '_>, depth: u32) -> Result<Part, R
         None => named_of(reader),
         Some(word) => {
             reader.rest = rest_of(reader.rest);
-            behind_word(reader, depth - 1, word)
+            after_word(reader, depth - 1, word)
         }
     }
 }
@@ -170,7 +170,7 @@ fn method_type_of(reader: &mut Reader<'_, '_>, depth: u32) -> Result<Part, ReadE
 // A type behind its word.
 #[cycle(reader)]
 #[tactic(auto, unfolding(crate::specs::Read::behind_word_at))]
-fn behind_word(reader: &mut Reader<'_, '_>, depth: u32, word: Word) -> Result<Part, ReadError>
+fn after_word(reader: &mut Reader<'_, '_>, depth: u32, word: Word) -> Result<Part, ReadError>
     ensures { Gives (λ x. (x, reader.new.types.items, token_views reader.new.rest.now)) result (behind_word_at (type_at depth) (method_type_at depth) word reader.old.types.items (token_views reader.old.rest.now)) }
 {
     match word {

@@ -39,12 +39,12 @@ abbrev pub taken : {A B : Type 0} → (A → B) → Taking A → Taking B
 taken f read tokens = read tokens >>= λ x. Some (f x.0, x.1)
 
 -- behind a word
-abbrev pub behind_word : {A : Type 0} → List ℕ → Taking A → Taking A
-behind_word w read tokens = if starts (is_word w) tokens then read (drop 1 tokens) else None
+abbrev pub after_word : {A : Type 0} → List ℕ → Taking A → Taking A
+after_word w read tokens = if starts (is_word w) tokens then read (drop 1 tokens) else None
 
 -- a word alone
 abbrev pub word_at : {A : Type 0} → List ℕ → A → Taking A
-word_at w x = behind_word w (λ tokens. Some (x, tokens))
+word_at w x = after_word w (λ tokens. Some (x, tokens))
 
 unfoldable pub natural_at : ℕ → Taking ℕ
 natural_at limit = first_at (run_says (λ r. below limit (natural_of r)))
@@ -72,7 +72,7 @@ method_at tokens = if starts (is_mark 46) tokens then first_at name_of (drop 1 t
 
 -- func, the text of a service, a dot and a name
 unfoldable pub func_at : Taking (List ℕ × List ℕ)
-func_at = behind_word (codes "func") (λ tokens. principal_text_at tokens >>= λ p. taken (λ m. (p.0, m)) method_at p.1)
+func_at = after_word (codes "func") (λ tokens. principal_text_at tokens >>= λ p. taken (λ m. (p.0, m)) method_at p.1)
 
 -- the types whose values hold bytes of their own
 abbrev pub takes_memory : Primitive → Bool
@@ -96,7 +96,7 @@ primitive_at primitives.Int16 = taken int16 (integer_at (2 ^ 15))
 primitive_at primitives.Int32 = taken int32 (integer_at (2 ^ 31))
 primitive_at primitives.Int64 = taken int64 (integer_at (2 ^ 63))
 primitive_at primitives.Text = taken text text_at
-primitive_at primitives.Principal = taken principal (behind_word (codes "principal") principal_text_at)
+primitive_at primitives.Principal = taken principal (after_word (codes "principal") principal_text_at)
 primitive_at primitives.Empty = λ tokens. None
 
 -- the bytes of a string

@@ -5,7 +5,7 @@ ghost use Rattle.cd_codec.specs.Content.{plain, func};
 ghost use Rattle.cd_codec.specs.View.{view};
 ghost use Rattle.cd_tokens.specs.ReadNumeral.{is_between};
 ghost use Rattle.cd_tokens.specs.View.{token_views};
-ghost use Rattle.cd_plain.specs.ReadPlain.{first_at, word_at, principal_said, behind_word, natural_at, integer_at, taken, takes_memory, text_at, principal_text_at, bool_at, func_at, method_at, primitive_at, alone, string_at};
+ghost use Rattle.cd_plain.specs.ReadPlain.{first_at, word_at, principal_said, after_word, natural_at, integer_at, taken, takes_memory, text_at, principal_text_at, bool_at, func_at, method_at, primitive_at, alone, string_at};
 
 use cd_codec::Value;
 use cd_tokens::{
@@ -136,7 +136,7 @@ pub fn principal_behind(
     word: &[u8],
     tokens: &[Token<'_>],
 ) -> Result<Principal, ReadError>
-    ensures { Gives (λ p. (p, drop 1 (drop 1 (token_views tokens.now)))) result (behind_word word.now principal_text_at (token_views tokens.now)) }
+    ensures { Gives (λ p. (p, drop 1 (drop 1 (token_views tokens.now)))) result (after_word word.now principal_text_at (token_views tokens.now)) }
 {
     if starts_word(tokens, word) {
         principal_at(alloc, rest_of(tokens))

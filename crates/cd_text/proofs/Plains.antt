@@ -17,7 +17,7 @@ use Rattle.cd_tokens.proofs.Numerals.{natural_again, natural_takes, integer_agai
 use Rattle.cd_tokens.proofs.Strings.{is_below}
 use Rattle.cd_tokens.proofs.Labels.{text_again, text_takes, name_again, name_takes, below_takes}
 use Rattle.cd_text.specs.SaysPlain.{SaysNatural, SaysInteger, IsPrincipalText, SaysPrincipal, SaysFunc, SaysPlain}
-use Rattle.cd_plain.specs.ReadPlain.{Taking, is_word, is_mark, starts, run_says, string_says, first_at, taken, behind_word, word_at, natural_at, integer_at, text_at, principal_text_at, bool_at, method_at, func_at, primitive_at}
+use Rattle.cd_plain.specs.ReadPlain.{Taking, is_word, is_mark, starts, run_says, string_says, first_at, taken, after_word, word_at, natural_at, integer_at, text_at, principal_text_at, bool_at, method_at, func_at, primitive_at}
 use Rattle.cd_tokens.proofs.Fronts.{true_or_false}
 use Rattle.cd_tokens.proofs.Starts.{started}
 
@@ -158,7 +158,7 @@ unfolding principal_text_at
 principal_at_again = first_again (StringOf IsPrincipalText) (string_says (λ s. text_of s >>= principal_of)) (string_again IsPrincipalText (λ s. text_of s >>= principal_of) principal_again)
 
 -- behind a word
-behind_takes : {A : Type 0} (w : List ℕ) (P : Words A) (read : Taking A) → Takes P read → (tokens : List Token) (z : A × List Token) → behind_word w read tokens ≡ Some z → (front : List Token) × (tokens ≡ run w ∷ (front ++ z.1)) × P z.0 front
+behind_takes : {A : Type 0} (w : List ℕ) (P : Words A) (read : Taking A) → Takes P read → (tokens : List Token) (z : A × List Token) → after_word w read tokens ≡ Some z → (front : List Token) × (tokens ≡ run w ∷ (front ++ z.1)) × P z.0 front
 behind_takes w P read law tokens z e = elim (true_or_false (starts (is_word w) tokens)) [
   | inl found ↦
       let f : read (drop 1 tokens) ≡ Some z = rw found at e in
@@ -167,19 +167,19 @@ behind_takes w P read law tokens z e = elim (true_or_false (starts (is_word w) t
   | inr never ↦ let f : None ≡ Some z = rw never at e in absurd cc
 ]
 
-behind_again : {A : Type 0} (w : List ℕ) (read : Taking A) (rest : List Token) → behind_word w read (run w ∷ rest) ≡ read rest
+behind_again : {A : Type 0} (w : List ℕ) (read : Taking A) (rest : List Token) → after_word w read (run w ∷ rest) ≡ read rest
 behind_again w read rest = rw (same_bytes w) refl
 
 string_front : {A : Type 0} (P : A → List ℕ → Type 0) (x : A) (front : List Token) → OneToken (StringOf P) x front → (s : List ℕ) × (front ≡ quoted s ∷ []) × P x s
 string_front P x front is = (is.2.0, is.1 ∙ ap (λ (t : Token). t ∷ []) is.2.1, is.2.2)
 
-pub principal_word_takes : (w : List ℕ) → Takes (SaysPrincipal w) (behind_word w principal_text_at)
+pub principal_word_takes : (w : List ℕ) → Takes (SaysPrincipal w) (after_word w principal_text_at)
 principal_word_takes w tokens z e =
     let b = behind_takes w (OneToken (StringOf IsPrincipalText)) principal_text_at principal_at_takes tokens z e in
     let s = string_front IsPrincipalText z.0 b.0 b.2 in
     (run w ∷ b.0, b.1, (s.0, ap (λ (ts : List Token). run w ∷ ts) s.1, s.2))
 
-pub principal_word_again : (w : List ℕ) → Again (SaysPrincipal w) (behind_word w principal_text_at)
+pub principal_word_again : (w : List ℕ) → Again (SaysPrincipal w) (after_word w principal_text_at)
 principal_word_again w p front rest is =
     rw is.1 (behind_again w principal_text_at (quoted is.0 ∷ rest) ∙ principal_at_again p (quoted is.0 ∷ []) rest (quoted is.0, refl, (is.0, refl, is.2)))
 
@@ -288,7 +288,7 @@ primitive_takes primitives.Int32 tokens z e = made_takes (SaysInteger (2 ^ 31)) 
 primitive_takes primitives.Int64 tokens z e = made_takes (SaysInteger (2 ^ 63)) (SaysPlain primitives.Int64) int64 (integer_at (2 ^ 63)) (integer_takes_one (2 ^ 63)) (λ n front h. (n, refl, h)) tokens z e
 primitive_takes primitives.Text tokens z e = made_takes (OneToken (StringOf (λ x s. IsTextOf x s))) (SaysPlain primitives.Text) text text_at text_at_takes text_lift tokens z e
 primitive_takes primitives.Principal tokens z e =
-    made_takes (SaysPrincipal (codes "principal")) (SaysPlain primitives.Principal) principal (behind_word (codes "principal") principal_text_at) (principal_word_takes (codes "principal")) (λ p front h. (p, refl, h)) tokens z e
+    made_takes (SaysPrincipal (codes "principal")) (SaysPlain primitives.Principal) principal (after_word (codes "principal") principal_text_at) (principal_word_takes (codes "principal")) (λ p front h. (p, refl, h)) tokens z e
 primitive_takes primitives.Empty tokens z e = absurd cc
 
 pub primitive_again : (p : Primitive) → Again (SaysPlain p) (primitive_at p)
@@ -312,5 +312,5 @@ primitive_again primitives.Int64 v front rest is = made_again (SaysInteger (2 ^ 
 primitive_again primitives.Text v front rest is =
     made_again (OneToken (StringOf (λ x s. IsTextOf x s))) text text_at text_at_again is.0 v front rest is.2 (quoted is.1, is.3, (is.1, refl, is.4))
 primitive_again primitives.Principal v front rest is =
-    made_again (SaysPrincipal (codes "principal")) principal (behind_word (codes "principal") principal_text_at) (principal_word_again (codes "principal")) is.0 v front rest is.1 is.2
+    made_again (SaysPrincipal (codes "principal")) principal (after_word (codes "principal") principal_text_at) (principal_word_again (codes "principal")) is.0 v front rest is.1 is.2
 primitive_again primitives.Empty v front rest is = absurd is

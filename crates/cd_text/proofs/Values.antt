@@ -26,7 +26,7 @@ use Rattle.cd_tokens.proofs.Strings.{unescaped_takes}
 use Rattle.cd_text.specs.Words.{name_of}
 use Rattle.cd_text.specs.SaysPlain.{SaysPlain, SaysPrincipal, SaysFunc}
 use Rattle.cd_text.specs.Said.{Saying, Annotated, bare, annotated, InParentheses, SaysParts, InBraces, no_place, SaysByte, SaysBlob, type_of, SaysField, labelled, unlabelled, value_of, is_absent, are_distinct, left_out, filled, place_of, SaysCase, valued, alone as null_alone, EndsVariant, SaysShape, Says}
-use Rattle.cd_plain.specs.ReadPlain.{Taking, is_word, is_mark, starts, string_says, behind_word, natural_at, principal_text_at, func_at, primitive_at, Budgeted, alone, string_at}
+use Rattle.cd_plain.specs.ReadPlain.{Taking, is_word, is_mark, starts, string_says, after_word, natural_at, principal_text_at, func_at, primitive_at, Budgeted, alone, string_at}
 use Rattle.cd_text.specs.ReadSaid.{then_make, past_name, past_annotation, with_annotation, annotated_at, closed, parenthesized_at, parts_at, in_braces, opt_at, item_at, no_place_of, list_at, byte_at, blob_at, typed_at, field_at, after_field, absent, is_field, fits, made, record_at, null_at, case_at, variant_ended, chosen_at, labelled_at, variant_at, entry_at, shape_at, spend_one, value_at}
 use Rattle.cd_tokens.proofs.Fronts.{true_or_false}
 use Rattle.cd_tokens.proofs.Starts.{is_equal, started}
@@ -639,7 +639,7 @@ shape_takes table good depth read law (compound (Var cases)) fine n tokens z e =
 shape_takes table good depth read law (compound (Func args results notes)) fine n tokens z e =
     alone_takes (λ (f : List ℕ × List ℕ) ts. SaysFunc f.0 f.1 ts) (AtShape table depth (compound (Func args results notes))) (λ (f : List ℕ × List ℕ). plain (func f.0 f.1)) func_at func_takes (λ f front h. (f.0, f.1, refl, h)) (λ f. refl) n tokens z e
 shape_takes table good depth read law (compound (Service methods)) fine n tokens z e =
-    alone_takes (SaysPrincipal (codes "service")) (AtShape table depth (compound (Service methods))) (λ p. plain (service p)) (behind_word (codes "service") principal_text_at) (principal_word_takes (codes "service")) (λ p front h. (p, refl, h)) (λ p. refl) n tokens z e
+    alone_takes (SaysPrincipal (codes "service")) (AtShape table depth (compound (Service methods))) (λ p. plain (service p)) (after_word (codes "service") principal_text_at) (principal_word_takes (codes "service")) (λ p front h. (p, refl, h)) (λ p. refl) n tokens z e
 shape_takes table good depth read law dangling fine n tokens z e = absurd cc
 
 -- one value more

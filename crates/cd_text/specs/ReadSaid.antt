@@ -18,7 +18,7 @@ use Rattle.cd_codec.specs.View.{view}
 use Rattle.cd_text.specs.Words.{name_of}
 use Rattle.cd_text.specs.Said.{type_of, value_of, is_absent, left_out, filled, place_of}
 pub use Rattle.cd_tokens.specs.ReadParts.{then_make, parts_at}
-use Rattle.cd_plain.specs.ReadPlain.{is_word, is_mark, starts, behind_word, natural_at, string_at, principal_text_at, func_at, primitive_at, Budgeted, alone}
+use Rattle.cd_plain.specs.ReadPlain.{is_word, is_mark, starts, after_word, natural_at, string_at, principal_text_at, func_at, primitive_at, Budgeted, alone}
 
 -- behind the annotation, where one stands
 abbrev pub past_name : Primitive → List Token → Option (List Token)
@@ -177,7 +177,7 @@ entry_at depth table read (Seq item) = λ left tokens. if is_nat8 item then blob
 entry_at depth table read (Rec fields) = record_at read depth table fields
 entry_at depth table read (Var cases) = variant_at read depth table cases
 entry_at depth table read (Func args results notes) = alone (λ f. plain (func f.0 f.1)) func_at
-entry_at depth table read (Service methods) = alone (λ p. plain (service p)) (behind_word (codes "service") principal_text_at)
+entry_at depth table read (Service methods) = alone (λ p. plain (service p)) (after_word (codes "service") principal_text_at)
 
 -- a value of a shape, with a reader for its parts
 abbrev pub shape_at : ℕ → List Entry → (TyRef → Budgeted Content) → Shape → Budgeted Content

@@ -7,7 +7,7 @@ ghost use Rattle.cd_codec.specs.View.{view, views, views_of_fields};
 ghost use Rattle.cd_tokens.specs.Token as token;
 ghost use Rattle.cd_tokens.specs.View.{token_views};
 ghost use Rattle.cd_text.specs.Words.{name_of};
-ghost use Rattle.cd_plain.specs.ReadPlain.{is_mark, is_word, starts, behind_word, principal_text_at, alone};
+ghost use Rattle.cd_plain.specs.ReadPlain.{is_mark, is_word, starts, after_word, principal_text_at, alone};
 ghost use Rattle.cd_text.specs.ReadSaid.{past_annotation, annotated_at, braces_at, item_at, no_place_of, after_field, opt_at, list_at, byte_at, blob_at, typed_at, field_at, record_at, case_at, null_at, variant_ended, chosen_at, labelled_at, variant_at, entry_at, value_at};
 
 use crate::fields::{find, record_made};
@@ -294,7 +294,7 @@ fn service_of<'t, 'a>(
     left: u32,
     tokens: &'t [Token<'a>],
 ) -> Result<(Value, u32, &'t [Token<'a>]), ReadError>
-    ensures { Gives (λ x. (view x.0, x.1, token_views x.2.now)) result (alone (λ p. plain (service p)) (behind_word (codes "service") principal_text_at) left (token_views tokens.now)) }
+    ensures { Gives (λ x. (view x.0, x.1, token_views x.2.now)) result (alone (λ p. plain (service p)) (after_word (codes "service") principal_text_at) left (token_views tokens.now)) }
 {
     match principal_behind(alloc, b"service", tokens) {
         Ok(service) => {

@@ -6,7 +6,6 @@
 #![tactic(auto)]
 
 mod asking;
-mod discarding;
 mod entering;
 mod installing;
 mod placing;
@@ -15,7 +14,6 @@ mod upgrading;
 mod views;
 
 pub use asking::{inspect, inspects, query};
-pub use discarding::discard;
 pub use entering::{Entered, Entry, attempt};
 pub use ic_behaviour::{InstallFault, Mode};
 pub use installing::{Installed, Order, install, install_in};

@@ -10,7 +10,7 @@ use std::alloc::{AllocError, Global};
 use wm_run::{InstanceFault, instantiate};
 
 /// Gives code to a canister that has none, with the store of the module's instance. No entry point
-/// runs. Says whether it did: not where a segment is out of bounds.
+/// runs. Says whether it did: not where a segment is out of bounds. It serves tests and benches: `install_in` installs code.
 pub fn place_code(alloc: Global, canister: &mut Canister, code: Code) -> Result<bool, NoMemory>
     requires keeps { IsCanister canister.old }
     requires empty { canister.old.code ≡ None }

@@ -23,7 +23,6 @@ use ic_calls::{
     add_context, admit, call_id, close, context_at, out_of_cycles, refused as refusal_of,
     take_refund,
 };
-use ic_entry::discard;
 use ic_principal::Principal;
 use ic_state::{
     Admitted, Answered, AnsweredList, BoundedEnv, CallId, Canister, Context, Env, IncomingCall,
@@ -324,9 +323,6 @@ pub fn execute(
                 burned,
             })
         }
-        Err(e) => {
-            discard(canister);
-            Err(e)
-        }
+        Err(e) => Err(e),
     }
 }

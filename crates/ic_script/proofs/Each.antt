@@ -4,5 +4,5 @@ use Rattle.ic_script.specs.declared.line_cause.LineCause.{LineCause}
 use Rattle.ic_script.specs.Steps.{◌>>=◌}
 
 -- what was made before, and the rest
-abbrev pub behind : {B : Type 0} → List B → Result (List B) LineCause → Result (List B) LineCause
-behind made rest = rest >>= λ ys. Ok (made ++ ys)
+abbrev pub made_and : {B : Type 0} → List B → Result (List B) LineCause → Result (List B) LineCause
+made_and made rest = rest >>= λ ys. Ok (made ++ ys)

@@ -264,15 +264,15 @@ word_behind float i bytes (inr p) =
       },
     )
 
-behind_word : (float : Bool) (o : ℕ) (k : Option FloatOperands) (f : Option Form) (i : Instr) (rest : List ℕ) → floats float o ≡ k → row_form o ≡ f
+after_word : (float : Bool) (o : ℕ) (k : Option FloatOperands) (f : Option Form) (i : Instr) (rest : List ℕ) → floats float o ≡ k → row_form o ≡ f
     → Behind float k f i rest → SpellsWord float i (o ∷ rest)
-behind_word true o (Some k) f i rest e g p =
+after_word true o (Some k) f i rest e g p =
     inr (refl, record { stands = p.0; opcode = o; operands = k; found = e; spelled = record { rest = rest; whole = refl; behind = p.1 } })
-behind_word false o (Some k) f i rest e g p = absurd cc
-behind_word float o None (Some f) i rest e g p =
+after_word false o (Some k) f i rest e g p = absurd cc
+after_word float o None (Some f) i rest e g p =
     let w = word_of float o f i rest (row_fits o f g) p in
     inl (record { rest = rest; whole = ap (λ (b : ℕ). b ∷ rest) (sym w.0); behind = w.1 })
-behind_word float o None None i rest e g p = absurd p
+after_word float o None None i rest e g p = absurd p
 
 pub word_exact : (float : Bool) → Exact (SpellsWord float) (word_at float)
 unfolding word_at
@@ -287,5 +287,5 @@ word_exact float = exact_of (SpellsWord float) (word_at float)
     record {
       front = a.0.0 ∷ t.front;
       parts = first_byte bytes a.0 a.1 ∙ ap (λ (r : List ℕ). a.0.0 ∷ r) t.parts;
-      spelled = behind_word float a.0.0 (floats float a.0.0) (row_form a.0.0) z.0 t.front refl refl t.spelled;
+      spelled = after_word float a.0.0 (floats float a.0.0) (row_form a.0.0) z.0 t.front refl refl t.spelled;
     })

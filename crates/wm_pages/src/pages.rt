@@ -13,10 +13,20 @@ pub const PAGE: usize = 65_536;
 /// Bytes in pages, at most 256 of them, which can be undone. A message begins with `begin`; from
 /// then on the first write to each range of 4,096 bytes that was there saves it. `undo` gives the
 /// bytes of the beginning back.
-#[derive(Debug, Drop)]
+#[derive(Debug)]
 pub struct Pages {
     bytes: Vec<u8>,
     ranges: Ranges,
+}
+
+// Not derived, so that it is proved here and not in each crate that drops one.
+impl Drop for Pages {
+    fn drop(self) {
+        let Pages {
+            bytes: _bytes,
+            ranges: _ranges,
+        } = self;
+    }
 }
 
 impl Model for Pages {

@@ -15,7 +15,7 @@ const MOST_PAGES: u32 = 256;
 /// The store of a module: memory, globals and table, and stable memory. A message begins, changes
 /// it, and ends with `keep` or `undo`. The first write of a message to a range of 4,096 bytes that
 /// was there saves it, and takes the memory for that before the write; so `undo` takes none.
-#[derive(Debug, Drop)]
+#[derive(Debug)]
 pub struct Store {
     memory: Pages,
     stable: Pages,
@@ -25,6 +25,21 @@ pub struct Store {
     table: Vec<Option<u32>>,
     maximum: Option<u32>,
     begun: bool,
+}
+
+// Not derived, so that it is proved here and not in each crate that drops one.
+impl Drop for Store {
+    fn drop(self) {
+        let Store {
+            memory: _memory,
+            stable: _stable,
+            globals: _globals,
+            first: _first,
+            table: _table,
+            maximum: _,
+            begun: _,
+        } = self;
+    }
 }
 
 impl Model for Store {

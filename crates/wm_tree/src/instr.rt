@@ -122,9 +122,16 @@ pub enum Instr {
 }
 
 /// The instructions of a body or of a constant expression, in the order of their bytes.
-#[derive(Debug, Drop)]
+#[derive(Debug)]
 pub struct Instrs {
     pub items: Vec<Instr>,
+}
+
+// Not derived, so that it is proved here and not in each crate that drops one.
+impl Drop for Instrs {
+    fn drop(self) {
+        let Instrs { items: _items } = self;
+    }
 }
 
 impl Model for Instrs {

@@ -179,7 +179,7 @@ impl Model for FuncCodes {
 }
 
 /// A module (2.5). `functions` has the type of each function that it defines, and `codes` its code.
-#[derive(Debug, Drop)]
+#[derive(Debug)]
 pub struct Module {
     pub types: FuncTypes,
     pub imports: Imports,
@@ -192,4 +192,23 @@ pub struct Module {
     pub elements: Elements,
     pub codes: FuncCodes,
     pub segments: Segments,
+}
+
+// Not derived, so that it is proved here and not in each crate that drops one.
+impl Drop for Module {
+    fn drop(self) {
+        let Module {
+            types: _types,
+            imports: _imports,
+            functions: _functions,
+            tables: _tables,
+            memories: _memories,
+            globals: _globals,
+            exports: _exports,
+            start: _,
+            elements: _elements,
+            codes: _codes,
+            segments: _segments,
+        } = self;
+    }
 }

@@ -16,7 +16,7 @@ use Rattle.std.proofs.lemmas.List.Folds.{list_any_more}
 use Rattle.std.proofs.lemmas.List.{at_drop_more}
 use Rattle.wm_tree.specs.declared.parts.Export.{Export}
 use Rattle.wm_tree.specs.declared.parts.Module.{Module}
-use Rattle.wm_valid.specs.Entries.{behind, exports_name, is_wrong, is_bad_export, least_bad}
+use Rattle.wm_valid.specs.Entries.{strip_prefix, exports_name, is_wrong, is_bad_export, least_bad}
 use Rattle.wm_valid.specs.Seen.{has_name, HasAlso, HasNames}
 
 -- ---- names behind a prefix
@@ -48,14 +48,14 @@ behind_none : (starts : Bool) (rest : List ℕ) → cond starts (Some rest) None
 behind_none true rest e = absurd cc
 behind_none false rest e = refl
 
-pub eq_of_behind : (prefix method name rest : List ℕ) → behind prefix name ≡ Some rest → bytes_eq rest method ≡ bytes_eq name (prefix ++ method)
-eq_of_behind prefix method name rest e =
+pub eq_of_stripped : (prefix method name rest : List ℕ) → strip_prefix prefix name ≡ Some rest → bytes_eq rest method ≡ bytes_eq name (prefix ++ method)
+eq_of_stripped prefix method name rest e =
     let parts = behind_some (starts_with nat_eq name prefix) (drop (length prefix) name) rest e in
     let starts = parts.0 in
     let same = parts.1 in
     rw (bytes_eq-append name prefix method, starts, same) refl
 
-pub eq_of_none : (prefix method name : List ℕ) → behind prefix name ≡ None → false ≡ bytes_eq name (prefix ++ method)
+pub eq_of_none : (prefix method name : List ℕ) → strip_prefix prefix name ≡ None → false ≡ bytes_eq name (prefix ++ method)
 eq_of_none prefix method name e =
     let starts = behind_none (starts_with nat_eq name prefix) (drop (length prefix) name) e in
     rw (bytes_eq-append name prefix method, starts) refl

@@ -33,8 +33,8 @@ name_of Update method = update_prefix ++ method
 name_of Query method = query_prefix ++ method
 
 -- what stands behind the prefix
-abbrev pub behind : List ℕ → List ℕ → Option (List ℕ)
-behind prefix name =
+abbrev pub strip_prefix : List ℕ → List ℕ → Option (List ℕ)
+strip_prefix prefix name =
     if starts_with nat_eq name prefix then Some (drop (length prefix) name) else None
 
 -- whether an entry point has the name
@@ -74,8 +74,8 @@ has_other exports prefix (Some method) = exports_name exports (prefix ++ method)
 -- the method is an update and a query
 abbrev pub is_both : List Export → List ℕ → Bool
 is_both exports name =
-    has_other exports query_prefix (behind update_prefix name)
-    || has_other exports update_prefix (behind query_prefix name)
+    has_other exports query_prefix (strip_prefix update_prefix name)
+    || has_other exports update_prefix (strip_prefix query_prefix name)
 
 abbrev pub is_wrong : Module → Export → Bool
 is_wrong m e = is_misnamed m e || is_both m.exports e.name

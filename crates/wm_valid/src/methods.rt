@@ -5,7 +5,9 @@ ghost use Rattle.wm_valid.specs.Entries as specs;
 ghost use Rattle.wm_valid.specs.Methods.{found_in, has_rest, Gains, HasMethods, HasEntries};
 
 use crate::entry::EntryName;
-use crate::names::{INIT, INSPECT, POST_UPGRADE, PRE_UPGRADE, QUERY, UPDATE, behind, name_bytes};
+use crate::names::{
+    INIT, INSPECT, POST_UPGRADE, PRE_UPGRADE, QUERY, UPDATE, name_bytes, strip_prefix,
+};
 use ic_base::NoMemory;
 use std::alloc::Global;
 use std::collections::BTreeMap;
@@ -41,7 +43,7 @@ type Methods = BTreeMap<Vec<u8>, Option<u32>>;
 fn add(alloc: Global, methods: &mut Methods, prefix: &[u8], export: &Export) -> Result<(), NoMemory>
     ensures { OnOk result (Gains methods.old methods.new prefix.now export.now) }
 {
-    if let Some(method) = behind(prefix, name_bytes(export)) {
+    if let Some(method) = strip_prefix(prefix, name_bytes(export)) {
         let method = Vec::from_slice(alloc, method)?;
         methods.insert(method, exported_function(export.kind))?;
     }
@@ -49,7 +51,11 @@ fn add(alloc: Global, methods: &mut Methods, prefix: &[u8], export: &Export) -> 
 }
 
 /// What is exported behind the prefix.
-fn methods_behind(alloc: Global, prefix: &[u8], exports: &[Export]) -> Result<Methods, NoMemory>
+fn methods_with_prefix(
+    alloc: Global,
+    prefix: &[u8],
+    exports: &[Export],
+) -> Result<Methods, NoMemory>
     ensures { IfOk result (λ methods. HasMethods methods prefix.now exports.now) }
 {
     let mut methods = BTreeMap::new(alloc);
@@ -68,10 +74,10 @@ fn function_of(methods: &Methods, method: &[u8]) -> Option<u32>
 }
 
 /// Whether the name is the prefix and a method.
-fn has_behind(methods: &Methods, prefix: &[u8], name: &[u8]) -> bool
-    ensures { result ≡ has_rest methods.now (specs.behind prefix.now name.now) }
+fn has_method(methods: &Methods, prefix: &[u8], name: &[u8]) -> bool
+    ensures { result ≡ has_rest methods.now (specs.strip_prefix prefix.now name.now) }
 {
-    match behind(prefix, name) {
+    match strip_prefix(prefix, name) {
         None => false,
         Some(method) => methods.contains_key(method),
     }
@@ -98,8 +104,8 @@ impl Entries {
             pre_upgrade: function_named(exports, PRE_UPGRADE),
             post_upgrade: function_named(exports, POST_UPGRADE),
             inspect: function_named(exports, INSPECT),
-            updates: methods_behind(alloc, UPDATE, exports)?,
-            queries: methods_behind(alloc, QUERY, exports)?,
+            updates: methods_with_prefix(alloc, UPDATE, exports)?,
+            queries: methods_with_prefix(alloc, QUERY, exports)?,
         })
     }
 
@@ -123,6 +129,6 @@ impl Entries {
         ensures { (exports : List AnExport) → HasEntries self.now exports
             → result ≡ specs.is_both exports name.now }
     {
-        has_behind(&self.queries, UPDATE, name) || has_behind(&self.updates, QUERY, name)
+        has_method(&self.queries, UPDATE, name) || has_method(&self.updates, QUERY, name)
     }
 }

@@ -25,8 +25,8 @@ pub(crate) fn name_bytes(export: &Export) -> &[u8]
 }
 
 /// What stands behind the prefix.
-pub(crate) fn behind<'a>(prefix: &[u8], name: &'a [u8]) -> Option<&'a [u8]>
-    ensures { option_copied result ≡ specs.behind prefix.now name.now }
+pub(crate) fn strip_prefix<'a>(prefix: &[u8], name: &'a [u8]) -> Option<&'a [u8]>
+    ensures { option_copied result ≡ specs.strip_prefix prefix.now name.now }
 {
     if name.starts_with(prefix) {
         Some(&name[prefix.len()..])

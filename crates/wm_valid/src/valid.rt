@@ -8,12 +8,24 @@ use wm_tree::Module;
 use wm_typing::FlatCode;
 
 /// A module that is valid, with what validation found out.
-#[derive(Debug, Drop)]
+#[derive(Debug)]
 pub struct Valid {
     module: Module,
     calls: Vec<SystemCall>,
     codes: Vec<FlatCode>,
     entries: Entries,
+}
+
+// Not derived, so that it is proved here and not in each crate that drops one.
+impl Drop for Valid {
+    fn drop(self) {
+        let Valid {
+            module: _module,
+            calls: _calls,
+            codes: _codes,
+            entries: _entries,
+        } = self;
+    }
 }
 
 impl Model for Valid {

@@ -81,4 +81,4 @@ pub type_of-returns-in-None : goal.type_of-returns-in-None
 type_of-returns-in-None t c = rw (type_named c.args.depth c.args.reader.now.types.items (token_views c.args.reader.now.rest.now) (omega arith) (sym c.first_word.ensures ∙ c.in-None.is)) c.named_of.ensures
 
 pub type_of-returns-in-Some : goal.type_of-returns-in-Some
-type_of-returns-in-Some t c = rw (type_value c.args.depth c.args.reader.now.types.items (token_views c.args.reader.now.rest.now) (token_views c.rest_of-reader.result.now) c.in-Some.word (omega arith) (sym c.first_word.ensures ∙ c.in-Some.is) c.rest_of-reader.ensures) c.behind_word.ensures
+type_of-returns-in-Some t c = rw (type_value c.args.depth c.args.reader.now.types.items (token_views c.args.reader.now.rest.now) (token_views c.rest_of-reader.result.now) c.in-Some.word (omega arith) (sym c.first_word.ensures ∙ c.in-Some.is) c.rest_of-reader.ensures) c.after_word.ensures

@@ -69,8 +69,8 @@ decreases-opt_of l = 8 * l.depth + 1
 abbrev pub decreases-vec_of : goal.decreases-vec_of
 decreases-vec_of l = 8 * l.depth + 1
 
-abbrev pub decreases-behind_word : goal.decreases-behind_word
-decreases-behind_word l = 8 * l.depth + 7
+abbrev pub decreases-after_word : goal.decreases-after_word
+decreases-after_word l = 8 * l.depth + 7
 
 abbrev pub invariant-add_rows-loop : goal.invariant-add_rows-loop
 invariant-add_rows-loop l =

@@ -1,8 +1,8 @@
 use Rattle.std.proofs.Common.{◌≡◌, map, drop}
 use Rattle.ic_script.specs.Paths.{labels_word}
 use Rattle.ic_script.specs.Steps.{each}
-use Rattle.ic_script.proofs.Each.{behind}
+use Rattle.ic_script.proofs.Each.{made_and}
 use Rattle.ic_script.proofs.paths.all_paths.Given as goal
 
 abbrev pub invariant-loop-word : goal.invariant-loop-word
-invariant-loop-word l = behind l.items.items (each labels_word (map (λ w. w.now) (drop l.word-index l.words))) ≡ each labels_word (map (λ w. w.now) l.words)
+invariant-loop-word l = made_and l.items.items (each labels_word (map (λ w. w.now) (drop l.word-index l.words))) ≡ each labels_word (map (λ w. w.now) l.words)

@@ -1,7 +1,7 @@
 use Rattle.std.proofs.Common.{◌≡◌, ◌++◌, ◌∙◌, ap, sym, refl, Some, cond}
 use Rattle.std.specs.Prelude.{bytes_eq}
 use Rattle.wm_valid.specs.Methods.{found_in}
-use Rattle.wm_valid.proofs.NameLemmas.{eq_of_none, eq_of_behind}
+use Rattle.wm_valid.proofs.NameLemmas.{eq_of_none, eq_of_stripped}
 use Rattle.wm_valid.proofs.MethodLemmas.{at_name, at_name-insert_entry}
 use Rattle.wm_valid.proofs.methods.add.Goals as goal
 
@@ -9,7 +9,7 @@ pub returns-in_ok-insert : goal.returns-in_ok-insert
 returns-in_ok-insert c = λ name.
     let same : bytes_eq c.in_ok-method.method.items name ≡ bytes_eq c.args.export.now.name (c.args.prefix.now ++ name) =
     ap (λ method. bytes_eq method name) c.in_ok-method.ensures.items
-    ∙ eq_of_behind c.args.prefix.now name c.name_bytes.result.now c.in-Some.method.now (sym c.in-Some.ensures)
+    ∙ eq_of_stripped c.args.prefix.now name c.name_bytes.result.now c.in-Some.method.now (sym c.in-Some.ensures)
     ∙ ap (λ whole. bytes_eq whole (c.args.prefix.now ++ name)) c.name_bytes.ensures in
     let whole = c.args.prefix.now ++ name in
     let value = c.exported_function.ensures in

@@ -2,7 +2,7 @@ use Rattle.std.proofs.Common.{◌++◌, ◌-◌, ◌∙◌, ap, sym, length, ari
 use Rattle.std.proofs.lemmas.List.{drop_all}
 use Rattle.wm_valid.specs.Methods.{exported_as}
 use Rattle.wm_valid.proofs.MethodLemmas.{at_name, methods_more}
-use Rattle.wm_valid.proofs.methods.methods_behind.Goals as goal
+use Rattle.wm_valid.proofs.methods.methods_with_prefix.Goals as goal
 
 pub loop-place-init : goal.loop-place-init
 loop-place-init c = λ method.
