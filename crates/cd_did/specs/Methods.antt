@@ -50,3 +50,11 @@ function_at table type = entry_at table type >>= function_of
 abbrev pub type_named : List (List ℕ × TyRef) → List ℕ → Option TyRef
 type_named [] name = None
 type_named (m ∷ methods) name = if bytes_eq m.0 name then Some m.1 else type_named methods name
+
+-- the method of an interface with a name
+abbrev pub method_in : Interface → List ℕ → Option Function
+method_in interface name = do
+  service ← interface.service
+  methods ← methods_at interface.table service
+  type ← type_named methods name
+  function_at interface.table type

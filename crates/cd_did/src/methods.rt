@@ -3,7 +3,7 @@ ghost use Rattle.std.specs.List.{list_all};
 ghost use Rattle.std.specs.Option.{option_copied};
 ghost use Rattle.cd_types.specs.IsInside.{is_inside};
 ghost use Rattle.cd_types.specs.IsTable.{is_func_at, is_well_formed};
-ghost use Rattle.cd_did.specs.Methods.{Function, IsMethod, entry_at, methods_at, function_at, type_named};
+ghost use Rattle.cd_did.specs.Methods.{Function, IsMethod, entry_at, methods_at, function_at, type_named, method_in};
 
 use crate::fault::Interface;
 use cd_types::{Entry, TyRef, TypeTable};
@@ -105,6 +105,7 @@ impl Interface {
     /// Time grows with the number of the service's methods.
     pub fn method(&self, name: &str) -> Option<Method<'_>>
         ensures method { MatchOption result ((function : Function) → IsMethod self.now name.now function → ⊥) (IsMethod self.now name.now) }
+        ensures found { result ≡ method_in self.now name.now }
         // Its types are within the table: those of either list, and of both.
         ensures args { IfSome result (λ function. list_all (is_inside (length self.now.table)) function.args ≡ true) }
         ensures results { IfSome result (λ function. list_all (is_inside (length self.now.table)) function.results ≡ true) }
