@@ -1,28 +1,26 @@
--- Where nothing is at fault, the words are taken.
-use Rattle.std.proofs.Common.{◌≡◌, ◌&&◌, ◌||◌, ◌==◌, ◌+◌, ℕ, Bool, true, false, not, zero, suc, refl, sym, ap, arith, List, [], ◌∷◌, length, drop, min, Option, Some, None, is_some, true≢false, eqb-true, codes, if◌then◌else◌, nat_lt, nat_le}
+-- Where nothing is at fault, a simple command takes the words.
+use Rattle.std.proofs.Common.{◌≡◌, ◌∙◌, ◌&&◌, ◌||◌, ◌==◌, ◌+◌, ℕ, Bool, true, false, not, zero, suc, refl, sym, ap, arith, List, [], ◌∷◌, length, drop, min, Option, Some, None, is_some, true≢false, eqb-true, codes, if◌then◌else◌, nat_lt, nat_le}
 use Rattle.std.specs.Prelude.{encode_utf8, slice_get}
-use Rattle.std.specs.List.{list_all}
+use Rattle.std.specs.List.{list_all, list_any}
 use Rattle.std.specs.Option.{option_map_or}
 use Rattle.std.specs.Str.{bytes_eq, chars}
 use Rattle.std.proofs.lemmas.Bool.{le-leb, ltb-false}
 use Rattle.clap.specs.Matches.{count_text}
-use Rattle.clap.specs.Facts.{parser_of_value, unwrap_or_range}
+use Rattle.clap.specs.Facts.{explicit_source, parser_of_value, unwrap_or_range}
 use Rattle.clap.specs.Lexer.{long_of, short_of}
 use Rattle.clap.specs.ValueTests.{accepts}
 use Rattle.clap.specs.Values.{refused_kind}
-use Rattle.clap.specs.Kinds.{Kinds, or_else, range_kinds, value_kinds, values_kinds}
-use Rattle.clap.specs.Faults.{action_fault, bundle_step_fault, entered_fault, fault_of, flag_word_fault, flags_fault, long_fault, option_fault, other_fault, positional_fault, react_fault, set_fault, settle_fault, short_fault, step_fault, turn_fault, use_fault, walk_fault, word_fault}
-use Rattle.clap.specs.Takes.{action_passes, bundle_step_passes, default_passes, is_valid, flag_word_passes, flags_pass, long_passes, option_passes, other_passes, positional_passes, react_passes, set_passes, settle_passes, short_passes, step_passes, takes, turn_passes, use_passes, walk_passes, word_passes}
+use Rattle.clap.specs.Kinds.{Kinds, check_kinds, or_else, range_kinds, value_kinds, values_kinds}
+use Rattle.clap.specs.Faults.{action_fault, built_fault, bundle_step_fault, check_fault, defaults_fault, entered_fault, level_fault, fault_of, flag_word_fault, flags_fault, long_fault, option_fault, other_fault, positional_fault, react_fault, set_fault, settle_fault, short_fault, step_fault, turn_fault, use_fault, walk_fault, word_fault}
+use Rattle.clap.specs.Takes.{action_passes, bundle_step_passes, default_passes, is_given, is_valid, flag_word_passes, flags_pass, level_passes, long_passes, option_passes, other_passes, positional_passes, react_passes, set_passes, settle_passes, short_passes, step_passes, takes, turn_passes, use_passes, walk_passes, word_passes}
 use Rattle.clap.specs.Walk.{Held, Names, Row, Rule, Step, Text, Waiting, Walk, action_of, arg_by_id, arg_by_index, arg_by_long, arg_by_short, attached_value, count_of, finished, has_row, is_pending, most_values, next, nothing_held, reacted, settled, subcommand, subcommand_met, takes_several, takes_values, trailing, value, values_or_missing, walk, walk_from, walked, word_met}
-use Rattle.clap.specs.Simple.{Shape, argument_words, built}
+use Rattle.clap.specs.Simple.{App, Shape, argument_words, built, entered, is_simple}
 use Rattle.clap.specs.declared.builder.action.ArgAction.{ArgAction}
 use Rattle.clap.specs.declared.builder.action.ArgAction.TheVariants as action
 use Rattle.clap.specs.declared.builder.value_parser.ValueParser.{ValueParser}
 use Rattle.clap.specs.declared.error.kind.ErrorKind.{ErrorKind}
 use Rattle.clap.specs.declared.error.kind.ErrorKind.TheVariants.{InvalidValue, WrongNumberOfValues, TooFewValues, TooManyValues, DisplayHelp, InvalidSubcommand, UnknownArgument}
-use Rattle.clap.proofs.OnLiterals.{clap_on_literals}
 use Rattle.clap.proofs.TakesLemmas.{leaf_takes}
-use Rattle.ic_options.specs.Command.{command}
 
 is_none : Kinds → Bool
 is_none [] = true
@@ -214,20 +212,68 @@ walk_ok s names w (word ∷ rest) e =
     let parts = or_none (turn_fault s names w word) _ e in
     and _ _ (turn_ok s names w word parts.0) (walk_ok s names (walked s.rules names w word) rest parts.1)
 
--- what is asked after the walk does not hang on the words
-after_ok : (rows : List Row) → (list_all default_passes (built command).top.rules && is_valid (built command).top rows false) ≡ true
-unfolding clap_on_literals
-after_ok rows = refl
+-- what is required is there
+given_here : (x y rest : Bool) (all : Bool) → (rest ≡ false → all ≡ true) → ((x && not y) || rest) ≡ false → ((not x || y) && all) ≡ true
+given_here true true rest all more e = more e
+given_here true false rest all more e = absurd (true≢false e)
+given_here false y rest all more e = more e
 
--- the command takes the words at which nothing is at fault
-pub exact : (words : List Text) → fault_of command words ≡ [] → takes command words ≡ true
-exact words e =
-    let s = (built command).top in
-    let ws = argument_words command words in
-    let end = (walk s.rules [] nothing_held ws).held in
-    let first = or_none (walk_fault s [] (walk_from nothing_held) ws) _ e in
-    let second = or_none (entered_fault (built command) (walk s.rules [] nothing_held ws).stopped) _ first.1 in
-    let third = or_none (settle_fault s.rules s.args_override_self end) _ second.1 in
-    leaf_takes (built command) nothing_held ws refl
-    (and (walk_passes s [] (walk_from nothing_held) ws) _ (walk_ok s [] (walk_from nothing_held) ws first.0)
-    (and (settle_passes s.rules s.args_override_self end) _ (settle_ok s.rules s.args_override_self end third.0) (after_ok (finished s.rules end))))
+all_given : (rules : List Rule) (rows : List Row) → list_any (λ a. a.required && not (is_given a.id rows)) rules ≡ false → list_all (λ a. not a.required || is_given a.id rows) rules ≡ true
+all_given [] rows e = refl
+all_given (a ∷ rules) rows e = given_here a.required (is_given a.id rows) _ _ (all_given rules rows) e
+
+valid_ok : (s : Shape) (rows : List Row) → list_all (λ a. a.is_free) s.rules ≡ true → check_fault s rows false ≡ [] → is_valid s rows false ≡ true
+valid_ok s rows free e =
+    go s.arg_required_else_help (list_any (λ r. explicit_source r.source) rows) s.subcommand_required s.subcommand_negates_reqs
+    (list_any (λ a. a.required && not (is_given a.id rows)) s.rules) refl e
+  where
+    go : (help some sub negates wants : Bool) → list_any (λ a. a.required && not (is_given a.id rows)) s.rules ≡ wants
+        → check_kinds (not false && (help && not some)) (not false && sub) (not (negates && false) && wants) ≡ []
+        → ((not help || (false || some)) && ((not sub || false) && (list_all (λ a. a.is_free) s.rules && ((negates && false) || list_all (λ a. not a.required || is_given a.id rows) s.rules)))) ≡ true
+    go true false sub negates wants is e = absurd (some_kind _ _ e)
+    go true true true negates wants is e = absurd (some_kind _ _ e)
+    go false some true negates wants is e = absurd (some_kind _ _ e)
+    go true true false true true is e = absurd (some_kind _ _ e)
+    go true true false false true is e = absurd (some_kind _ _ e)
+    go false some false true true is e = absurd (some_kind _ _ e)
+    go false some false false true is e = absurd (some_kind _ _ e)
+    go true true false true false is e = and _ _ free (all_given s.rules rows is)
+    go true true false false false is e = and _ _ free (all_given s.rules rows is)
+    go false some false true false is e = and _ _ free (all_given s.rules rows is)
+    go false some false false false is e = and _ _ free (all_given s.rules rows is)
+
+-- a simple command without subcommands, whose defaults are accepted and whose arguments have no rule on another
+pub record IsPlainLeaf (a : App) : Type 0 where
+  pub simple : is_simple a ≡ true
+  pub leaf : (built a).subs ≡ []
+  pub defaults : list_all default_passes (built a).top.rules ≡ true
+  pub free : list_all (λ r. r.is_free) (built a).top.rules ≡ true
+
+-- such a command takes the words at which nothing is at fault
+pub taken_without_fault : (a : App) → IsPlainLeaf a → (words : List Text) → fault_of a words ≡ [] → takes a words ≡ true
+taken_without_fault a plain words e = and (is_simple a) _ plain.simple (leaf_takes (built a) nothing_held ws plain.leaf passes)
+  where
+    s : Shape
+    s = (built a).top
+
+    ws : List Text
+    ws = argument_words a words
+
+    -- no word names a subcommand where there is none
+    alone : (stop : Option (Text × List Text)) → level_fault s [] nothing_held ws (is_some (entered (record (built a) { subs = [] }) stop)) (entered_fault (record (built a) { subs = [] }) stop) ≡ []
+        → level_fault s [] nothing_held ws false [] ≡ []
+    alone None e = e
+    alone (Some p) e = e
+
+    end : Held
+    end = (walk s.rules [] nothing_held ws).held
+
+    passes : level_passes s [] nothing_held ws false ≡ true
+    passes =
+        let none = alone (walk s.rules [] nothing_held ws).stopped (sym (ap (λ subs. built_fault (record (built a) { subs = subs }) nothing_held ws) plain.leaf) ∙ e) in
+        let first = or_none (walk_fault s [] (walk_from nothing_held) ws) _ none in
+        let second = or_none (settle_fault s.rules s.args_override_self end) _ first.1 in
+        let third = or_none (defaults_fault (settled s.rules end).rows s.rules) _ second.1 in
+        and (walk_passes s [] (walk_from nothing_held) ws) _ (walk_ok s [] (walk_from nothing_held) ws first.0)
+        (and (settle_passes s.rules s.args_override_self end) _ (settle_ok s.rules s.args_override_self end second.0)
+        (and (list_all default_passes s.rules) _ plain.defaults (valid_ok s (finished s.rules end) plain.free third.1)))

@@ -1,5 +1,5 @@
 -- What a parse gives for an option that takes a number.
-use Rattle.std.proofs.Common.{◌≡◌, ◌∙◌, ◌<◌, ◌≤◌, ◌^◌, ap, subst, sym, refl, arith, ℕ, true, false, zero, suc, List, [], ◌∷◌, length, map, Option, Some, None, Result, Ok, Err, inl, inr, option_map, true≢false}
+use Rattle.std.proofs.Common.{◌≡◌, ◌∙◌, ◌<◌, ◌≤◌, ◌^◌, ◌+◌, ◌&&◌, ap, subst, sym, refl, arith, ℕ, true, false, zero, suc, List, [], ◌∷◌, length, map, Option, Some, None, Result, Ok, Err, inl, inr, option_map, true≢false}
 use Rattle.std.specs.Prelude.{Bool, ◌==◌, if◌then◌else◌, codes, slice_get, unwrap_or, IfSome}
 use Rattle.std.proofs.lemmas.Bool.{eqb-true}
 use Rattle.std.specs.Borrow.{Bor}
@@ -29,7 +29,7 @@ use Rattle.clap.proofs.SimpleLemmas.{is_nil}
 use Rattle.clap.proofs.TakesLemmas.{each_rule}
 use Rattle.clap.proofs.WalkLemmas.{both, one_text-rows}
 use Rattle.clap.specs.Faults.{is_simple_and_free}
-use Rattle.clap.specs.Simple.{is_simple}
+use Rattle.ic_options.proofs.Exact.{IsPlainLeaf}
 use Rattle.clap.proofs.OnLiterals.{clap_on_literals}
 use Rattle.ic_options.specs.Command.{command, workers_rule, limit_rule, rounds_rule, generate_rule, price_rule}
 use Rattle.ic_options.specs.Options.{number_in}
@@ -43,15 +43,15 @@ rule_count : (xs : List Arg) → length (map rule_of xs) ≡ length xs
 rule_count [] = refl
 rule_count (x ∷ xs) = ap suc (rule_count xs)
 
--- an option of the command: its place, and what its rule says
-pub record IsNumber (r : Rule) (k low high : ℕ) : Type 0 where
-  pub place : k < 5
-  pub rule : (e : Rule) → slice_index_or command.top.rules k e ≡ r
+-- an option of a command that takes a number: its place, and what its rule says
+pub record IsNumber (a : App) (r : Rule) (k low high : ℕ) : Type 0 where
+  pub place : k < length a.top.rules
+  pub rule : (e : Rule) → slice_index_or a.top.rules k e ≡ r
   pub parser : r.parser ≡ Some (Unsigned low high)
   pub named : bytes_eq r.id [] ≡ false
   pub not_help : bytes_eq r.id (codes "help") ≡ false
   pub not_version : bytes_eq r.id (codes "version") ≡ false
-  pub unique : (j : ℕ) (e : Rule) → j < 5 → bytes_eq (slice_index_or command.top.rules j e).id r.id ≡ true → j ≡ k
+  pub unique : (j : ℕ) (e : Rule) → j < length a.top.rules → bytes_eq (slice_index_or a.top.rules j e).id r.id ≡ true → j ≡ k
 
 differ : (a b : Text) → bytes_eq a b ≡ false → a ≡ b → ⊥
 differ a b e same = true≢false (sym ((bytes_eq-Decides a b).1 same) ∙ e)
@@ -60,11 +60,11 @@ no_groups : (a : Arg) → is_simple_arg a ≡ true → a.groups.items ≡ []
 no_groups a e = is_nil _ (both _ _ (both _ _ (both _ _ e).1).1).0
 
 -- a built argument of this id has the parser of the rule
-module _ (old : Command) (m : ArgMatches) (p : IsParsedFrom old m) (app : app_of old ≡ command) (r : Rule) (k low high : ℕ) (n : IsNumber r k low high) where
-  rules_are : map rule_of (args_of old) ≡ command.top.rules
+module _ (a : App) (simple : list_all (λ (r : Rule). r.is_simple) a.top.rules ≡ true) (old : Command) (m : ArgMatches) (p : IsParsedFrom old m) (app : app_of old ≡ a) (r : Rule) (k low high : ℕ) (n : IsNumber a r k low high) where
+  rules_are : map rule_of (args_of old) ≡ a.top.rules
   rules_are = ap (λ (a : App). a.top.rules) app
 
-  count_is : length (args_of old) ≡ 5
+  count_is : length (args_of old) ≡ length a.top.rules
   count_is = sym (rule_count (args_of old)) ∙ ap length rules_are
 
   is_rule : (d : Arg) → rule_of (slice_index_or (args_of old) k d) ≡ r
@@ -76,7 +76,7 @@ module _ (old : Command) (m : ArgMatches) (p : IsParsedFrom old m) (app : app_of
   one_place : (d : Arg) (j : ℕ) (e : Arg) → j < length (args_of old)
       → bytes_eq (slice_index_or (args_of old) j e).id.now (slice_index_or (args_of old) k d).id.now ≡ true → j ≡ k
   one_place d j e lt same =
-      let at : slice_index_or command.top.rules j (rule_of e) ≡ rule_of (slice_index_or (args_of old) j e) =
+      let at : slice_index_or a.top.rules j (rule_of e) ≡ rule_of (slice_index_or (args_of old) j e) =
       ap (λ (l : List Rule). slice_index_or l j (rule_of e)) (sym rules_are) ∙ rule_at (args_of old) j e in
       n.unique j (rule_of e) (subst (λ l. j < l) count_is lt)
       (ap (λ (x : Rule). bytes_eq x.id r.id) at ∙ (ap (λ w. bytes_eq (slice_index_or (args_of old) j e).id.now w) (sym (is_id d)) ∙ same))
@@ -132,7 +132,7 @@ module _ (old : Command) (m : ArgMatches) (p : IsParsedFrom old m) (app : app_of
 
       none : groups_of p.built ≡ []
       none = (p.from.same_groups (λ i d lt. no_groups (slice_index_or (args_of old) i d)
-          (each_rule (λ (x : Rule). x.is_simple) (args_of old) (ap (list_all (λ (x : Rule). x.is_simple)) rules_are) i d lt))).1 ∙ groups
+          (each_rule (λ (x : Rule). x.is_simple) (args_of old) (ap (list_all (λ (x : Rule). x.is_simple)) rules_are ∙ simple) i d lt))).1 ∙ groups
 
       at : (x : MatchedArg) → ((e : Entry) × (e.1 ≡ x) × (bytes_eq e.0.now r.id ≡ true) × EntryPasses p.built e)
           → option_map (λ s. read_as x.reading s.now) (slice_get x.vals.items 0) ≡ Some t → IsUnsignedIn low high t
@@ -170,38 +170,26 @@ given G bits low high f id o only fits passes absent present = go (one_text f id
               (subst (λ v. low ≤ v) same read.1, subst (λ v. v ≤ high) same read.2),
         )
 
--- where a rule of the command has the id of this one, it has its place
-abbrev Apart : ℕ → Rule → ℕ → Rule → Type 0
-Apart k r j s = (if bytes_eq s.id r.id then j == k else true) ≡ true
+-- a rule of the list that has this id has this place, where the list begins at place j
+abbrev pub names_once : (j k : ℕ) → Text → List Rule → Bool
+names_once j k id [] = true
+names_once j k id (r ∷ rules) = (if bytes_eq r.id id then j == k else true) && names_once (suc j) k id rules
 
-same_place : (j k : ℕ) (same : Bool) → (if same then j == k else true) ≡ true → same ≡ true → j ≡ k
-same_place j k true is same = eqb-true j k is
-same_place j k false is same = absurd cc
+place_of_name : (j k : ℕ) (id : Text) (rules : List Rule) → names_once j k id rules ≡ true
+    → (i : ℕ) (e : Rule) → i < length rules → bytes_eq (slice_index_or rules i e).id id ≡ true → j + i ≡ k
+place_of_name j k id [] once i e lt h = absurd (omega arith)
+place_of_name j k id (r ∷ rules) once zero e lt h =
+    let here : (if bytes_eq r.id id then j == k else true) ≡ true = (both _ _ once).0 in
+    let same : (j == k) ≡ true = rw h at here in
+    let is : j ≡ k = eqb-true j k same in
+    omega arith
+place_of_name j k id (r ∷ rules) once (suc i) e lt h =
+    let rest : suc j + i ≡ k = place_of_name (suc j) k id rules (both (if bytes_eq r.id id then j == k else true) (names_once (suc j) k id rules) once).1 i e (omega arith) h in
+    omega arith
 
-unique_at : (k : ℕ) (r : Rule) → Apart k r 0 workers_rule → Apart k r 1 limit_rule → Apart k r 2 rounds_rule → Apart k r 3 generate_rule → Apart k r 4 price_rule
-    → (j : ℕ) (e : Rule) → j < 5 → bytes_eq (slice_index_or command.top.rules j e).id r.id ≡ true → j ≡ k
-unique_at k r workers limit rounds generate price zero e lt h = same_place 0 k _ workers h
-unique_at k r workers limit rounds generate price (suc zero) e lt h = same_place 1 k _ limit h
-unique_at k r workers limit rounds generate price (suc (suc zero)) e lt h = same_place 2 k _ rounds h
-unique_at k r workers limit rounds generate price (suc (suc (suc zero))) e lt h = same_place 3 k _ generate h
-unique_at k r workers limit rounds generate price (suc (suc (suc (suc zero)))) e lt h = same_place 4 k _ price h
-unique_at k r workers limit rounds generate price (suc (suc (suc (suc (suc j))))) e lt h = absurd (omega arith)
-
--- the five options
-pub workers_option : IsNumber workers_rule 0 1 64
-workers_option = record { place = omega arith; rule = λ e. refl; parser = refl; named = refl; not_help = refl; not_version = refl; unique = unique_at 0 workers_rule refl refl refl refl refl }
-
-pub limit_option : IsNumber limit_rule 1 1 1000000000000
-limit_option = record { place = omega arith; rule = λ e. refl; parser = refl; named = refl; not_help = refl; not_version = refl; unique = unique_at 1 limit_rule refl refl refl refl refl }
-
-pub rounds_option : IsNumber rounds_rule 2 1 1000000
-rounds_option = record { place = omega arith; rule = λ e. refl; parser = refl; named = refl; not_help = refl; not_version = refl; unique = unique_at 2 rounds_rule refl refl refl refl refl }
-
-pub generate_option : IsNumber generate_rule 3 0 10000
-generate_option = record { place = omega arith; rule = λ e. refl; parser = refl; named = refl; not_help = refl; not_version = refl; unique = unique_at 3 generate_rule refl refl refl refl refl }
-
-pub price_option : IsNumber price_rule 4 0 1000000
-price_option = record { place = omega arith; rule = λ e. refl; parser = refl; named = refl; not_help = refl; not_version = refl; unique = unique_at 4 price_rule refl refl refl refl refl }
+pub only_place : (k : ℕ) (id : Text) (rules : List Rule) → names_once 0 k id rules ≡ true
+    → (i : ℕ) (e : Rule) → i < length rules → bytes_eq (slice_index_or rules i e).id id ≡ true → i ≡ k
+only_place k id rules once i e lt h = let at : 0 + i ≡ k = place_of_name 0 k id rules once i e lt h in omega arith
 
 -- an option is within its bounds where it was given, or its default is
 pub bounded : (o : Option ℕ) (default low high : ℕ) → low ≤ default → default ≤ high → ((n : ℕ) → o ≡ Some n → (low ≤ n) × (n ≤ high))
@@ -213,10 +201,29 @@ pub some_bounded : (o : Option ℕ) (low high : ℕ) → ((n : ℕ) → o ≡ So
 some_bounded None low high h = tt
 some_bounded (Some n) low high h = (h n refl).1
 
+-- the options of the command
+pub workers_option : IsNumber command workers_rule 0 1 64
+workers_option = record { place = omega arith; rule = λ e. refl; parser = refl; named = refl; not_help = refl; not_version = refl; unique = only_place 0 (codes "workers") command.top.rules refl }
+
+pub limit_option : IsNumber command limit_rule 1 1 1000000000000
+limit_option = record { place = omega arith; rule = λ e. refl; parser = refl; named = refl; not_help = refl; not_version = refl; unique = only_place 1 (codes "limit") command.top.rules refl }
+
+pub rounds_option : IsNumber command rounds_rule 2 1 1000000
+rounds_option = record { place = omega arith; rule = λ e. refl; parser = refl; named = refl; not_help = refl; not_version = refl; unique = only_place 2 (codes "rounds") command.top.rules refl }
+
+pub generate_option : IsNumber command generate_rule 3 0 10000
+generate_option = record { place = omega arith; rule = λ e. refl; parser = refl; named = refl; not_help = refl; not_version = refl; unique = only_place 3 (codes "generate") command.top.rules refl }
+
+pub price_option : IsNumber command price_rule 4 0 1000000
+price_option = record { place = omega arith; rule = λ e. refl; parser = refl; named = refl; not_help = refl; not_version = refl; unique = only_place 4 (codes "price") command.top.rules refl }
+
+pub has_simple_rules : list_all (λ (r : Rule). r.is_simple) command.top.rules ≡ true
+has_simple_rules = refl
+
 pub is_free : is_simple_and_free command ≡ true
 unfolding clap_on_literals
 is_free = refl
 
-pub is_simple_too : is_simple command ≡ true
+pub is_plain_leaf : IsPlainLeaf command
 unfolding clap_on_literals
-is_simple_too = refl
+is_plain_leaf = record { simple = refl; leaf = refl; defaults = refl; free = refl }

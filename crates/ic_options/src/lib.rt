@@ -20,7 +20,7 @@ use clap::error::ErrorKind;
 use clap::{Arg, Command};
 use ic_base::NoMemory;
 use std::alloc::{AllocError, Global};
-pub use words::words_of;
+pub use words::{given_words, words_of};
 
 /// What the words of the command line ask for.
 #[derive(Clone, Copy, Debug)]
@@ -104,8 +104,8 @@ fn describe<'a>(alloc: Global) -> Result<Command<'a>, NoMemory>
         .arg(price)
 }
 
-// An option that takes a number, and has a default.
-fn number_or<'a>(alloc: Global, name: &'a str, low: u64, high: u64, default: &'a str) -> Arg<'a>
+/// An option of this name that takes a number from `low` to `high`, with the text that stands for it where it is left out.
+pub fn number_or<'a>(alloc: Global, name: &'a str, low: u64, high: u64, default: &'a str) -> Arg<'a>
     ensures rule { rule_of result ≡ default_rule name.entry.now low high default.entry.now }
     ensures local { result.global ≡ false }
 {

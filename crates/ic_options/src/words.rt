@@ -22,7 +22,8 @@ pub fn words_of(alloc: Global, args: io::Result<Args>) -> Result<Vec<String>, No
     }
 }
 
-fn given_words(alloc: Global, given: Args) -> Result<Vec<String>, NoMemory>
+/// The words of the process as a list.
+pub fn given_words(alloc: Global, given: Args) -> Result<Vec<String>, NoMemory>
     ensures { IfOk result (λ words. words.items ≡ into_iter_items given) }
 {
     let mut words = Vec::new(alloc);

@@ -11,8 +11,8 @@ use Rattle.clap.specs.declared.error.kind.ErrorKind.TheVariants.{OutOfMemory}
 use Rattle.ic_options.specs.Command.{command, workers_rule, limit_rule, rounds_rule, generate_rule, price_rule}
 use Rattle.ic_options.specs.Options.{options_in, options_of}
 use Rattle.ic_options.specs.declared.Options.{Options}
-use Rattle.ic_options.proofs.Numbers.{given, text_accepted, workers_option, limit_option, rounds_option, generate_option, price_option, bounded, some_bounded, is_free, is_simple_too}
-use Rattle.ic_options.proofs.Exact.{exact}
+use Rattle.ic_options.proofs.Numbers.{given, text_accepted, workers_option, limit_option, rounds_option, generate_option, price_option, bounded, some_bounded, has_simple_rules, is_free, is_plain_leaf}
+use Rattle.ic_options.proofs.Exact.{taken_without_fault}
 use Rattle.ic_options.proofs.Options.read.Goals as goal
 
 abbrev R32 : Text → Result ℕ ParseIntError → Type 0
@@ -43,25 +43,25 @@ returns-in-Ok c =
     let m = c.in-Ok.matches in
     let parsed = c.in-Ok.ensures.parsed in
     let free : is_simple_and_free (app_of c.in_ok-describe.field-0) ≡ true = ap is_simple_and_free app ∙ is_free in
-    let simple : is_simple (app_of c.in_ok-describe.field-0) ≡ true = ap is_simple app ∙ is_simple_too in
+    let simple : is_simple (app_of c.in_ok-describe.field-0) ≡ true = ap is_simple app ∙ is_plain_leaf.simple in
     let none : fault_of command words ≡ [] = ap (λ (a : App). fault_of a words) (sym app) ∙ c.in-Ok.ensures.kinds free in
     let rows : rows_of (found_of m) ≡ matches_of command words = (c.in-Ok.ensures.matches simple).0 ∙ ap (λ (a : App). matches_of a words) app in
     let local = c.in_ok-describe.ensures.local in
     let plain = c.in_ok-describe.ensures.plain in
     let workers = given R32 32 1 64 (found_of m) (codes "workers") c.get_one-workers_given.result (λ t x g. g.0) (omega arith)
-    (text_accepted c.in_ok-describe.field-0 m parsed app workers_rule 0 1 64 workers_option local plain)
+    (text_accepted command has_simple_rules c.in_ok-describe.field-0 m parsed app workers_rule 0 1 64 workers_option local plain)
     c.get_one-workers_given.ensures.none c.get_one-workers_given.ensures.value in
     let limit = given R64 64 1 1000000000000 (found_of m) (codes "limit") c.get_one-limit_given.result (λ t x g. g.0) (omega arith)
-    (text_accepted c.in_ok-describe.field-0 m parsed app limit_rule 1 1 1000000000000 limit_option local plain)
+    (text_accepted command has_simple_rules c.in_ok-describe.field-0 m parsed app limit_rule 1 1 1000000000000 limit_option local plain)
     c.get_one-limit_given.ensures.none c.get_one-limit_given.ensures.value in
     let rounds = given R32 32 1 1000000 (found_of m) (codes "rounds") c.get_one-rounds_given.result (λ t x g. g.0) (omega arith)
-    (text_accepted c.in_ok-describe.field-0 m parsed app rounds_rule 2 1 1000000 rounds_option local plain)
+    (text_accepted command has_simple_rules c.in_ok-describe.field-0 m parsed app rounds_rule 2 1 1000000 rounds_option local plain)
     c.get_one-rounds_given.ensures.none c.get_one-rounds_given.ensures.value in
     let generate = given R32 32 0 10000 (found_of m) (codes "generate") c.get_one-generate.result (λ t x g. g.0) (omega arith)
-    (text_accepted c.in_ok-describe.field-0 m parsed app generate_rule 3 0 10000 generate_option local plain)
+    (text_accepted command has_simple_rules c.in_ok-describe.field-0 m parsed app generate_rule 3 0 10000 generate_option local plain)
     c.get_one-generate.ensures.none c.get_one-generate.ensures.value in
     let price = given R64 64 0 1000000 (found_of m) (codes "price") c.get_one-price_given.result (λ t x g. g.0) (omega arith)
-    (text_accepted c.in_ok-describe.field-0 m parsed app price_rule 4 0 1000000 price_option local plain)
+    (text_accepted command has_simple_rules c.in_ok-describe.field-0 m parsed app price_rule 4 0 1000000 price_option local plain)
     c.get_one-price_given.ensures.none c.get_one-price_given.ensures.value in
     let limit_is : c.unwrap_or-limit.result ≡ unwrap_or c.get_one-limit_given.result 50000000 = search rules in
     let rounds_is : c.unwrap_or-rounds.result ≡ unwrap_or c.get_one-rounds_given.result 100000 = search rules in
@@ -76,7 +76,7 @@ returns-in-Ok c =
       generate = generate.0 i;
     } in
     record {
-      value = ap (λ (o : Options). Some o) (is ∙ ap options_in rows) ∙ sym (taken words (exact words none));
+      value = ap (λ (o : Options). Some o) (is ∙ ap options_in rows) ∙ sym (taken words (taken_without_fault command is_plain_leaf words none));
       bounds = record {
         limit = subst (λ n. (1 ≤ n) × (n ≤ 1000000000000)) (sym limit_is) (bounded _ 50000000 1 1000000000000 (omega arith) (omega arith) limit.1);
         rounds = subst (λ n. (1 ≤ n) × (n ≤ 1000000)) (sym rounds_is) (bounded _ 100000 1 1000000 (omega arith) (omega arith) rounds.1);
