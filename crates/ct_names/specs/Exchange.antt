@@ -1,5 +1,5 @@
 -- The exchange of names for what they stand for, on tokens.
-use Rattle.std.specs.Prelude.{ℕ, Bool, true, false, ◌&&◌, ◌||◌, if◌then◌else◌, List, [], ◌∷◌, ◌++◌, drop, map, Option, Some, None, codes}
+use Rattle.std.specs.Prelude.{ℕ, Bool, true, false, ◌&&◌, ◌||◌, if◌then◌else◌, List, [], ◌∷◌, ◌++◌, drop, map, Option, Some, None, slice_get, codes}
 use Rattle.cd_tokens.specs.Token.{Token, run, quoted, mark, arrow}
 use Rattle.cd_tokens.specs.Front.{is_word, starts}
 use Rattle.cd_tokens.specs.Placed.{placed_view, placed_views}
@@ -50,6 +50,23 @@ read_for (Used alone) (Some meaning) t = written alone meaning
 read_for Bound found t = t ∷ []
 read_for Other found t = t ∷ []
 
+-- how many names a token uses
+abbrev pub count : Role → ℕ
+count (Used alone) = 1
+count Bound = 0
+count Other = 0
+
+-- the same by what the names stand for in the order of their uses; a use after the last of these is left
+abbrev pub exchanged_by_from : List (List Token) → Before → List Token → List Token
+exchanged_by_from meanings before [] = []
+exchanged_by_from meanings before (t ∷ rest) =
+    let is = role before t rest in
+    read_for is (slice_get meanings 0) t ++ exchanged_by_from (drop (count is) meanings) (after before t rest) rest
+
+abbrev pub exchanged_by : List (List Token) → List Token → List Token
+exchanged_by meanings tokens = exchanged_by_from meanings Value tokens
+
+-- the same by what each name stands for
 abbrev pub exchanged_from : Meanings → Before → List Token → List Token
 exchanged_from meaning before [] = []
 exchanged_from meaning before (t ∷ rest) = replacement (role before t rest) (meaning (name_in t)) t ++ exchanged_from meaning (after before t rest) rest
@@ -70,6 +87,19 @@ places tokens = map (λ placed. placed.place) tokens
 abbrev pub all_at : ℕ → List Token → List ℕ
 all_at place tokens = map (λ t. place) tokens
 
+-- the places of the tokens that they are read in place of, by the meanings in the order of the uses
+abbrev pub places_by_from : List (List Token) → Before → List PlacedToken → List ℕ
+places_by_from meanings before [] = []
+places_by_from meanings before (placed ∷ rest) =
+    let t = placed_view placed in
+    let ts = placed_views rest in
+    let is = role before t ts in
+    all_at placed.place (read_for is (slice_get meanings 0) t) ++ places_by_from (drop (count is) meanings) (after before t ts) rest
+
+abbrev pub exchanged_places_by : List (List Token) → List PlacedToken → List ℕ
+exchanged_places_by meanings tokens = places_by_from meanings Value tokens
+
+-- the same by what each name stands for
 abbrev pub places_from : Meanings → Before → List PlacedToken → List ℕ
 places_from meaning before [] = []
 places_from meaning before (placed ∷ rest) =
@@ -77,15 +107,8 @@ places_from meaning before (placed ∷ rest) =
     let ts = placed_views rest in
     all_at placed.place (replacement (role before t ts) (meaning (name_in t)) t) ++ places_from meaning (after before t ts) rest
 
--- the places of the tokens that they are read in place of
 abbrev pub exchanged_places : Meanings → List PlacedToken → List ℕ
 exchanged_places meaning tokens = places_from meaning Value tokens
-
--- how many names a token uses
-abbrev pub count : Role → ℕ
-count (Used alone) = 1
-count Bound = 0
-count Other = 0
 
 abbrev pub used_from : Before → List Token → List (List ℕ)
 used_from before [] = []

@@ -1,7 +1,7 @@
 ghost use Rattle.std.specs.Prelude.{◌≡◌, ◌++◌, ◌∷◌, [], IfOk, OnOk, map, option_map};
 ghost use Rattle.cd_tokens.specs.Placed.{placed_view, placed_views};
 ghost use Rattle.cd_tokens.specs.View.{token_view, token_views};
-ghost use Rattle.ct_names.specs.Exchange.{Meanings, is_string, is_principal, written, read_for, places, all_at, count, exchanged, exchanged_places, used_names};
+ghost use Rattle.ct_names.specs.Exchange.{Meanings, is_string, is_principal, written, read_for, places, all_at, count, exchanged, exchanged_by, exchanged_places, exchanged_places_by, used_names};
 
 use crate::meaning::Meaning;
 use crate::role::{Before, Role};
@@ -104,9 +104,11 @@ pub fn exchange<'a>(
     tokens: &[PlacedToken<'a>],
     meanings: &[Meaning<'a>],
 ) -> Result<Vec<PlacedToken<'a>>, NoMemory>
-    // The tokens are those that are read in place of the names.
+    // The tokens are those that are read in place of the names, by the meanings in their order, and by a function that gives them.
+    ensures listed { IfOk result (λ read. placed_views read.items ≡ exchanged_by meanings.now (placed_views tokens.now)) }
     ensures tokens { (meaning : Meanings) → meanings.now ≡ map meaning (used_names (placed_views tokens.now)) → IfOk result (λ read. placed_views read.items ≡ exchanged meaning (placed_views tokens.now)) }
     // Each has the place of the token in whose place it is read.
+    ensures listed_places { IfOk result (λ read. places read.items ≡ exchanged_places_by meanings.now tokens.now) }
     ensures places { (meaning : Meanings) → meanings.now ≡ map meaning (used_names (placed_views tokens.now)) → IfOk result (λ read. places read.items ≡ exchanged_places meaning tokens.now) }
 {
     let mut read = Vec::with_capacity(alloc, tokens.len())?;
