@@ -1,5 +1,5 @@
 // Memory, locals, globals, blocks, branches and calls: bodies that do not trap in V8
-// (bench/instructions.js).
+// (tests/bodies.js).
 
 /// A name, and a body.
 type Named = (&'static str, &'static [u8]);

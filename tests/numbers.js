@@ -1,5 +1,5 @@
 // Prints tests/numbers.rows: every operation on integers at ten pairs of operands of each width, with what V8 computes.
-//   node bench/integers.js > tests/numbers.rows
+//   node tests/numbers.js > tests/numbers.rows
 const { createHash } = require("crypto");
 
 const pairs = {
@@ -92,7 +92,7 @@ function print(title, methods) {
   console.log("...\n= 0\n");
 }
 
-console.log(`# Every operation on integers, with what V8 computes: bench/integers.js prints these rows. The first method of a canister
+console.log(`# Every operation on integers, with what V8 computes: tests/numbers.js prints these rows. The first method of a canister
 # does each operation on the two numbers that gives one, and reaches \`unreachable\` where a result is another; it does not
 # respond. Each other method does a division that traps. Each instruction costs a cycle.
 `);

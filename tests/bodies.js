@@ -1,5 +1,5 @@
 // Prints the bodies of crates/wm_run_tests/src/runs/bodies.rt, which V8 runs without a trap:
-//   node bench/instructions.js > crates/wm_run_tests/src/runs/bodies.rt && (cd crates/wm_run_tests && rt fmt)
+//   node tests/bodies.js > crates/wm_run_tests/src/runs/bodies.rt && (cd crates/wm_run_tests && rt fmt)
 const leb = (n) => {
   const out = [];
   do {
@@ -103,7 +103,7 @@ const rows = Object.entries(bodies).map(([name, body]) => {
   return `    ("${name}", b"${body.map((b) => "\\x" + b.toString(16).padStart(2, "0")).join("")}"),`;
 });
 console.log(`// Memory, locals, globals, blocks, branches and calls: bodies that do not trap in V8
-// (bench/instructions.js).
+// (tests/bodies.js).
 
 /// A name, and a body.
 type Named = (&'static str, &'static [u8]);
