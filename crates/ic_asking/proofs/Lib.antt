@@ -1,0 +1,2 @@
+mod InPlace
+pub mod Keeps
