@@ -24,9 +24,9 @@ use Rattle.cd_types.specs.declared.entry.Entry.{Entry}
 use Rattle.cd_codec.specs.Content.{Content}
 use Rattle.cd_codec.specs.Measure.{number, number_each}
 use Rattle.cd_tokens.specs.Token.{Token, mark}
-use Rattle.cd_text.specs.Said.{SaysParts, Says}
+use Rattle.cd_text.specs.Said.{Says}
 use Rattle.cd_text.specs.ReadText.{values_of}
-use Rattle.cd_text.specs.Whole.{SaysArgument, Said}
+use Rattle.cd_text.specs.Whole.{SaysArgument, Said, SaysArguments}
 use Rattle.cd_text.specs.Placed.{placed}
 use Rattle.cd_plain.specs.ReadPlain.{is_mark, starts}
 use Rattle.cd_text.specs.ReadSaid.{then_make, annotated_at, after_field, parts_at, value_at, argument_at, all_said, arguments_at}
@@ -62,15 +62,6 @@ number_of_all [] = refl
 number_of_all (x ∷ arguments) = ap (λ k. number x.1 + k) (number_of_all arguments)
 
 -- what the tokens of a text say
-pub record Spoken (table : List Entry) (types : List TyRef) (values : List Content) (tokens : List Token) : Type 0 where
-  pub inner : List Token
-  pub arguments : List (ℕ × Content)
-  pub whole : tokens ≡ mark 40 ∷ inner
-  pub said : SaysParts (mark 44) (mark 41) (SaysArgument table types) (λ x. suc x.0) 0 arguments inner
-  pub all : length arguments ≡ length types
-  pub are : map (λ x. x.1) arguments ≡ values
-  pub many : number_each values ≤ 1000000
-
 all_takes : (types : List TyRef) (x : List (ℕ × Content) × ℕ × List Token) (values : List Content) → all_said types x ≡ Some values → (x.2 ≡ []) × (length x.0 ≡ length types) × (map (λ y. y.1) x.0 ≡ values)
 all_takes types (arguments, left, []) values e = elim (true_or_false (length arguments == length types)) [
   | inl same ↦ (refl, is_equal (length arguments) (length types) same, some_is {A = List Content} (map (λ y. y.1) arguments) values (rw same at e))
@@ -78,7 +69,7 @@ all_takes types (arguments, left, []) values e = elim (true_or_false (length arg
 ]
 all_takes types (arguments, left, t ∷ rest) values e = absurd cc
 
-pub arguments_take : (table : List Entry) → Good table → (types : List TyRef) (tokens : List Token) (values : List Content) → arguments_at table types tokens ≡ Some values → Spoken table types values tokens
+pub arguments_take : (table : List Entry) → Good table → (types : List TyRef) (tokens : List Token) (values : List Content) → arguments_at table types tokens ≡ Some values → SaysArguments table types values tokens
 unfolding arguments_at
 arguments_take table good types tokens values e = elim (true_or_false (starts (is_mark 40) tokens)) [
   | inr never ↦ let f : None ≡ Some values = rw never at e in absurd cc
@@ -103,7 +94,7 @@ arguments_take table good types tokens values e = elim (true_or_false (starts (i
 same_length : (n : ℕ) → (n == n) ≡ true
 same_length n = grind arith
 
-pub arguments_again : (table : List Entry) → Good table → (types : List TyRef) (values : List Content) (tokens : List Token) → Spoken table types values tokens → arguments_at table types tokens ≡ Some values
+pub arguments_again : (table : List Entry) → Good table → (types : List TyRef) (values : List Content) (tokens : List Token) → SaysArguments table types values tokens → arguments_at table types tokens ≡ Some values
 unfolding arguments_at
 arguments_again table good types values tokens s =
     let count : sum_of number_field s.arguments ≡ number_each values = sym (number_of_all s.arguments) ∙ ap number_each s.are in
@@ -204,7 +195,7 @@ pub good_table : (table : List Entry) → IsTrue (is_table table) → Good table
 good_table table is (Prim p) = tt
 good_table table is (Index i) = good_shape table i (slice_get table i) is refl
 
-spoken_said : (table : List Entry) (types : List TyRef) (values : List Content) (tokens : List Token) (text : List ℕ) → is_utf8 text ≡ true → IsTokens false tokens text → Spoken table types values tokens → Said table types values text
+spoken_said : (table : List Entry) (types : List TyRef) (values : List Content) (tokens : List Token) (text : List ℕ) → is_utf8 text ≡ true → IsTokens false tokens text → SaysArguments table types values tokens → Said table types values text
 spoken_said table types values tokens text utf8 lexed s = record {
   tokens = s.inner;
   arguments = s.arguments;
@@ -216,7 +207,7 @@ spoken_said table types values tokens text utf8 lexed s = record {
   many = s.many;
 }
 
-said_spoken : (table : List Entry) (types : List TyRef) (values : List Content) (text : List ℕ) (s : Said table types values text) → Spoken table types values (mark 40 ∷ s.tokens)
+pub said_spoken : (table : List Entry) (types : List TyRef) (values : List Content) (text : List ℕ) (s : Said table types values text) → SaysArguments table types values (mark 40 ∷ s.tokens)
 said_spoken table types values text s = record { inner = s.tokens; arguments = s.arguments; whole = refl; said = s.said; all = s.all; are = s.are; many = s.many }
 
 -- what is read is said
@@ -272,6 +263,18 @@ pub found_with : {A : Type 0} (view_of : A → List Content) (table : List Entry
     → IfOk r (λ x. Said table types (view_of x) text)
 found_with view_of table types tokens text (Ok x) is utf8 lexed gives = text_found table types (view_of x) tokens text is utf8 lexed gives
 found_with view_of table types tokens text (Err e) is utf8 lexed gives = tt
+
+-- the same of tokens
+pub tokens_found : {A : Type 0} (view_of : A → List Content) (table : List Entry) (types : List TyRef) (tokens : List Token) (r : Result A ReadError) → IsTrue (is_table table) → Gives view_of r (arguments_at table types tokens)
+    → IfOk r (λ x. SaysArguments table types (view_of x) tokens)
+tokens_found view_of table types tokens (Ok x) is gives = arguments_take table (good_table table is) types tokens (view_of x) gives
+tokens_found view_of table types tokens (Err e) is gives = tt
+
+pub tokens_agree : {A : Type 0} (view_of : A → List Content) (table : List Entry) (types : List TyRef) (tokens : List Token) (r : Result A ReadError) → IsTrue (is_table table) → Gives view_of r (arguments_at table types tokens)
+    → (values : List Content) → SaysArguments table types values tokens → Agrees view_of r values
+tokens_agree view_of table types tokens (Ok x) is gives values s = some_is {A = List Content} (view_of x) values (sym gives ∙ arguments_again table (good_table table is) types values tokens s)
+tokens_agree view_of table types tokens (Err NoMemory) is gives values s = tt
+tokens_agree view_of table types tokens (Err Refused) is gives values s = none_some values (arguments_at table types tokens) gives (arguments_again table (good_table table is) types values tokens s)
 
 pub no_tokens : {A B : Type 0} (view_of : A → List Content) (see : B → List Token) (table : List Entry) (types : List TyRef) (text : List ℕ) (e : ReadError) → ((tokens : List Token) → IsTokens false tokens text → Agrees see (Err e) tokens) → (values : List Content) → Said table types values text → Agrees view_of (Err e) values
 no_tokens view_of see table types text NoMemory law values s = tt

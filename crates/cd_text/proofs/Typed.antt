@@ -1,5 +1,5 @@
 -- What a text says has the expected types.
-use Rattle.std.proofs.Common.{◌≡◌, ℕ, zero, suc, ◌+◌, ◌*◌, ◌≤◌, ◌<◌, ◌^◌, Bool, true, false, List, [], ◌∷◌, ◌++◌, length, map, Option, Some, None, refl, sym, ap, subst, ◌∙◌, inl, inr, arith}
+use Rattle.std.proofs.Common.{◌≡◌, ℕ, zero, suc, ◌+◌, ◌*◌, ◌≤◌, ◌<◌, ◌^◌, Bool, true, false, List, [], ◌∷◌, ◌++◌, length, map, take, get_or, Option, Some, None, refl, sym, ap, subst, ◌∙◌, inl, inr, arith}
 use Rattle.std.specs.Prelude.{ℤ, pos, negsuc, ◌==◌, codes, if◌then◌else◌, slice_get, FitsSigned, IsTrue, Result, Ok, Err, IfOk}
 use Rattle.std.specs.Int.Digits.{number_from_digits}
 use Rattle.std.specs.Int.Signed.{mag}
@@ -11,7 +11,7 @@ use Rattle.std.specs.Option.{option_or}
 use Rattle.std.proofs.lemmas.Bool.{eqb-true, ltb-true}
 use Rattle.std.proofs.lemmas.Str.{is_utf8-from_IsUtf8}
 use Rattle.std.proofs.lemmas.Int.{to_z-of_z}
-use Rattle.std.proofs.lemmas.List.{length-append}
+use Rattle.std.proofs.lemmas.List.{length-append, length-map, take_all}
 use Rattle.std.proofs.lemmas.Str.{length-encode, len_utf8_bounds}
 use Rattle.ic_base.specs.Reader.{◌>>=◌}
 use Rattle.ic_base.proofs.Steps.{bind_some, some_is}
@@ -35,6 +35,8 @@ use Rattle.cd_codec.specs.Basic.{SpellsInteger, SpellsCounted, SpellsText, Spell
 use Rattle.cd_codec.specs.Missing.{missing}
 use Rattle.cd_codec.specs.Plain.{HasShape, SpellsPlain, bool_byte}
 use Rattle.cd_codec.specs.Wire.{Wire, WireAll, WireParts}
+use Rattle.cd_tokens.specs.declared.token.Token.{Token as Held}
+use Rattle.cd_tokens.specs.View.{token_view, token_views}
 use Rattle.cd_tokens.specs.Token.{Token, run, quoted, mark, arrow, IsToken}
 use Rattle.cd_tokens.specs.Label.{IsNameOf}
 use Rattle.cd_tokens.specs.Lexed.{IsTokens}
@@ -45,21 +47,13 @@ use Rattle.cd_text.specs.Said.{Saying, Annotated, bare, annotated, SaysParts, In
 use Rattle.cd_tokens.specs.ReadNumeral.{is_between}
 use Rattle.cd_text.specs.Words.{name_of}
 use Rattle.cd_text.specs.SaysPlain.{SaysPlain, IsPrincipalText}
-use Rattle.cd_text.specs.Whole.{SaysArgument, Said}
+use Rattle.cd_text.specs.Room.{size, room}
+use Rattle.cd_text.specs.Whole.{SaysArgument, SaysArguments, Said}
+use Rattle.cd_plain.proofs.Pieces.{seen_more}
+use Rattle.cd_text.proofs.Arguments.{said_spoken}
 use Rattle.cd_text.proofs.Values.{are_fields, fields_distinct}
 
 -- ---- how much the tokens of a text may say
-
--- the bytes that are kept of a token
-abbrev size : Token → ℕ
-size (run r) = length r
-size (quoted s) = length s
-size (mark m) = 0
-size arrow = 0
-
-abbrev room : List Token → ℕ
-room [] = 0
-room (t ∷ tokens) = suc (size t) + room tokens
 
 -- what they say can be spelled
 abbrev Small : List Token → Type 0
@@ -68,6 +62,21 @@ Small tokens = room tokens < 2 ^ 128
 room_both : (front rest : List Token) → room (front ++ rest) ≡ room front + room rest
 room_both [] rest = omega arith
 room_both (t ∷ front) rest = let n = room_both front rest in omega (arith, n)
+
+-- the tokens of the program, one more at a time
+pub room_seen : (items : List Held) (i : ℕ) (x : Held) → i < length items → x ≡ get_or items i x → room (token_views (take i items)) ≤ length (token_views (take i items)) * 2 ^ 63 → size (token_view x) < 2 ^ 63
+    → room (token_views (take (i + 1) items)) ≤ length (token_views (take (i + 1) items)) * 2 ^ 63
+room_seen items i x below is all one =
+    let more = seen_more token_view items i x below ∙ ap (λ (y : Held). token_views (take i items) ++ token_view y ∷ []) (sym is) in
+    let n = ap room more ∙ room_both (token_views (take i items)) (token_view x ∷ []) in
+    let m = ap length more ∙ length-append (token_views (take i items)) (token_view x ∷ []) in
+    omega (arith, n, m, all, one)
+
+pub room_all : (items : List Held) (i : ℕ) → length items < 2 ^ 63 → length items ≤ i → room (token_views (take i items)) ≤ length (token_views (take i items)) * 2 ^ 63 → Small (token_views items)
+room_all items i few past all =
+    let whole : room (token_views items) ≤ length (token_views items) * 2 ^ 63 = subst (λ xs. room (token_views xs) ≤ length (token_views xs) * 2 ^ 63) (take_all i items past) all in
+    let n = length-map items token_view in
+    omega (arith, n, few, whole)
 
 token_room : (t : Token) (front : List ℕ) → IsToken t front → suc (size t) ≤ 2 * length front
 token_room (run r) front is = let n = some_byte (run r) front is in let m = ap length is.1 in omega (arith, n, m)
@@ -421,14 +430,24 @@ each_wire table types (x ∷ xs) next (t ∷ more) at many placed each =
     let rest = each_wire table types xs (suc next) more (λ k. let m : suc next + k ≡ next + suc k = omega arith in ap (slice_get types) m ∙ at (suc k)) (omega (arith, many)) placed.1 each.1 in
     (first.0 ++ rest.0, (t, more, refl, first.0, rest.0, refl, first.1, rest.1))
 
--- the values that a text says have the types; it is no longer than memory
+-- the values that tokens say have the types
+pub arguments_typed : (table : List Entry) (types : List TyRef) (values : List Content) (tokens : List Token) → IsTrue (is_table table) → Small tokens → SaysArguments table types values tokens → HasTypes table types values
+arguments_typed table types values tokens formed small s =
+    let n = ap room s.whole in
+    let each = parts_each (IsArgument table types) (mark 44) (mark 41) (SaysArgument table types) (λ x. suc x.0)
+    (λ next x front few said. (said.1, ap (slice_get types) said.0 ∙ said.2, annotated_parts said.1 (Says table 128 said.1 x.1) front few (λ inner less p. typed table formed 128 said.1 x.1 inner less p) said.3)) s.arguments 0 s.inner (omega (arith, n, small)) s.said in
+    subst (HasTypes table types) s.are (each_wire table types s.arguments 0 types (λ k. let n : 0 + k ≡ k = omega arith in ap (slice_get types) n) s.all (are_placed table types s.arguments 0 s.inner s.said) each.0)
+
+-- so have those that a text says, which is no longer than memory
 pub said_types : (table : List Entry) (types : List TyRef) (values : List Content) (bytes : List ℕ) → IsTrue (is_table table) → length bytes < 2 ^ 64 → Said table types values bytes → HasTypes table types values
 said_types table types values bytes formed short s =
     let n = text_room false (mark 40 ∷ s.tokens) bytes s.lexed in
-    let each = parts_each (IsArgument table types) (mark 44) (mark 41) (SaysArgument table types) (λ x. suc x.0)
-    (λ next x front small said. (said.1, ap (slice_get types) said.0 ∙ said.2, annotated_parts said.1 (Says table 128 said.1 x.1) front small (λ inner less p. typed table formed 128 said.1 x.1 inner less p) said.3)) s.arguments 0 s.tokens (omega (arith, n, short)) s.said in
-    subst (HasTypes table types) s.are (each_wire table types s.arguments 0 types (λ k. let n : 0 + k ≡ k = omega arith in ap (slice_get types) n) s.all (are_placed table types s.arguments 0 s.tokens s.said) each.0)
+    arguments_typed table types values (mark 40 ∷ s.tokens) formed (omega (arith, n, short)) (said_spoken table types values bytes s)
 
 pub typed_with : {A E : Type 0} (view_of : A → List Content) (table : List Entry) (types : List TyRef) (bytes : List ℕ) (r : Result A E) → IsTrue (is_table table) → length bytes < 2 ^ 64 → IfOk r (λ x. Said table types (view_of x) bytes) → IfOk r (λ x. HasTypes table types (view_of x))
 typed_with view_of table types bytes (Ok x) formed short said = said_types table types (view_of x) bytes formed short said
 typed_with view_of table types bytes (Err e) formed short said = tt
+
+pub tokens_typed : {A E : Type 0} (view_of : A → List Content) (table : List Entry) (types : List TyRef) (tokens : List Token) (r : Result A E) → IsTrue (is_table table) → Small tokens → IfOk r (λ x. SaysArguments table types (view_of x) tokens) → IfOk r (λ x. HasTypes table types (view_of x))
+tokens_typed view_of table types tokens (Ok x) formed small said = arguments_typed table types (view_of x) tokens formed small said
+tokens_typed view_of table types tokens (Err e) formed small said = tt

@@ -7,3 +7,4 @@ pub mod Placed
 pub mod ReadsText
 pub mod ReadText
 pub mod HoldsBytes
+pub mod Room

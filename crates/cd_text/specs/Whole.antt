@@ -24,3 +24,13 @@ pub record Said (table : List Entry) (types : List TyRef) (values : List Content
   pub all : length arguments ≡ length types
   pub are : map (λ x. x.1) arguments ≡ values
   pub many : number_each values ≤ 1000000
+
+-- the tokens say the values, one at each type, with parentheses around them, as those of a text that is `Said` do
+pub record SaysArguments (table : List Entry) (types : List TyRef) (values : List Content) (tokens : List Token) : Type 0 where
+  pub inner : List Token
+  pub arguments : List (ℕ × Content)
+  pub whole : tokens ≡ opening ∷ inner
+  pub said : SaysParts comma closing (SaysArgument table types) (λ x. suc x.0) 0 arguments inner
+  pub all : length arguments ≡ length types
+  pub are : map (λ x. x.1) arguments ≡ values
+  pub many : number_each values ≤ 1000000

@@ -16,4 +16,4 @@ pub use fault::TextFault;
 pub use fields::find as find_field;
 pub use place::fault_place;
 pub use reading::{name_of as type_name, without_null};
-pub use whole::read;
+pub use whole::{read, read_tokens};

@@ -1,4 +1,4 @@
-ghost use Rattle.std.specs.Prelude.{◌≡◌, ◌==◌, ◌&&◌, List, IfOk, length};
+ghost use Rattle.std.specs.Prelude.{◌≡◌, ◌==◌, ◌&&◌, ◌<◌, ◌^◌, List, IfOk, length};
 ghost use Rattle.std.specs.Str.{is_utf8};
 ghost use Rattle.ic_base.specs.Gives.{Gives};
 ghost use Rattle.cd_codec.specs.AreValues.{HasTypes};
@@ -6,11 +6,12 @@ ghost use Rattle.cd_codec.specs.Answers.{contents};
 ghost use Rattle.cd_codec.specs.Content.{Content};
 ghost use Rattle.cd_codec.specs.View.{view, views};
 ghost use Rattle.cd_tokens.specs.Lexed.{Agrees};
-ghost use Rattle.cd_tokens.specs.View.{token_views};
+ghost use Rattle.cd_tokens.specs.View.{token_view, token_views};
 ghost use Rattle.cd_text.specs.ReadSaid.{after_field, argument_at, arguments_at, parts_at};
 ghost use Rattle.cd_text.specs.Placed.{placed};
 ghost use Rattle.cd_text.specs.ReadsText.{ReadsText};
-ghost use Rattle.cd_text.specs.Whole.{Said};
+ghost use Rattle.cd_text.specs.Room.{size, room};
+ghost use Rattle.cd_text.specs.Whole.{Said, SaysArguments};
 
 use crate::fault::TextFault;
 use crate::reading::{Level, annotated_of};
@@ -149,6 +150,65 @@ pub fn read(alloc: Global, expected: &Expected, text: &[u8]) -> Result<Values, T
     ensures typed { IfOk result (λ values. HasTypes expected.now.0 expected.now.1 (contents values)) }
 {
     match said_by(alloc, expected.table(), expected.types(), text) {
+        Ok(items) => Ok(Values { items }),
+        Err(ReadError::Refused) => Err(TextFault::NotText),
+        Err(ReadError::NoMemory) => Err(TextFault::NoMemory),
+    }
+}
+
+// What the type of a token says: its bytes are in memory.
+fn fits_memory(token: &Token<'_>)
+    ensures { size (token_view token.now) < 2 ^ 63 }
+{
+    match token {
+        Token::Run(piece) | Token::Quoted(piece) => {
+            let _bytes = piece.bytes.len();
+        }
+        Token::Mark(_) | Token::Arrow => {}
+    }
+}
+
+// So what tokens say can be spelled.
+fn fit_memory(tokens: &[Token<'_>])
+    ensures { room (token_views tokens.now) < 2 ^ 128 }
+{
+    let _tokens = tokens.len();
+    for token in tokens {
+        fits_memory(token);
+    }
+}
+
+// The values that tokens say, and what holds of them.
+fn said_by_tokens(
+    alloc: Global,
+    table: &TypeTable,
+    types: &[TyRef],
+    tokens: &[Token<'_>],
+) -> Result<Vec<Value>, ReadError>
+    ensures found { IfOk result (λ values. SaysArguments table.now types.now (views values.items) (token_views tokens.now)) }
+    ensures only { (values : List Content) → SaysArguments table.now types.now values (token_views tokens.now) → Agrees (λ vs. views vs.items) result values }
+    ensures typed { IfOk result (λ values. HasTypes table.now types.now (views values.items)) }
+{
+    let _entries = table.len();
+    fit_memory(tokens);
+    values_of(alloc, table, types, tokens)
+}
+
+/// The values that tokens say at the expected types, with parentheses around them, as `read` reads
+/// those of a text.
+pub fn read_tokens(
+    alloc: Global,
+    expected: &Expected,
+    tokens: &[Token<'_>],
+) -> Result<Values, TextFault>
+    // What is read is said by the tokens.
+    ensures found { IfOk result (λ values. SaysArguments expected.now.0 expected.now.1 (contents values) (token_views tokens.now)) }
+    // What the tokens say is read, unless memory runs out; so with a `NotText` they say no values.
+    ensures only { (values : List Content) → SaysArguments expected.now.0 expected.now.1 values (token_views tokens.now) → ReadsText result values }
+    // What is read has the expected types.
+    ensures typed { IfOk result (λ values. HasTypes expected.now.0 expected.now.1 (contents values)) }
+{
+    match said_by_tokens(alloc, expected.table(), expected.types(), tokens) {
         Ok(items) => Ok(Values { items }),
         Err(ReadError::Refused) => Err(TextFault::NotText),
         Err(ReadError::NoMemory) => Err(TextFault::NoMemory),
