@@ -82,8 +82,8 @@ fn placed<'a, T: Exact>(
     Ok((Shared::new(alloc, value.copy(alloc)?)?, near))
 }
 
-/// Places with equal values. Values that stand in places near, in their order, but that some are left out,
-/// stay in these places.
+/// Places with equal values. Values that are in `near`, in the same order (some may be left out), keep
+/// these places.
 pub fn shared_items<T: Exact>(
     alloc: Global,
     values: &[T],
