@@ -5,7 +5,6 @@ use Rattle.std.specs.List.{AllByRecursion}
 use Rattle.std.specs.Map.{lookup}
 use Rattle.std.specs.BTreeMap.{BTreeMap}
 use Rattle.ic_script.specs.declared.Ask.{Ask}
-use Rattle.ic_behaviour.specs.declared.charge.Charge.{Charge}
 use Rattle.ic_behaviour.specs.State.{at, State}
 use Rattle.ic_behaviour.specs.Counted.{CountedCanister, counted, dropped}
 use Rattle.ic_behaviour.specs.Texts.{no_canister}
@@ -54,33 +53,33 @@ lookup-seen key (e ∷ es) = by (lookup-seen key es) (at key e.0) where
   by later true = refl
   by later false = later
 
-module _ (charge : Charge) (p : Parts) (keeps : IsWorld p) (ask : Ask) where
+module _ (limit price : ℕ) (p : Parts) (keeps : IsWorld p) (ask : Ask) where
   pub asked_keeps : (c : StoredCanister) → lookup (at ask.callee) p.canisters.entries ≡ Some c → IsCanister c
   asked_keeps c is = found_keeps ask.callee p.canisters.entries c is keeps.canisters
 
-  pub answer-none : lookup (at ask.callee) p.canisters.entries ≡ None → no_canister ask.callee ≡ answer_now charge (state_of p) ask
+  pub answer-none : lookup (at ask.callee) p.canisters.entries ≡ None → no_canister ask.callee ≡ answer_now limit price (state_of p) ask
   unfolding answer_now
-  answer-none is = sym (ap (answer_by charge (state_of p) ask) (lookup-seen ask.callee p.canisters.entries ∙ ap (option_map (λ c. dropped (seen c))) is))
+  answer-none is = sym (ap (answer_by limit price (state_of p) ask) (lookup-seen ask.callee p.canisters.entries ∙ ap (option_map (λ c. dropped (seen c))) is))
 
   pub answer-some : (c : StoredCanister) → lookup (at ask.callee) p.canisters.entries ≡ Some c
-      → query_response (enters_by system_api) (env_at p.time charge.limit charge.price) (seen c) ask.sender ask.method ask.arg ≡ answer_now charge (state_of p) ask
+      → query_response (enters_by system_api) (env_at p.time limit price) (seen c) ask.sender ask.method ask.arg ≡ answer_now limit price (state_of p) ask
   unfolding answer_now
   answer-some c is =
-      let answer = λ (d : CountedCanister). query_response (enters_by system_api) (env_at p.time charge.limit charge.price) d ask.sender ask.method ask.arg in
+      let answer = λ (d : CountedCanister). query_response (enters_by system_api) (env_at p.time limit price) d ask.sender ask.method ask.arg in
       ap answer (sym (found_counts (state_of p) ask.callee p.canisters.entries c is keeps.counts))
-      ∙ sym (ap (answer_by charge (state_of p) ask) (lookup-seen ask.callee p.canisters.entries ∙ ap (option_map (λ c. dropped (seen c))) is))
+      ∙ sym (ap (answer_by limit price (state_of p) ask) (lookup-seen ask.callee p.canisters.entries ∙ ap (option_map (λ c. dropped (seen c))) is))
 
-  pub accepts-none : lookup (at ask.callee) p.canisters.entries ≡ None → true ≡ accepts_now charge (state_of p) ask
+  pub accepts-none : lookup (at ask.callee) p.canisters.entries ≡ None → true ≡ accepts_now limit price (state_of p) ask
   unfolding accepts_now
-  accepts-none is = sym (ap (accepts charge (state_of p) ask) (lookup-seen ask.callee p.canisters.entries ∙ ap (option_map (λ c. dropped (seen c))) is))
+  accepts-none is = sym (ap (accepts limit price (state_of p) ask) (lookup-seen ask.callee p.canisters.entries ∙ ap (option_map (λ c. dropped (seen c))) is))
 
   pub accepts-some : (c : StoredCanister) → lookup (at ask.callee) p.canisters.entries ≡ Some c
-      → is_accepted (enters_by system_api) (env_at p.time charge.limit charge.price) (seen c) ask.sender ask.method ask.arg ≡ accepts_now charge (state_of p) ask
+      → is_accepted (enters_by system_api) (env_at p.time limit price) (seen c) ask.sender ask.method ask.arg ≡ accepts_now limit price (state_of p) ask
   unfolding accepts_now
   accepts-some c is =
-      let told_of = λ (d : CountedCanister). is_accepted (enters_by system_api) (env_at p.time charge.limit charge.price) d ask.sender ask.method ask.arg in
+      let told_of = λ (d : CountedCanister). is_accepted (enters_by system_api) (env_at p.time limit price) d ask.sender ask.method ask.arg in
       ap told_of (sym (found_counts (state_of p) ask.callee p.canisters.entries c is keeps.counts))
-      ∙ sym (ap (accepts charge (state_of p) ask) (lookup-seen ask.callee p.canisters.entries ∙ ap (option_map (λ c. dropped (seen c))) is))
+      ∙ sym (ap (accepts limit price (state_of p) ask) (lookup-seen ask.callee p.canisters.entries ∙ ap (option_map (λ c. dropped (seen c))) is))
 
 -- canisters that are now in a map of another layout
 module _ (p : Parts) (m : BTreeMap (List ℕ) StoredCanister) (same : m.entries ≡ p.canisters.entries) where

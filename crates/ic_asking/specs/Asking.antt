@@ -1,8 +1,7 @@
 -- What users ask of a state as it is (IC Interface Specification, "Request: Query call" and "Ingress message inspection").
-use Rattle.std.specs.Prelude.{Bool, true, Option, Some, None}
+use Rattle.std.specs.Prelude.{ℕ, Bool, true, Option, Some, None}
 use Rattle.std.specs.Map.{lookup}
 use Rattle.ic_behaviour.specs.declared.call.Response.{Response}
-use Rattle.ic_behaviour.specs.declared.charge.Charge.{Charge}
 use Rattle.ic_behaviour.specs.State.{at, Canister, State}
 use Rattle.ic_behaviour.specs.Counted.{counted}
 use Rattle.ic_behaviour.specs.Texts.{no_canister}
@@ -13,20 +12,22 @@ use Rattle.ic_entry.specs.Query.{query_response}
 use Rattle.ic_entry.specs.Inspection.{is_accepted}
 use Rattle.ic_script.specs.declared.Ask.{Ask}
 
--- the answer of the canister that is asked; the management canister answers no queries
-abbrev pub answer_by : Charge → State → Ask → Option Canister → Response
-answer_by charge s ask None = no_canister ask.callee
-answer_by charge s ask (Some c) =
-    query_response (enters_by system_api) (env_at s.time charge.limit charge.price) (counted s ask.callee c) ask.sender ask.method ask.arg
+-- the most instructions of an execution, and the price of one, are given
 
-unfoldable pub answer_now : Charge → State → Ask → Response
-answer_now charge s ask = answer_by charge s ask (lookup (at ask.callee) s.canisters)
+-- the answer of the canister that is asked; the management canister answers no queries
+abbrev pub answer_by : (limit price : ℕ) → State → Ask → Option Canister → Response
+answer_by limit price s ask None = no_canister ask.callee
+answer_by limit price s ask (Some c) =
+    query_response (enters_by system_api) (env_at s.time limit price) (counted s ask.callee c) ask.sender ask.method ask.arg
+
+unfoldable pub answer_now : (limit price : ℕ) → State → Ask → Response
+answer_now limit price s ask = answer_by limit price s ask (lookup (at ask.callee) s.canisters)
 
 -- whether the callee accepts a call before it is submitted; what is no canister looks at no call
-abbrev pub accepts : Charge → State → Ask → Option Canister → Bool
-accepts charge s ask None = true
-accepts charge s ask (Some c) =
-    is_accepted (enters_by system_api) (env_at s.time charge.limit charge.price) (counted s ask.callee c) ask.sender ask.method ask.arg
+abbrev pub accepts : (limit price : ℕ) → State → Ask → Option Canister → Bool
+accepts limit price s ask None = true
+accepts limit price s ask (Some c) =
+    is_accepted (enters_by system_api) (env_at s.time limit price) (counted s ask.callee c) ask.sender ask.method ask.arg
 
-unfoldable pub accepts_now : Charge → State → Ask → Bool
-accepts_now charge s ask = accepts charge s ask (lookup (at ask.callee) s.canisters)
+unfoldable pub accepts_now : (limit price : ℕ) → State → Ask → Bool
+accepts_now limit price s ask = accepts limit price s ask (lookup (at ask.callee) s.canisters)

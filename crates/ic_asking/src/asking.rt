@@ -25,7 +25,7 @@ pub fn accepts_now(
     ask: &Ask,
 ) -> Result<bool, NoMemory>
     requires keeps { IsWorld parts.old }
-    ensures accepted { IfOk result (λ b. b ≡ accepts_now charge (state_of parts.old) ask.now) }
+    ensures accepted { IfOk result (λ b. b ≡ accepts_now charge.limit charge.price (state_of parts.old) ask.now) }
     ensures same { state_of parts.new ≡ state_of parts.old }
     ensures keeps { IsWorld parts.new }
 {
@@ -71,7 +71,7 @@ pub fn answer_now(
     ask: Ask,
 ) -> Result<Response, NoMemory>
     requires keeps { IsWorld parts.old }
-    ensures response { IfOk result (λ r. r ≡ answer_now charge (state_of parts.old) ask) }
+    ensures response { IfOk result (λ r. r ≡ answer_now charge.limit charge.price (state_of parts.old) ask) }
     ensures same { state_of parts.new ≡ state_of parts.old }
     ensures keeps { IsWorld parts.new }
 {

@@ -6,11 +6,11 @@ use Rattle.ic_asking.proofs.InPlace.{asked_keeps, accepts-none, accepts-some, st
 use Rattle.ic_asking.proofs.asking.accepts_now.Goals as goal
 
 pub accepts-requires : goal.accepts-requires
-accepts-requires c = asked_keeps c.args.charge c.args.parts.now c.requires.keeps c.args.ask.now c.in-Some.place.now (sym c.in-Some.ensures.value)
+accepts-requires c = asked_keeps c.args.charge.limit c.args.charge.price c.args.parts.now c.requires.keeps c.args.ask.now c.in-Some.place.now (sym c.in-Some.ensures.value)
 
 pub returns-in-Some-clause-accepted : goal.returns-in-Some-clause-accepted
 returns-in-Some-clause-accepted c =
-    told c.accepts.result _ _ (accepts-some c.args.charge c.args.parts.now c.requires.keeps c.args.ask.now c.in-Some.place.now (sym c.in-Some.ensures.value))
+    told c.accepts.result _ _ (accepts-some c.args.charge.limit c.args.charge.price c.args.parts.now c.requires.keeps c.args.ask.now c.in-Some.place.now (sym c.in-Some.ensures.value))
     c.accepts.ensures.accepted
 
 pub returns-in-Some-clause-same : goal.returns-in-Some-clause-same
@@ -29,4 +29,4 @@ returns-in-Some-clause-keeps c =
 
 pub returns-in-None-clause-accepted : goal.returns-in-None-clause-accepted
 returns-in-None-clause-accepted c =
-    accepts-none c.args.charge c.args.parts.now c.requires.keeps c.args.ask.now (sym c.in-None.ensures.value)
+    accepts-none c.args.charge.limit c.args.charge.price c.args.parts.now c.requires.keeps c.args.ask.now (sym c.in-None.ensures.value)

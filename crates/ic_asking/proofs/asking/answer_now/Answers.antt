@@ -6,13 +6,13 @@ use Rattle.ic_asking.proofs.InPlace.{asked_keeps, answer-none, answer-some, stat
 use Rattle.ic_asking.proofs.asking.answer_now.Goals as goal
 
 pub ask_in_place-requires : goal.ask_in_place-requires
-ask_in_place-requires c = asked_keeps c.args.charge c.args.parts.now c.requires.keeps c.args.ask c.in-Some.place.now (sym c.in-Some.ensures.value)
+ask_in_place-requires c = asked_keeps c.args.charge.limit c.args.charge.price c.args.parts.now c.requires.keeps c.args.ask c.in-Some.place.now (sym c.in-Some.ensures.value)
 
 pub returns-in-Some-clause-response : goal.returns-in-Some-clause-response
 returns-in-Some-clause-response c =
     let text = c.deref.ensures in
     let view = c.method.view_is in
-    told c.ask_in_place.result _ _ (answer-some c.args.charge c.args.parts.now c.requires.keeps c.args.ask c.in-Some.place.now (sym c.in-Some.ensures.value))
+    told c.ask_in_place.result _ _ (answer-some c.args.charge.limit c.args.charge.price c.args.parts.now c.requires.keeps c.args.ask c.in-Some.place.now (sym c.in-Some.ensures.value))
     (rw (let is : c.args.ask.method ≡ c.deref.result.now = cc in is) c.ask_in_place.ensures.response)
 
 pub returns-in-Some-clause-same : goal.returns-in-Some-clause-same
@@ -31,4 +31,4 @@ returns-in-Some-clause-keeps c =
 
 pub returns-clause-response : goal.returns-clause-response
 returns-clause-response c =
-    told c.no_canister.result _ _ (answer-none c.args.charge c.args.parts.now c.requires.keeps c.args.ask (sym c.in-None.ensures.value)) c.no_canister.ensures
+    told c.no_canister.result _ _ (answer-none c.args.charge.limit c.args.charge.price c.args.parts.now c.requires.keeps c.args.ask (sym c.in-None.ensures.value)) c.no_canister.ensures
