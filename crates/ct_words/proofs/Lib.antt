@@ -1,0 +1,2 @@
+mod Command
+mod Refused
