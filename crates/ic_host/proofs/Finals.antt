@@ -52,7 +52,8 @@ use Rattle.ic_mgmt_laws.specs.Rows.{controllers_or, unless_full, unless_above, n
 use Rattle.ic_calls.specs.Texts.{uninstalled, restarted}
 use Rattle.ic_options.specs.declared.Options.{Options}
 use Rattle.ic_script_runner.specs.Options.{rules_of}
-use Rattle.ic_script_runner.proofs.Keeps.{rules_keep, act_sound, after_sound}
+use Rattle.ic_asking.proofs.Keeps.{act_sound, after_sound}
+use Rattle.ic_script_runner.proofs.Keeps.{rules_keep}
 use Rattle.ic_host.specs.Headline.{AnswersAreFinal}
 use Rattle.ic_host.proofs.Told.{tells, owes, awaits, closing_tells, settles}
 use Rattle.ic_host.proofs.Traces.{empty_sound}

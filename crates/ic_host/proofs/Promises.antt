@@ -26,7 +26,7 @@ use Rattle.ic_run_laws.proofs.Trapped.{trap_keeps}
 use Rattle.ic_run_laws.specs.EntryKeeps.{EntriesKeep}
 use Rattle.ic_run_laws.specs.RulesKeep.{RulesKeep}
 use Rattle.ic_host.specs.Headline.{PlacedOnce, Conserves, DoneWhenDrained, AnsweredOnce, IsAnswer, work_on, TrapLeaves, TrapsLeave}
-use Rattle.ic_script_runner.proofs.Keeps.{act_sound}
+use Rattle.ic_asking.proofs.Keeps.{act_sound}
 use Rattle.ic_host.proofs.Told.{settles}
 use Rattle.ic_host.proofs.Traces.{empty_sound}
 

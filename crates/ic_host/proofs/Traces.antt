@@ -28,7 +28,8 @@ use Rattle.ic_script_runner.specs.AfterLine.{after_line}
 use Rattle.ic_script_runner.specs.Script.{script_for}
 use Rattle.ic_script_runner.specs.Walk.{Place, start, past_line, judge, judge_line}
 use Rattle.ic_host.specs.Trace.{acts_of_spelled, acts_of_line, acting, acts_from, trace_of, trace, rules}
-use Rattle.ic_script_runner.proofs.Keeps.{rules_keep, after_sound, rounds_eligible}
+use Rattle.ic_asking.proofs.Keeps.{after_sound, rounds_eligible}
+use Rattle.ic_script_runner.proofs.Keeps.{rules_keep}
 use Rattle.ic_host.proofs.Cuts.{spells}
 
 -- the acts of rounds, where they begin in a sound state

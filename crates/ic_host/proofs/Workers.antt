@@ -11,7 +11,7 @@ use Rattle.ic_behaviour.specs.State.{State}
 use Rattle.ic_behaviour.specs.Runs.{Act, after}
 use Rattle.ic_options.specs.declared.Options.{Options}
 use Rattle.ic_options.specs.Options.{options_of}
-use Rattle.ic_script_runner.specs.AfterCommand.{accepts_now, answer_now, acts_of, acts_of_rounds, text_of, unless, fault_of, after_command}
+use Rattle.ic_script_runner.specs.AfterCommand.{acts_of, acts_of_rounds, text_of, unless, fault_of, after_command}
 use Rattle.ic_script_runner.specs.AfterLine.{after_line, after_spelled}
 use Rattle.ic_script_runner.specs.Options.{default_options, rules_of}
 use Rattle.ic_script_runner.specs.Out.{out, out_of, output_of}
@@ -30,7 +30,7 @@ crewed at n = record at { options = crew at.options n }
 -- with other workers a command does and prints what it did
 same : (options : Options) (n : ℕ) (s : State) (c : Command)
     → (acts_of options s c ≡ acts_of (crew options n) s c) × (text_of options s c ≡ text_of (crew options n) s c)
-unfolding acts_of_rounds accepts_now answer_now
+unfolding acts_of_rounds
 same options n s Nothing = (refl, refl)
 same options n s c = (refl, refl)
 

@@ -10,6 +10,5 @@ mod Unprinted
 mod PieceBounds
 mod Streams
 pub mod Keeps
-mod Asking
 mod Gathering
 mod PickLaws

@@ -1,7 +1,6 @@
 -- What a command does.
-use Rattle.std.specs.Prelude.{ℕ, Bool, true, cond, nat_lt, if◌then◌else◌, List, [], ◌∷◌, length, map, Option, Some, None, Result, Ok, Err}
+use Rattle.std.specs.Prelude.{ℕ, Bool, cond, nat_lt, if◌then◌else◌, List, [], ◌∷◌, length, map, Option, Some, None, Result, Ok, Err}
 use Rattle.std.specs.List.{concat}
-use Rattle.std.specs.Map.{lookup}
 use Rattle.ic_script.specs.declared.Ask.{Ask}
 use Rattle.ic_script.specs.declared.Command.{Command}
 use Rattle.ic_script.specs.declared.Command.TheVariants.{Nothing, Call, Query, Run, Drain, Time, Decode, Show, Encode, Upgradable, Witness, Pick}
@@ -9,14 +8,10 @@ use Rattle.ic_script.specs.declared.Command.TheVariants as kind
 use Rattle.ic_script.specs.declared.LineCause.{LineCause}
 use Rattle.ic_script.specs.declared.LineCause.TheVariants.{Back, Calls}
 use Rattle.ic_behaviour.specs.declared.call.Response.{Response}
-use Rattle.ic_behaviour.specs.State.{at, Canister, State}
-use Rattle.ic_behaviour.specs.Counted.{counted}
-use Rattle.ic_behaviour.specs.Texts.{no_canister}
-use Rattle.ic_behaviour.specs.Deliver.{env_at}
+use Rattle.ic_behaviour.specs.State.{State}
 use Rattle.ic_behaviour.specs.Round.{rounds}
 use Rattle.ic_behaviour.specs.Runs.{Act, Delivers, Submits, SetsTime, after}
-use Rattle.ic_entry.specs.Query.{query_response}
-use Rattle.ic_entry.specs.Inspection.{is_accepted}
+use Rattle.ic_asking.specs.Asking as asking
 use Rattle.ic_schedule.specs.Picks.{is_eligible}
 use Rattle.ic_options.specs.declared.Options.{Options}
 use Rattle.ic_script_runner.specs.Options.{rules_of}
@@ -40,27 +35,15 @@ abbrev pub text_of_rounds : Options → ℕ → State → List ℕ
 text_of_rounds options count s =
     ran_text (length (rounds (rules_of options) count s)) (length (after_rounds options count s).messages)
 
--- ---- queries
+-- ---- what users ask
 
--- the answer of the canister that is asked; the management canister answers no queries
-abbrev pub answer_by : Options → State → Ask → Option Canister → Response
-answer_by options s ask None = no_canister ask.callee
-answer_by options s ask (Some c) =
-    query_response (rules_of options).enters (env_at s.time options.limit options.price) (counted s ask.callee c) ask.sender ask.method ask.arg
+-- the answer to a query; the state stays as it is
+abbrev pub answer_now : Options → State → Ask → Response
+answer_now options s ask = asking.answer_now options.limit options.price s ask
 
-unfoldable pub answer_now : Options → State → Ask → Response
-answer_now options s ask = answer_by options s ask (lookup (at ask.callee) s.canisters)
-
--- ---- inspection
-
--- whether the callee accepts a call before it is submitted; what is no canister looks at no call
-abbrev pub accepts : Options → State → Ask → Option Canister → Bool
-accepts options s ask None = true
-accepts options s ask (Some c) =
-    is_accepted (rules_of options).enters (env_at s.time options.limit options.price) (counted s ask.callee c) ask.sender ask.method ask.arg
-
-unfoldable pub accepts_now : Options → State → Ask → Bool
-accepts_now options s ask = accepts options s ask (lookup (at ask.callee) s.canisters)
+-- whether the callee accepts a call before it is submitted
+abbrev pub accepts_now : Options → State → Ask → Bool
+accepts_now options s ask = asking.accepts_now options.limit options.price s ask
 
 -- ---- commands
 

@@ -1,16 +1,9 @@
 ghost use Rattle.std.specs.Prelude.{◌≡◌, ◌<◌, ◌≤◌, ℕ, List, [], length, Ok, IfOk};
 ghost use Rattle.ic_behaviour.specs.Submitted.{submitted, timed};
 ghost use Rattle.ic_behaviour.specs.Round.{rounds};
-ghost use Rattle.ic_behaviour.specs.Entry.{enters_by};
-ghost use Rattle.ic_api.specs.System.{system_api};
-ghost use Rattle.ic_entry.specs.Inspection.{is_accepted};
-ghost use Rattle.ic_entry.specs.Query.{query_response};
-ghost use Rattle.ic_state.specs.IsCanister.{IsCanister};
-ghost use Rattle.ic_state.specs.IsWorld.{IsWorld};
-ghost use Rattle.ic_state.specs.Seen.{seen, state_of};
 ghost use Rattle.ic_script_runner.specs.Acts.{Acts};
 ghost use Rattle.ic_script_runner.specs.AfterLine.{after_line};
-ghost use Rattle.ic_script_runner.specs.AfterCommand.{after_command, after_rounds, text_of_rounds, answer_now, accepts_now, fault_of, unless};
+ghost use Rattle.ic_script_runner.specs.AfterCommand.{after_command, after_rounds, text_of_rounds, answer_now, fault_of, unless};
 ghost use Rattle.ic_candid_lines.specs.Decoding.{decode_text, show_text};
 ghost use Rattle.ic_candid_lines.specs.Encoding.{encode_text};
 ghost use Rattle.ic_candid_lines.specs.Upgrading.{upgrade_text};
@@ -19,19 +12,18 @@ ghost use Rattle.ic_options.specs.Options.{HasBounds};
 ghost use Rattle.ic_output.specs.Texts.{accepted_text, query_text, call_refused_text, state_line, witness_text};
 
 use crate::picking::picked;
+use ic_asking::{accepts_now, answer_now};
 use ic_base::NoMemory;
-use ic_calls::no_canister;
 use ic_candid_lines::{decode_text, encode_text, show_text, upgrade_text};
-use ic_exec::{inspect, inspects, query};
 use ic_options::Options;
 use ic_output::{
     accepted_text, call_refused_text, pick_text, query_text, ran_text, state_line, witness_line,
 };
 use ic_outside::Gate;
-use ic_principal::{Bytes, Principal};
+use ic_principal::Bytes;
 use ic_queue_rounds::run_rounds;
 use ic_script::{Ask, Command, LineCause, LineError, Paths, parse_line};
-use ic_state::{CanisterPlace, Env, Parts, Response, World};
+use ic_state::{Charge, World};
 use std::alloc::{AllocError, Global};
 use std::thread::Threads;
 
@@ -143,7 +135,7 @@ fn submit(
         return Err(NotDone::Bad(LineCause::Calls));
     }
     let mut parts = world.open();
-    let is_accepted = accepts_now(alloc, options, &mut parts, &ask);
+    let is_accepted = accepts_now(alloc, charge(options), &mut parts, &ask);
     let world = World::seal(parts);
     if is_accepted? {
         accept(alloc, world, ask)
@@ -152,51 +144,16 @@ fn submit(
     }
 }
 
-// Whether the callee accepts the call. All stays as it is, without memory too.
-#[tactic(auto, unfolding(crate::specs::AfterCommand::accepts_now))]
-fn accepts_now(
-    alloc: Global,
-    options: &Options,
-    parts: &mut Parts,
-    ask: &Ask,
-) -> Result<bool, NoMemory>
-    requires within { HasBounds options.now }
-    requires keeps { IsWorld parts.old }
-    ensures accepted { IfOk result (λ b. b ≡ accepts_now options.now (state_of parts.old) ask.now) }
-    ensures same { state_of parts.new ≡ state_of parts.old }
-    ensures keeps { IsWorld parts.new }
+// What the options say of executions.
+fn charge(options: &Options) -> Charge
+    requires { HasBounds options.now }
+    ensures limit { result.limit ≡ options.now.limit }
+    ensures price { result.price ≡ options.now.price }
 {
-    let env = Env {
-        time: parts.time,
+    Charge {
         limit: options.limit,
         price: options.price,
-    };
-    match parts.canisters.get_mut(&ask.callee) {
-        Some(place) => accepts(alloc, place, ask, env),
-        None => Ok(true),
     }
-}
-
-// The argument is copied for a canister that looks at calls, and for no other.
-fn accepts(alloc: Global, place: &mut CanisterPlace, ask: &Ask, env: Env) -> Result<bool, NoMemory>
-    requires { IsCanister place.old }
-    ensures accepted { IfOk result (λ b. b ≡ is_accepted (enters_by system_api) env (seen place.old) ask.now.sender ask.now.method ask.now.arg) }
-    ensures same { place.new ≡ place.old }
-{
-    if !inspects(place.get()) {
-        return Ok(true);
-    }
-    let arg = Bytes {
-        items: Vec::from_slice(alloc, ask.arg.items.as_slice())?,
-    };
-    inspect(
-        alloc,
-        place.get_mut(),
-        ask.sender,
-        &ask.method.items,
-        arg,
-        env,
-    )
 }
 
 fn accept(alloc: Global, world: World, ask: Ask) -> Result<(World, Bytes), NotDone>
@@ -227,58 +184,11 @@ fn answer(
     ensures { Acts (Ok (world, query_text (answer_now options.now world ask))) result }
 {
     let mut parts = world.open();
-    let answered = answer_now(alloc, options, &mut parts, ask);
+    let answered = answer_now(alloc, charge(options), &mut parts, ask);
     let world = World::seal(parts);
     let response = answered?;
     let text = query_text(alloc, &response)?;
     Ok((world, text))
-}
-
-// What the canister that is asked answers. All stays as it is, without memory too.
-#[tactic(auto, unfolding(crate::specs::AfterCommand::answer_now))]
-fn answer_now(
-    alloc: Global,
-    options: &Options,
-    parts: &mut Parts,
-    ask: Ask,
-) -> Result<Response, NoMemory>
-    requires within { HasBounds options.now }
-    requires keeps { IsWorld parts.old }
-    ensures response { IfOk result (λ r. r ≡ answer_now options.now (state_of parts.old) ask) }
-    ensures same { state_of parts.new ≡ state_of parts.old }
-    ensures keeps { IsWorld parts.new }
-{
-    let env = Env {
-        time: parts.time,
-        limit: options.limit,
-        price: options.price,
-    };
-    let Ask {
-        sender,
-        callee,
-        method,
-        arg,
-    } = ask;
-    match parts.canisters.get_mut(&callee) {
-        Some(place) => ask_in_place(alloc, place, sender, &method.items, arg, env),
-        None => no_canister(alloc, &callee),
-    }
-}
-
-// Asks the canister in its place, which stays as it is.
-fn ask_in_place(
-    alloc: Global,
-    place: &mut CanisterPlace,
-    sender: Principal,
-    method: &str,
-    arg: Bytes,
-    env: Env,
-) -> Result<Response, NoMemory>
-    requires { IsCanister place.old }
-    ensures response { IfOk result (λ r. r ≡ query_response (enters_by system_api) env (seen place.old) sender method.now arg) }
-    ensures same { place.new ≡ place.old }
-{
-    query(alloc, place.get_mut(), sender, method, arg, env)
 }
 
 fn make_rounds<R: Threads + Sync, G: Gate + Sync>(
