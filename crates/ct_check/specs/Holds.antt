@@ -23,6 +23,7 @@ use Rattle.ct_file.specs.declared.tree.Step.{Step}
 use Rattle.ct_file.specs.declared.tree.Step.TheVariants as steps
 use Rattle.ct_file.specs.declared.tree.Test.{Test}
 use Rattle.ct_file.specs.declared.tree.User.{User}
+use Rattle.ct_names.specs.Printed.{is_test_name}
 use Rattle.ct_scope.specs.Names.{Named, found, put}
 use Rattle.ct_scope.specs.Scope.{within}
 use Rattle.ct_scope.specs.declared.bound.Bound.{Bound}
@@ -53,7 +54,7 @@ use Rattle.ct_check.specs.declared.statement.Where.TheVariants.{Alone, Interleav
 use Rattle.ct_check.specs.Filling.{Filling}
 use Rattle.ct_check.specs.Moving.{Moving}
 use Rattle.ct_check.specs.State.{State, binding, interfaced, settling, timed}
-use Rattle.ct_check.specs.Rows.{used, by, canister, may_bind, principal_said, user_principal, may_be_time, wasm, interface, method, init_types, is_test_name}
+use Rattle.ct_check.specs.Rows.{used, by, canister, may_bind, principal_said, user_principal, may_be_time, wasm, interface, method, init_types}
 use Rattle.ct_check.specs.Naming.{names}
 use Rattle.ct_check.specs.Values.{TypesOf, are_values}
 

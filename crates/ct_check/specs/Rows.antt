@@ -1,6 +1,5 @@
 -- What must hold of a token of a test file: a row each, named by what is told where it does not hold.
-use Rattle.std.specs.Prelude.{ℕ, Bool, ◌&&◌, not, ◌==◌, nat_le, if◌then◌else◌, List, [], ◌∷◌, ◌++◌, take, length, Option, Some, None, is_none, option_map}
-use Rattle.std.specs.List.{list_all}
+use Rattle.std.specs.Prelude.{ℕ, Bool, ◌&&◌, not, ◌==◌, nat_le, if◌then◌else◌, List, [], ◌∷◌, ◌++◌, take, Option, Some, None, is_none, option_map}
 use Rattle.ic_base.specs.Reader.{◌>>=◌}
 use Rattle.sha2.specs.Sha256.{sha256}
 use Rattle.ic_principal.specs.Text.{principal_of}
@@ -8,15 +7,16 @@ use Rattle.cd_types.specs.declared.entry.TyRef.{TyRef}
 use Rattle.cd_tokens.specs.ReadLabel.{text_of, name_of}
 use Rattle.cd_tokens.specs.Token.{run}
 use Rattle.cd_did.specs.declared.fault.Interface.{Interface}
-use Rattle.cd_did.specs.Methods.{Function}
+use Rattle.cd_did.specs.Methods.{Function, method_in}
 use Rattle.ct_file.specs.declared.tree.Method.{Method}
 use Rattle.ct_file.specs.declared.tree.Method.TheVariants as methods
+use Rattle.ct_names.specs.Printed.{is_script_word}
 use Rattle.ct_names.specs.Words.{is_candid_word}
 use Rattle.ct_scope.specs.Scope.{bound_at, seen_at}
 use Rattle.ct_scope.specs.declared.bound.InterfaceId.{InterfaceId}
 use Rattle.ct_scope.specs.declared.bound.Kind.{Kind}
 use Rattle.ct_scope.specs.declared.bound.Kind.TheVariants.{User, Canister, Value}
-use Rattle.ct_sources.specs.Files.{wasm_place, interface_id, interface_of, method_in}
+use Rattle.ct_sources.specs.Files.{wasm_place, interface_id, interface_of}
 use Rattle.ct_check.specs.State.{State}
 
 -- `anonymous`, and `ic`: the first names
@@ -81,14 +81,6 @@ abbrev pub method_name : Method → Option (List ℕ)
 method_name (methods.Word name) = name_of (run name)
 method_name (methods.Text written) = text_of written
 
--- a printable character of ASCII that is no blank
-abbrev pub is_script_byte : ℕ → Bool
-is_script_byte byte = nat_le 33 byte && nat_le byte 126
-
--- bad name of a method
-abbrev pub is_script_word : List ℕ → Bool
-is_script_word name = not (length name == 0) && (nat_le (length name) 20000 && list_all is_script_byte name)
-
 -- no such method
 abbrev pub function_named : State → InterfaceId → List ℕ → Option Function
 function_named state interface name = interface_of state.sources interface >>= λ found. method_in found name
@@ -106,11 +98,3 @@ init_types state interface = types (interface_of state.sources interface)
     types : Option Interface → List TyRef
     types None = []
     types (Some found) = found.init
-
--- no control character, `#` (35) or `\` (92)
-abbrev pub is_plain : ℕ → Bool
-is_plain byte = nat_le 32 byte && (not (byte == 127) && (not (byte == 35) && not (byte == 92)))
-
--- bad name of a test
-abbrev pub is_test_name : List ℕ → Bool
-is_test_name name = not (length name == 0) && list_all is_plain name

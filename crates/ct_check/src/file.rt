@@ -1,8 +1,6 @@
 ghost use Rattle.std.specs.Prelude.{◌≡◌, [], IfOk, OnOk};
-ghost use Rattle.std.specs.List.{list_all};
 ghost use Rattle.ct_check.specs.declared.statement.Where.TheVariants as places;
 ghost use Rattle.ct_check.specs.Answer.{Gives};
-ghost use Rattle.ct_check.specs.Rows as rows;
 ghost use Rattle.ct_check.specs.Holds as holds;
 
 use crate::cause::{CheckCause, CheckError, fault};
@@ -13,6 +11,7 @@ use crate::checked::{
 use crate::checker::{ANONYMOUS_SLOT, Checker, MANAGEMENT_SLOT};
 use crate::statement::Where;
 use ct_file::{File, Interleave, Move, Quoted, Statement, Statements, Step, Test, Tests};
+use ct_names::is_test_name;
 use ct_scope::{Bound, ByName, InterfaceId, Kind, Scope};
 use ct_sources::Sources;
 use ic_base::NoMemory;
@@ -103,26 +102,6 @@ impl<'o, 'i> Checker<'o, 'i> {
         self.scope.settle();
         Ok(())
     }
-}
-
-// Whether TAP gives the byte of a name no meaning.
-fn is_plain(byte: u8) -> bool
-    ensures { result ≡ rows.is_plain byte }
-{
-    byte >= 0x20 && byte != 0x7F && byte != b'#' && byte != b'\\'
-}
-
-fn are_plain(name: &[u8]) -> bool
-    ensures { result ≡ list_all rows.is_plain name.now }
-{
-    name.iter().all(|byte| is_plain(*byte))
-}
-
-// Whether TAP prints a test's name as it is.
-fn is_test_name(name: &[u8]) -> bool
-    ensures { result ≡ rows.is_test_name name.now }
-{
-    !name.is_empty() && are_plain(name)
 }
 
 /// What the tests of a file are checked with: the files, the names of the preamble and their slots, the

@@ -5,7 +5,7 @@ use Rattle.wm_tree.specs.declared.parts.Module.{Module}
 use Rattle.wm_decode.specs.Answer.{IsPlain}
 use Rattle.wm_decode.specs.Mod.{Mod}
 use Rattle.wm_valid.specs.Checked.{checked}
-use Rattle.ct_sources.specs.Said.{IsWasm}
+use Rattle.ct_sources.specs.IsSourceOf.{IsWasm}
 
 pub decoded : (bytes : List ℕ) (m : Module) (said : Bool) → length bytes ≤ 2000000 → IsPlain bytes → Mod false m bytes → ((other : Module) → IsPlain bytes → Mod false other bytes → m ≡ other)
     → ((said ≡ true) ↔ (checked m ≡ None)) → ((said ≡ true) ↔ IsWasm bytes)

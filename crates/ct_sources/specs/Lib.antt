@@ -1,3 +1,3 @@
 pub mod Files
-pub mod Said
+pub mod IsSourceOf
 pub mod Named

@@ -1,7 +1,7 @@
 ghost use Rattle.std.specs.Prelude.{◌≡◌, ◌<◌, ◌^◌, length, IfOk, Ok};
 ghost use Rattle.std.specs.Result.{result_ok};
 ghost use Rattle.cd_did.specs.InterfaceOf.{interface_in};
-ghost use Rattle.ct_sources.specs.Said.{served};
+ghost use Rattle.ct_sources.specs.IsSourceOf.{served};
 
 use crate::fault::reason;
 use cd_did::{DidFault, Interface, read_interface};

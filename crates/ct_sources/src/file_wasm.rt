@@ -1,7 +1,7 @@
 ghost use Rattle.std.specs.Prelude.{◌≡◌, ◌↔◌, IfOk, None, is_ok, true};
 ghost use Rattle.wm_tree.specs.IsModule.{IsModule};
 ghost use Rattle.wm_valid.specs.Checked.{checked};
-ghost use Rattle.ct_sources.specs.Said.{IsWasm};
+ghost use Rattle.ct_sources.specs.IsSourceOf.{IsWasm};
 
 use crate::fault::reason;
 use crate::quoting::word_or_quoted;

@@ -1,6 +1,9 @@
-use crate::file_interface::interface_of;
-use cd_did::Interface;
+ghost use Rattle.std.specs.Prelude.{IfOk};
+ghost use Rattle.ct_sources.specs.IsSourceOf.{IsSourceOf};
+
+use crate::source::Source;
 use ic_base::NoMemory;
+use ic_principal::Bytes;
 use std::alloc::Global;
 
 /// The interface of the management canister (IC Interface Specification, "The IC management canister"):
@@ -12,10 +15,10 @@ fn text() -> &'static str {
     MANAGEMENT
 }
 
-/// The interface of the management canister.
-pub(crate) fn management(alloc: Global) -> Result<Option<Interface>, NoMemory> {
-    match interface_of(alloc, text().as_bytes())? {
-        Ok(interface) => Ok(Some(interface)),
-        Err(_) => Ok(None),
-    }
+/// The interface file of the management canister.
+pub(crate) fn management(alloc: Global) -> Result<Source, NoMemory>
+    ensures { IfOk result (λ source. IsSourceOf source.bytes source) }
+{
+    let items = Vec::from_slice(alloc, text().as_bytes())?;
+    Source::of(alloc, Bytes { items })
 }

@@ -1,24 +1,25 @@
 ghost use Rattle.std.specs.Prelude.{◌≡◌, ◌++◌, ◌∷◌, [], IfOk, OnOk, option_map};
 ghost use Rattle.std.specs.Result.{result_ok};
-ghost use Rattle.ct_sources.specs.Files.{file_at, file_named, wasm_place, interface_id, interface_of, with_file};
+ghost use Rattle.ct_sources.specs.Files.{file_at, bytes_at, file_named, wasm_place, interface_id, interface_file, interface_of, interface_text, with_file};
+ghost use Rattle.ct_sources.specs.IsSourceOf.{IsSourceOf};
 
 use crate::management::management;
 use crate::source::Source;
 use cd_did::Interface;
 use ct_scope::{ByName, InterfaceId};
 use ic_base::NoMemory;
-use ic_principal::Text;
+use ic_principal::{Bytes, Text};
 use std::alloc::Global;
 use std::marker::Model;
 
-/// The files that a test file names, in the order in which they were put in, and the interface of the
-/// management canister. Contracts see these.
+/// The files that a test file names, in the order in which they were put in, and the interface file of
+/// the management canister. Contracts see these.
 #[derive(Drop)]
 pub struct Sources {
     // A file that could not be read has no source.
     files: Vec<Option<Source>>,
     places: ByName<usize>,
-    management: Option<Interface>,
+    management: Source,
 }
 
 impl Model for Sources {
@@ -34,6 +35,7 @@ impl Sources {
     pub fn new(alloc: Global) -> Result<Sources, NoMemory>
         ensures files { IfOk result (λ sources. sources.files ≡ []) }
         ensures places { IfOk result (λ sources. sources.places ≡ []) }
+        ensures management { IfOk result (λ sources. IsSourceOf sources.management.bytes sources.management) }
     {
         Ok(Sources {
             files: Vec::new(alloc),
@@ -69,22 +71,46 @@ impl Sources {
         }
     }
 
+    /// The bytes of the file at a place, if it could be read.
+    pub fn bytes(&self, place: usize) -> Option<&Bytes>
+        ensures found { option_map (λ bytes. bytes.now) result ≡ bytes_at self.now place }
+    {
+        match self.file(place) {
+            None => None,
+            Some(source) => Some(&source.bytes),
+        }
+    }
+
+    // The file that an interface comes from.
+    fn interface_file(&self, id: InterfaceId) -> Option<&Source>
+        ensures { option_map (λ source. source.now) result ≡ interface_file self.now id }
+    {
+        match id {
+            InterfaceId::Management => Some(&self.management),
+            InterfaceId::File(place) => self.file(place),
+        }
+    }
+
     /// The interface of a canister.
     pub fn interface(&self, id: InterfaceId) -> Option<&Interface>
         ensures { option_map (λ interface. interface.now) result ≡ interface_of self.now id }
     {
-        match id {
-            InterfaceId::Management => match &self.management {
-                None => None,
-                Some(interface) => Some(interface),
+        match self.interface_file(id) {
+            None => None,
+            Some(source) => match &source.interface {
+                Ok(interface) => Some(interface),
+                Err(_) => None,
             },
-            InterfaceId::File(place) => match self.file(place) {
-                None => None,
-                Some(source) => match &source.interface {
-                    Ok(interface) => Some(interface),
-                    Err(_) => None,
-                },
-            },
+        }
+    }
+
+    /// The text that an interface comes from, without bytes where there is none.
+    pub fn interface_text(&self, id: InterfaceId) -> &[u8]
+        ensures found { result.now ≡ interface_text self.now id }
+    {
+        match self.interface_file(id) {
+            None => &[],
+            Some(source) => &source.bytes.items,
         }
     }
 

@@ -8,7 +8,7 @@ use Rattle.cd_did.specs.declared.fault.DidFault.{DidFault}
 use Rattle.cd_did.specs.declared.fault.Interface.{Interface}
 use Rattle.cd_did.specs.Interfaces.{has_service}
 use Rattle.cd_did.specs.InterfaceOf.{interface_in}
-use Rattle.ct_sources.specs.Files.{Reading}
+use Rattle.ct_sources.specs.Files.{SourceFile}
 
 -- the bytes are a module that passes every check, and are not too many
 pub record IsWasm (bytes : List ℕ) : Type 0 where
@@ -23,7 +23,8 @@ abbrev pub served : Result Interface DidFault → Option Interface
 served (Ok interface) = if has_service interface then Some interface else None
 served (Err fault) = None
 
--- what the bytes are
-pub record IsSaid (bytes : List ℕ) (reading : Reading) : Type 0 where
-  pub wasm : (reading.wasm ≡ true) ↔ IsWasm bytes
-  pub interface : reading.interface ≡ served (interface_in bytes)
+-- the file has these bytes, and is what they are
+pub record IsSourceOf (bytes : List ℕ) (file : SourceFile) : Type 0 where
+  pub same : file.bytes ≡ bytes
+  pub wasm : (file.wasm ≡ true) ↔ IsWasm bytes
+  pub interface : file.interface ≡ served (interface_in bytes)
