@@ -1,0 +1,119 @@
+use ic_base::NoMemory;
+use ic_principal::{Bytes, Principal, Text};
+use std::alloc::Global;
+
+/// How many characters of a statement a comment has.
+const SHOWN: usize = 200;
+
+/// The lines of a script for `replica`, or none where no script is wanted.
+#[derive(Drop)]
+pub struct Script {
+    alloc: Global,
+    lines: Option<Vec<u8>>,
+}
+
+// The front of a text with at most so many characters.
+fn front_of(text: &[u8], most: usize) -> &[u8] {
+    let mut left = most;
+    for (place, byte) in text.iter().enumerate() {
+        if *byte & 0xC0 != 0x80 {
+            if left == 0 {
+                return text.get(..place).unwrap_or(text);
+            }
+            left -= 1;
+        }
+    }
+    text
+}
+
+impl Script {
+    /// No script is wanted: lines are dropped.
+    pub fn unwanted(alloc: Global) -> Script {
+        Script { alloc, lines: None }
+    }
+
+    /// A script of which only the first line is there, which says what `replica` is to be run with.
+    pub fn begin(alloc: Global, limit: u64, price: u64) -> Result<Script, NoMemory> {
+        let first = format!(in alloc; "# replica --limit {limit} --price {price}\n")?;
+        Ok(Script {
+            alloc,
+            lines: Some(first.into_bytes()),
+        })
+    }
+
+    /// Whether a script is wanted.
+    pub fn is_wanted(&self) -> bool {
+        self.lines.is_some()
+    }
+
+    /// The lines.
+    pub fn into_lines(self) -> Option<Vec<u8>> {
+        self.lines
+    }
+
+    fn push(&mut self, text: &[u8]) -> Result<(), NoMemory> {
+        match &mut self.lines {
+            None => Ok(()),
+            Some(lines) => lines.extend_from_slice(text),
+        }
+    }
+
+    /// A comment: a statement, and the line of the test file in which it begins.
+    pub fn comment(&mut self, line: usize, statement: &Bytes) -> Result<(), NoMemory> {
+        let before = format!(in self.alloc; "# {line}: ")?;
+        self.push(before.as_bytes())?;
+        self.push(front_of(&statement.items, SHOWN))?;
+        self.push(b"\n")
+    }
+
+    // A line of a word, a sender, a callee, a method and an argument.
+    fn message(
+        &mut self,
+        word: &str,
+        sender: &Principal,
+        callee: &Principal,
+        method: &Text,
+        arg: &Bytes,
+    ) -> Result<(), NoMemory> {
+        if !self.is_wanted() {
+            return Ok(());
+        }
+        let method = method.items.as_str();
+        let digits = hex::encode(self.alloc, &arg.items)?;
+        let line = format!(in self.alloc; "{word} {sender} {callee} {method} {digits}\n")?;
+        self.push(line.as_bytes())
+    }
+
+    /// A call.
+    pub fn call(
+        &mut self,
+        sender: &Principal,
+        callee: &Principal,
+        method: &Text,
+        arg: &Bytes,
+    ) -> Result<(), NoMemory> {
+        self.message("call", sender, callee, method, arg)
+    }
+
+    /// A query.
+    pub fn query(
+        &mut self,
+        sender: &Principal,
+        callee: &Principal,
+        method: &Text,
+        arg: &Bytes,
+    ) -> Result<(), NoMemory> {
+        self.message("query", sender, callee, method, arg)
+    }
+
+    /// Rounds until no message is left.
+    pub fn drain(&mut self) -> Result<(), NoMemory> {
+        self.push(b"drain\n")
+    }
+
+    /// The time is set.
+    pub fn time(&mut self, time: u128) -> Result<(), NoMemory> {
+        let line = format!(in self.alloc; "time {time}\n")?;
+        self.push(line.as_bytes())
+    }
+}
