@@ -4,3 +4,4 @@ pub mod Unique
 pub mod Makes
 pub mod Entering
 pub mod Turns
+pub mod Keys

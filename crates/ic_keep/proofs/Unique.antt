@@ -2,12 +2,13 @@
 use Rattle.std.proofs.Common.{◌≡◌, ℕ, zero, suc, ◌<◌, List, [], ◌∷◌, map, length, slice_get, Option, Some, None, IfSome, option_map, refl, sym, ap, subst, ◌∙◌, not-suc-le-zero, arith}
 use Rattle.std.specs.List.{AllByRecursion}
 use Rattle.ic_behaviour.specs.State.{Canister, State}
-use Rattle.ic_behaviour.specs.Counted.{CountedCanister, counted}
+use Rattle.ic_behaviour.specs.Counted.{CountedCanister, counted, dropped}
 use Rattle.ic_state.specs.declared.canister.Code.{Code as StoredCode}
 use Rattle.ic_state.specs.Seen.{code_of}
 use Rattle.ic_exact.proofs.Once.{one_list}
+use Rattle.ic_order.specs.Order.{without_messages, SameState}
 use Rattle.ic_keep.specs.declared.parts.KeptCanister.{KeptCanister}
-use Rattle.ic_keep.specs.Kept.{Tables, KeptState, code_at, canister_at, entry_at, state_at}
+use Rattle.ic_keep.specs.Kept.{Tables, KeptState, kept_without_messages, code_at, canister_at, entry_at, state_at}
 use Rattle.ic_keep.specs.IsKept.{AreCodes, AreTables, IsStored, HasCountsAt, IsKept}
 
 -- ---- codes
@@ -70,6 +71,26 @@ module _ (t : Tables) (once : AreTables t) where
       let head : entry_at t c ≡ entry_at t d = cc in
       let tail : map (entry_at t) cs ≡ map (entry_at t) ds = cc in
       λ i. one_canister s c d is.0 are.0 m.0 n.0 head i ∷ one_each s cs ds is.1 are.1 m.1 n.1 tail i
+
+  recounted : (s r : State) → ((key : List ℕ) (c : Canister) → counted s key c ≡ counted r key c) → (cs : List KeptCanister) → AllByRecursion (HasCountsAt t r) cs → AllByRecursion (HasCountsAt t s) cs
+  recounted s r alike [] all = tt
+  recounted s r alike (c ∷ cs) all = (alike c.id (dropped (canister_at t c)) ∙ all.0, recounted s r alike cs all.1)
+
+  -- states that differ only in the order of messages have the same counts
+  pub one_rest : ((s r : State) → SameState s r → (key : List ℕ) (c : Canister) → counted s key c ≡ counted r key c) → (k l : KeptState) → IsKept t k → IsKept t l
+      → SameState (state_at t k) (state_at t l) → kept_without_messages k ≡ kept_without_messages l
+  one_rest alike k l is are same =
+      let counts : AllByRecursion (HasCountsAt t (state_at t k)) l.canisters = recounted (state_at t k) (state_at t l) (alike (state_at t k) (state_at t l) same) l.canisters are.counts in
+      let each : k.canisters ≡ l.canisters = one_each (state_at t k) k.canisters l.canisters is.stored are.stored is.counts counts (ap (λ (s : State). s.canisters) same.rest) in
+      λ i. record {
+        canisters = each i;
+        messages = [];
+        requests = (same.rest i).requests;
+        time = (same.rest i).time;
+        created = (same.rest i).created;
+        burned = (same.rest i).burned;
+        next_canister = (same.rest i).next_canister;
+      }
 
   pub one_state : (k l : KeptState) → IsKept t k → IsKept t l → state_at t k ≡ state_at t l → k ≡ l
   one_state k l is are same =

@@ -1,5 +1,5 @@
 -- What is kept of a state, and the state that it stands for. No standard has this.
-use Rattle.std.specs.Prelude.{ℕ, List, map, Option, Some, None, option_map, slice_get}
+use Rattle.std.specs.Prelude.{ℕ, List, [], map, Option, Some, None, option_map, slice_get}
 use Rattle.wm_store.specs.Lists.{Lists}
 use Rattle.wm_store.specs.Fits.{maximum_of}
 use Rattle.ic_behaviour.specs.declared.call.Message.{Message}
@@ -27,6 +27,9 @@ pub record KeptState : Type 0 where
   pub created : ℕ
   pub burned : ℕ
   pub next_canister : ℕ
+
+abbrev pub kept_without_messages : KeptState → KeptState
+kept_without_messages k = record k { messages = [] }
 
 -- the code of a number
 abbrev pub code_at : List StoredCode → Option ℕ → Option Code

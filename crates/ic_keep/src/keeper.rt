@@ -5,17 +5,20 @@ ghost use Rattle.ic_state.specs.declared.canister.Canister.{Canister as StoredCa
 ghost use Rattle.ic_state.specs.Seen.{code_of, seen};
 ghost use Rattle.ic_state.specs.IsCanister.{FitsCode};
 ghost use Rattle.ic_exact.specs.Ranges.{AreNumbers, bytes_of};
+ghost use Rattle.ic_order.specs.Order.{SameState};
 ghost use Rattle.ic_keep.specs.declared.parts.KeptCanister.{KeptCanister as ACanister};
 ghost use Rattle.ic_keep.specs.Kept.{KeptState, canister_at, code_at, lists_at, state_at};
 ghost use Rattle.ic_keep.specs.IsKept.{ArePages, AreTables, Grows, HasCodes, IsKept, IsStored};
 
 use crate::codes::Codes;
 use crate::kept::Kept;
+use crate::messages::KeptMessages;
 use crate::parts::{KeptCanister, KeptStore};
 use ic_base::NoMemory;
 use ic_exact::{Entries, Exact, Ranges, Same, Shared, Words, shared_items};
+use ic_order::same_states_are_alike;
 use ic_principal::Principal;
-use ic_state::{Canister, CanisterPlace, CodePlace, World};
+use ic_state::{Canister, CanisterPlace, CodePlace, Messages, World};
 use std::alloc::Global;
 use std::collections::BTreeMap;
 use std::marker::Model;
@@ -42,6 +45,18 @@ impl Drop for Keeper {
             codes: _codes,
         } = self;
     }
+}
+
+// Messages in places, those of the places near where they have them.
+fn kept_messages(
+    alloc: Global,
+    messages: &Messages,
+    near: &KeptMessages,
+) -> Result<KeptMessages, NoMemory>
+    ensures { IfOk result (λ kept. kept ≡ messages.now) }
+{
+    let items = shared_items(alloc, messages.items.as_slice(), near.as_slice())?;
+    KeptMessages::new(alloc, items)
 }
 
 impl Keeper {
@@ -86,11 +101,7 @@ impl Keeper {
         )?;
         Ok(Kept {
             canisters,
-            messages: shared_items(
-                alloc,
-                parts.messages.items.as_slice(),
-                near.messages.as_slice(),
-            )?,
+            messages: kept_messages(alloc, &parts.messages, &near.messages)?,
             requests: shared_items(
                 alloc,
                 parts.requests.items.as_slice(),
@@ -111,6 +122,17 @@ impl Keeper {
     {
         self.are_tables();
         a.same(b)
+    }
+
+    /// Whether two kept states are the same up to the order of messages that go different ways.
+    pub fn same_state(&self, a: &Kept, b: &Kept) -> bool
+        requires first { IsKept self.now a.now }
+        requires second { IsKept self.now b.now }
+        ensures { IsTrue result ↔ SameState (state_at self.now a.now) (state_at self.now b.now) }
+    {
+        self.are_tables();
+        same_states_are_alike();
+        a.has_same_rest(b) && a.messages.has_same_ways(&b.messages)
     }
 
     fn keep_canisters(

@@ -1,15 +1,20 @@
-ghost use Rattle.std.specs.Prelude.{◌≡◌, []};
+ghost use Rattle.std.specs.Prelude.{◌≡◌, ◌↔◌, [], IfOk, IsTrue};
+ghost use Rattle.ic_keep.specs.Kept.{Tables, kept_without_messages, state_at};
+ghost use Rattle.ic_keep.specs.Key.{key_of};
 
+use crate::key::{key_of_messages, key_of_requests};
+use crate::messages::KeptMessages;
 use crate::parts::KeptCanister;
-use ic_exact::{Same, Shared, same_items};
-use ic_state::{Message, Request};
+use ic_base::NoMemory;
+use ic_exact::{Same, Shared, same_items, unshared};
+use ic_state::{Messages, Request};
 use std::alloc::Global;
 use std::marker::Model;
 
 /// A state that is kept by a `Keeper`, which knows what its numbers stand for.
 pub struct Kept {
     pub(crate) canisters: Vec<Shared<KeptCanister>>,
-    pub(crate) messages: Vec<Shared<Message>>,
+    pub(crate) messages: KeptMessages,
     pub(crate) requests: Vec<Shared<Request>>,
     pub(crate) time: u64,
     pub(crate) created: u128,
@@ -24,7 +29,7 @@ impl Model for Kept {
 
     ghost view = { λ k. record {
       canisters = k.canisters.items;
-      messages = k.messages.items;
+      messages = k.messages;
       requests = k.requests.items;
       time = k.time;
       created = k.created;
@@ -54,7 +59,7 @@ impl Kept {
     {
         Kept {
             canisters: Vec::new(alloc),
-            messages: Vec::new(alloc),
+            messages: KeptMessages::empty(alloc),
             requests: Vec::new(alloc),
             time: 0,
             created: 0,
@@ -64,14 +69,43 @@ impl Kept {
     }
 }
 
-impl Same for Kept {
-    fn same(&self, other: &Kept) -> bool {
+impl Kept {
+    /// Whether all but the messages is equal.
+    pub(crate) fn has_same_rest(&self, other: &Kept) -> bool
+        ensures { IsTrue result ↔ (kept_without_messages self.now ≡ kept_without_messages other.now) }
+    {
         self.time == other.time
             && self.created == other.created
             && self.burned == other.burned
             && self.next_canister == other.next_canister
             && same_items(self.canisters.as_slice(), other.canisters.as_slice())
-            && same_items(self.messages.as_slice(), other.messages.as_slice())
             && same_items(self.requests.as_slice(), other.requests.as_slice())
+    }
+}
+
+impl Kept {
+    /// The messages under way.
+    pub fn messages(&self, alloc: Global) -> Result<Messages, NoMemory>
+        ensures { IfOk result (λ messages. messages ≡ self.now.messages) }
+    {
+        Ok(Messages {
+            items: unshared(alloc, self.messages.as_slice())?,
+        })
+    }
+
+    /// A number by which the state is looked up.
+    pub fn key(&self) -> u64
+        ensures { (t : Tables) → key_of (state_at t self.now) ≡ result }
+    {
+        key_of_requests(
+            key_of_messages(self.messages.as_slice()),
+            self.requests.as_slice(),
+        )
+    }
+}
+
+impl Same for Kept {
+    fn same(&self, other: &Kept) -> bool {
+        self.has_same_rest(other) && self.messages.same(&other.messages)
     }
 }

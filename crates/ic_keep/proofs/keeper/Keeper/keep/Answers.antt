@@ -15,8 +15,8 @@ pub returns-clause-kept : goal.returns-clause-kept
 returns-clause-kept c =
     (world_kept c.keep_canisters.new.self _ c.parts-parts.result.now c.args.world.now c.parts-parts.ensures.state c.parts-parts.ensures.keeps c.in_ok-canisters.ensures.stored
     (c.in_ok-canisters.ensures.canisters ∙ ap (λ (p : Parts). all_seen p.canisters.entries) c.parts.view_is)
-    (c.in_ok-shared_items.ensures ∙ c.as_slice-2.ensures.value ∙ ap (λ (p : Parts). p.messages) c.parts.view_is)
-    (c.in_ok-shared_items-2.ensures ∙ c.as_slice-4.ensures.value ∙ ap (λ (p : Parts). p.requests) c.parts.view_is)
+    (c.in_ok-kept_messages.ensures ∙ ap (λ (p : Parts). p.messages) c.parts.view_is)
+    (c.in_ok-shared_items.ensures ∙ c.as_slice-2.ensures.value ∙ ap (λ (p : Parts). p.requests) c.parts.view_is)
     (ap (λ (p : Parts). p.time) c.parts.view_is) (ap (λ (p : Parts). p.created) c.parts.view_is)
     (ap (λ (p : Parts). p.burned) c.parts.view_is) (ap (λ (p : Parts). p.next_canister) c.parts.view_is)).0
 
@@ -24,7 +24,7 @@ pub returns-clause-state : goal.returns-clause-state
 returns-clause-state c =
     (world_kept c.keep_canisters.new.self _ c.parts-parts.result.now c.args.world.now c.parts-parts.ensures.state c.parts-parts.ensures.keeps c.in_ok-canisters.ensures.stored
     (c.in_ok-canisters.ensures.canisters ∙ ap (λ (p : Parts). all_seen p.canisters.entries) c.parts.view_is)
-    (c.in_ok-shared_items.ensures ∙ c.as_slice-2.ensures.value ∙ ap (λ (p : Parts). p.messages) c.parts.view_is)
-    (c.in_ok-shared_items-2.ensures ∙ c.as_slice-4.ensures.value ∙ ap (λ (p : Parts). p.requests) c.parts.view_is)
+    (c.in_ok-kept_messages.ensures ∙ ap (λ (p : Parts). p.messages) c.parts.view_is)
+    (c.in_ok-shared_items.ensures ∙ c.as_slice-2.ensures.value ∙ ap (λ (p : Parts). p.requests) c.parts.view_is)
     (ap (λ (p : Parts). p.time) c.parts.view_is) (ap (λ (p : Parts). p.created) c.parts.view_is)
     (ap (λ (p : Parts). p.burned) c.parts.view_is) (ap (λ (p : Parts). p.next_canister) c.parts.view_is)).1

@@ -7,7 +7,7 @@ use Rattle.ic_keep.proofs.keeper.Keeper.seal.Goals as goal
 pub seal-requires : goal.seal-requires
 seal-requires c =
     (world_made c.args.self.now c.args.kept.now _ c.requires.kept c.requires.canisters c.requires.idle
-    (c.in_ok-unshared.ensures ∙ c.as_slice.ensures.value ∙ ap (λ (k : KeptState). k.messages) c.kept.view_is)
+    (c.in_ok-unshared.ensures ∙ c.as_slice.ensures ∙ ap (λ (k : KeptState). k.messages) c.kept.view_is)
     (c.in_ok-unshared-2.ensures ∙ c.as_slice-2.ensures.value ∙ ap (λ (k : KeptState). k.requests) c.kept.view_is)
     (ap (λ (k : KeptState). k.time) c.kept.view_is) (ap (λ (k : KeptState). k.created) c.kept.view_is)
     (ap (λ (k : KeptState). k.burned) c.kept.view_is) (ap (λ (k : KeptState). k.next_canister) c.kept.view_is)).0
@@ -24,7 +24,7 @@ returns c =
       next_canister = c.kept.inside.next_canister;
     } in
     c.seal.ensures ∙ (world_made c.args.self.now c.args.kept.now parts c.requires.kept c.requires.canisters c.requires.idle
-    (c.in_ok-unshared.ensures ∙ c.as_slice.ensures.value ∙ ap (λ (k : KeptState). k.messages) c.kept.view_is)
+    (c.in_ok-unshared.ensures ∙ c.as_slice.ensures ∙ ap (λ (k : KeptState). k.messages) c.kept.view_is)
     (c.in_ok-unshared-2.ensures ∙ c.as_slice-2.ensures.value ∙ ap (λ (k : KeptState). k.requests) c.kept.view_is)
     (ap (λ (k : KeptState). k.time) c.kept.view_is) (ap (λ (k : KeptState). k.created) c.kept.view_is)
     (ap (λ (k : KeptState). k.burned) c.kept.view_is) (ap (λ (k : KeptState). k.next_canister) c.kept.view_is)).1
