@@ -1,0 +1,5 @@
+pub mod Patterns
+pub mod Once
+pub mod Texts
+pub mod Kept
+pub mod Found

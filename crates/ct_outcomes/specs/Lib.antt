@@ -1,0 +1,5 @@
+pub mod Types
+pub mod Standings
+pub mod Arguments
+pub mod Meets
+pub mod Answers
