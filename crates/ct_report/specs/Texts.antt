@@ -1,0 +1,39 @@
+-- What tests print: TAP version 13 (Test Anything Protocol), with a block for each test that fails.
+use Rattle.std.specs.Prelude.{ℕ, ◌++◌, ◌==◌, List, [], ◌∷◌, codes, decimal, if◌then◌else◌}
+use Rattle.std.specs.List.{flat_map}
+use Rattle.ct_report.specs.declared.tap.Counts.{Counts}
+
+-- what ends a printed line
+abbrev pub newline : List ℕ
+newline = 10 ∷ []
+
+-- the first two lines, for a number of tests
+unfoldable pub plan_text : ℕ → List ℕ
+plan_text tests = codes "TAP version 13\n1.." ++ decimal tests ++ newline
+
+-- the line of a test that passed, and of one that failed, by its number from 1
+unfoldable pub passed_text : ℕ → List ℕ → List ℕ
+passed_text number name = codes "ok " ++ decimal number ++ codes " - " ++ name ++ newline
+
+unfoldable pub failed_text : ℕ → List ℕ → List ℕ
+failed_text number name = codes "not ok " ++ decimal number ++ codes " - " ++ name ++ newline
+
+-- the last line
+unfoldable pub counts_text : Counts → List ℕ
+counts_text counts =
+    codes "# " ++ decimal counts.passed ++ codes " passed, " ++ decimal counts.failed ++ codes " failed, " ++ decimal counts.undecided ++ codes " not decided" ++ newline
+
+-- a text in which single quotes are doubled
+abbrev pub doubled_byte : ℕ → List ℕ
+doubled_byte byte = if byte == 39 then 39 ∷ 39 ∷ [] else byte ∷ []
+
+abbrev pub doubled : List ℕ → List ℕ
+doubled = flat_map doubled_byte
+
+-- a line of a block: a key, and a text in single quotes
+unfoldable pub key_text : (key text : List ℕ) → List ℕ
+key_text key text = codes "  " ++ key ++ codes ": '" ++ doubled text ++ codes "'" ++ newline
+
+-- the block of a statement that is not met: where it is, what was expected, and what came
+unfoldable pub block_text : (at expected got : List ℕ) → List ℕ
+block_text at expected got = codes "  ---" ++ newline ++ key_text (codes "at") at ++ key_text (codes "expected") expected ++ key_text (codes "got") got ++ codes "  ..." ++ newline

@@ -1,0 +1,151 @@
+ghost use Rattle.std.specs.Prelude.{◌≡◌, ◌↔◌, ◌++◌, true, IfOk, OnOk};
+ghost use Rattle.ct_report.specs.Texts.{block_text, counts_text, doubled, doubled_byte, failed_text, key_text, passed_text, plan_text};
+
+use ic_base::NoMemory;
+use ic_principal::{Bytes, Text};
+use std::alloc::Global;
+
+/// How many tests ended how.
+#[derive(Clone, Copy, Debug, PartialEq, Eq)]
+pub struct Counts {
+    pub passed: usize,
+    pub failed: usize,
+    pub undecided: usize,
+}
+
+impl Counts {
+    /// No tests.
+    pub fn new() -> Counts {
+        Counts {
+            passed: 0,
+            failed: 0,
+            undecided: 0,
+        }
+    }
+
+    /// The number of the next test, from 1.
+    pub fn next(&self) -> usize {
+        self.passed
+            .saturating_add(self.failed)
+            .saturating_add(self.undecided)
+            .saturating_add(1)
+    }
+
+    /// One more passed.
+    pub fn pass(&mut self) {
+        self.passed = self.passed.saturating_add(1);
+    }
+
+    /// One more failed.
+    pub fn fail(&mut self) {
+        self.failed = self.failed.saturating_add(1);
+    }
+
+    /// Whether each test passed.
+    pub fn all_passed(&self) -> bool
+        ensures { (result ≡ true) ↔ ((self.now.failed ≡ 0) × (self.now.undecided ≡ 0)) }
+    {
+        self.failed == 0 && self.undecided == 0
+    }
+
+    /// The last line.
+    #[tactic(auto, unfolding(crate::specs::Texts::counts_text))]
+    pub fn text(&self, alloc: Global) -> Result<Bytes, NoMemory>
+        ensures { IfOk result (λ text. text ≡ counts_text self.now) }
+    {
+        let Counts {
+            passed,
+            failed,
+            undecided,
+        } = *self;
+        let mut text = format!(in alloc; "# {passed} passed, ")?;
+        write!(text, "{failed} failed, {undecided} not decided\n")?;
+        Ok(Bytes {
+            items: text.into_bytes(),
+        })
+    }
+}
+
+/// The first two lines, for a number of tests.
+#[tactic(auto, unfolding(crate::specs::Texts::plan_text))]
+pub fn plan(alloc: Global, tests: usize) -> Result<Bytes, NoMemory>
+    ensures { IfOk result (λ text. text ≡ plan_text tests) }
+{
+    Ok(Bytes {
+        items: format!(in alloc; "TAP version 13\n1..{tests}\n")?.into_bytes(),
+    })
+}
+
+/// The line of a test that passed, by its number from 1.
+#[tactic(auto, unfolding(crate::specs::Texts::passed_text))]
+pub fn passed(alloc: Global, number: usize, name: &Text) -> Result<Bytes, NoMemory>
+    ensures { IfOk result (λ text. text ≡ passed_text number name.now) }
+{
+    let name = name.items.as_str();
+    Ok(Bytes {
+        items: format!(in alloc; "ok {number} - {name}\n")?.into_bytes(),
+    })
+}
+
+/// The line of a test that failed, by its number from 1.
+#[tactic(auto, unfolding(crate::specs::Texts::failed_text))]
+pub(crate) fn failed(alloc: Global, number: usize, name: &Text) -> Result<Bytes, NoMemory>
+    ensures { IfOk result (λ text. text ≡ failed_text number name.now) }
+{
+    let name = name.items.as_str();
+    Ok(Bytes {
+        items: format!(in alloc; "not ok {number} - {name}\n")?.into_bytes(),
+    })
+}
+
+// Adds a byte, a single quote twice.
+fn push_byte(byte: u8, out: &mut Vec<u8>) -> Result<(), NoMemory>
+    ensures { OnOk result (out.new.items ≡ out.old.items ++ doubled_byte byte) }
+{
+    if byte == b'\'' {
+        out.push(b'\'')?;
+    }
+    out.push(byte)?;
+    Ok(())
+}
+
+// Adds a text in which single quotes are doubled.
+fn push_doubled(text: &[u8], out: &mut Vec<u8>) -> Result<(), NoMemory>
+    ensures { OnOk result (out.new.items ≡ out.old.items ++ doubled text.now) }
+{
+    for byte in text {
+        push_byte(*byte, out)?;
+    }
+    Ok(())
+}
+
+// Adds a line with a key and a text.
+#[tactic(auto, unfolding(crate::specs::Texts::key_text))]
+fn push_line(key: &str, text: &[u8], out: &mut Vec<u8>) -> Result<(), NoMemory>
+    ensures { OnOk result (out.new.items ≡ out.old.items ++ key_text key.now text.now) }
+{
+    out.extend_from_slice(b"  ")?;
+    out.extend_from_slice(key.as_bytes())?;
+    out.extend_from_slice(b": '")?;
+    push_doubled(text, out)?;
+    out.extend_from_slice(b"'\n")?;
+    Ok(())
+}
+
+/// Adds the block of a statement that is not met: where it is, what was expected, and what came.
+#[tactic(auto, unfolding(crate::specs::Texts::block_text))]
+pub(crate) fn push_block(
+    at: &[u8],
+    expected: &[u8],
+    got: &[u8],
+    out: &mut Vec<u8>,
+) -> Result<(), NoMemory>
+    ensures { OnOk result (out.new.items ≡ out.old.items ++ block_text at.now expected.now got.now) }
+{
+    out.extend_from_slice(b"  ---\n")?;
+    push_line("at", at, out)?;
+    push_line("expected", expected, out)?;
+    push_line("got", got, out)?;
+    out.extend_from_slice(b"  ...\n")?;
+    Ok(())
+}
