@@ -9,7 +9,7 @@ use Rattle.cd_codec.specs.Content.{Content, Plain, plain, principal, func}
 use Rattle.cd_tokens.specs.Token.{Token}
 use Rattle.cd_tokens.specs.ReadLabel.{name_of}
 use Rattle.cd_tokens.proofs.Fronts.{true_or_false}
-use Rattle.cd_plain.specs.ReadPlain.{Taking, is_word, is_mark, starts, first_at, taken, word_at, behind_word, natural_at, integer_at, text_at, bool_at, principal_text_at, func_at, method_at, primitive_at, alone}
+use Rattle.cd_plain.specs.ReadPlain.{Taking, is_word, is_mark, starts, first_at, taken, word_at, after_word, natural_at, integer_at, text_at, bool_at, principal_text_at, func_at, method_at, primitive_at, alone}
 use Rattle.ct_patterns.specs.Meets.{is_leaf}
 use Rattle.ct_values.specs.declared.reader.Admitted.{Admitted}
 use Rattle.ct_values.specs.Steps.{exactly, Reading}
@@ -110,16 +110,16 @@ reference_of : (admitted : Admitted) (word : List ℕ) (f : List ℕ → Content
     → principal_text_at (drop 1 tokens) ≡ Some (id, after) → after ≡ drop 1 (drop 1 tokens) → Read (reference_at admitted word f) left tokens (f id ∷ []) left after
 reference_of admitted word f left tokens id after known leaf there said off = record { steps = exactly (f id) ∷ []; reads = λ before. rw (there, known, said, off) refl; met = leaf_met (f id) leaf }
 
-behind_is : {A : Type 0} (word : List ℕ) (read : Taking A) (tokens : List Token) (x : A × List Token) → behind_word word read tokens ≡ Some x → (starts (is_word word) tokens ≡ true) × (read (drop 1 tokens) ≡ Some x)
+behind_is : {A : Type 0} (word : List ℕ) (read : Taking A) (tokens : List Token) (x : A × List Token) → after_word word read tokens ≡ Some x → (starts (is_word word) tokens ≡ true) × (read (drop 1 tokens) ≡ Some x)
 behind_is {A} word read tokens x e = elim (true_or_false (starts (is_word word) tokens)) [
   | inl there ↦ (there, rw there at e)
   | inr other ↦ let none : None ≡ Some x = rw other at e in absurd cc
 ]
 
 pub reference_tied : (admitted : Admitted) (word : List ℕ) (f : List ℕ → Content) → admitted.names ≡ false → ((id : List ℕ) → is_leaf (f id) ≡ true)
-    → (left : ℕ) (tokens : List Token) (v : Content) (less : ℕ) (rest : List Token) → alone f (behind_word word principal_text_at) left tokens ≡ Some (v, less, rest) → Read (reference_at admitted word f) left tokens (v ∷ []) less rest
+    → (left : ℕ) (tokens : List Token) (v : Content) (less : ℕ) (rest : List Token) → alone f (after_word word principal_text_at) left tokens ≡ Some (v, less, rest) → Read (reference_at admitted word f) left tokens (v ∷ []) less rest
 reference_tied admitted word f known leaf left tokens v less rest e =
-    let b = bind_some (behind_word word principal_text_at tokens) (λ (x : List ℕ × List Token). Some (f x.0, left, x.1)) (v, less, rest) e in
+    let b = bind_some (after_word word principal_text_at tokens) (λ (x : List ℕ × List Token). Some (f x.0, left, x.1)) (v, less, rest) e in
     let y : List ℕ × List Token = b.0 in
     let same : (f y.0, left, y.1) ≡ (v, less, rest) = some_is {A = Content × ℕ × List Token} (f y.0, left, y.1) (v, less, rest) b.2 in
     let c = behind_is word principal_text_at tokens y b.1 in
@@ -133,11 +133,11 @@ principal_tied : (admitted : Admitted) → admitted.names ≡ false → (left : 
     → Read (primitive_value_at admitted primitives.Principal) left tokens (v ∷ []) less rest
 unfolding primitive_at
 principal_tied admitted known left tokens v less rest e =
-    let b = bind_some (taken principal (behind_word (codes "principal") principal_text_at) tokens) (λ (x : Plain × List Token). Some (plain x.0, left, x.1)) (v, less, rest) e in
+    let b = bind_some (taken principal (after_word (codes "principal") principal_text_at) tokens) (λ (x : Plain × List Token). Some (plain x.0, left, x.1)) (v, less, rest) e in
     let y : Plain × List Token = b.0 in
-    let c = bind_some (behind_word (codes "principal") principal_text_at tokens) (λ (x : List ℕ × List Token). Some (principal x.0, x.1)) y b.1 in
+    let c = bind_some (after_word (codes "principal") principal_text_at tokens) (λ (x : List ℕ × List Token). Some (principal x.0, x.1)) y b.1 in
     let z : List ℕ × List Token = c.0 in
-    let whole = alone_there (λ id. plain (principal id)) (behind_word (codes "principal") principal_text_at) left tokens z.0 z.1 c.1 in
+    let whole = alone_there (λ id. plain (principal id)) (after_word (codes "principal") principal_text_at) left tokens z.0 z.1 c.1 in
     let first : (principal z.0, z.1) ≡ y = some_is {A = Plain × List Token} (principal z.0, z.1) y c.2 in
     let second : Some (plain (principal z.0), left, z.1) ≡ Some (v, less, rest) = ap (λ (x : Plain × List Token). Some (plain x.0, left, x.1)) first ∙ b.2 in
     reference_tied admitted (codes "principal") (λ id. plain (principal id)) known (λ id. refl) left tokens v less rest (whole ∙ second)
