@@ -6,8 +6,8 @@ use std::alloc::{AllocError, Global};
 use std::process::Abort;
 use std::test::*;
 
-/// The files by their names, which are a letter each.
-static FILES: [(&str, &[u8]); 9] = [
+/// The files by their names, which are a letter each. A `%` is 20,000 times the byte `x`.
+static FILES: [(&str, &[u8]); 12] = [
     ("m", b"\0asm\x01\0\0\0"),
     ("n", b"\0asm\x01\0\0\0\x05"),
     (
@@ -32,13 +32,23 @@ static FILES: [(&str, &[u8]); 9] = [
     ),
     ("u", b"service : { a : (b) -> () }"),
     ("w", b"type a = nat;"),
+    ("j", b"service : { \"%\" : () -> (); \"%x\" : () -> () }"),
+    (
+        "k",
+        b"%%%%%%%%%%%%%%%%%%%%%%%%%%%%%%%%%%%%%%%%%%%%%%%%%%%%%%%%%%%%%%%%%%%%%%%%%%%%%%%%%%%%%%%%%%%%%%%%%%%%",
+    ),
+    (
+        "l",
+        b"%%%%%%%%%%%%%%%%%%%%%%%%%%%%%%%%%%%%%%%%%%%%%%%%%%%%%%%%%%%%%%%%%%%%%%%%%%%%%%%%%%%%%%%%%%%%%%%%%%%%x",
+    ),
 ];
 
-/// A test file, with `^` before the token at fault, and the fault; without them all holds that must.
+/// A test file, with `^` before the token at fault and `%` for 20,000 times `x`, and the fault; without them
+/// all holds that must.
 type Row = (&'static [u8], &'static str);
 
 /// Names, files and what statements say beside values.
-static NAMES: [Row; 56] = [
+static NAMES: [Row; 60] = [
     (b"", ""),
     (b"user a, b, ^a;", "name 'a' bound twice"),
     (b"user a; user b; user ^a;", "name 'a' bound twice"),
@@ -113,9 +123,22 @@ static NAMES: [Row; 56] = [
         "",
     ),
     (
+        b"canister j = \"m\", \"j\"; call j.\"%\" (); call j.% ();",
+        "",
+    ),
+    (
+        b"canister j = \"m\", \"j\"; call j.^\"%x\" ();",
+        "bad name of a method",
+    ),
+    (
         b"canister c = ^\"n\", \"c\";",
         "\"n\": module refused: NotModule",
     ),
+    (
+        b"canister c = ^\"k\", \"c\";",
+        "\"k\": module refused: NotModule",
+    ),
+    (b"canister c = ^\"l\", \"c\";", "\"l\": too large"),
     (
         b"canister c = ^\"i\", \"c\";",
         "\"i\": module refused: Import 0 (env.memcpy)",
@@ -197,7 +220,52 @@ static NAMES: [Row; 56] = [
 ];
 
 /// Arguments and outcomes.
-static VALUES: [Row; 24] = [
+static VALUES: [Row; 36] = [
+    (
+        b"call ic.create_canister (record { settings = opt record { controllers = opt vec { principal \"aaaaa-aa\" } } }) replies (record { canister_id = principal \"aaaaa-aa\" });",
+        "",
+    ),
+    (
+        b"call ic.provisional_create_canister_with_cycles (record { amount = opt 5; settings = opt record { controllers = opt vec {} } }) replies (record { canister_id = principal \"aaaaa-aa\" });",
+        "",
+    ),
+    (
+        b"call ic.provisional_top_up_canister (record { canister_id = principal \"aaaaa-aa\"; amount = 5 }) replies ();",
+        "",
+    ),
+    (
+        b"call ic.deposit_cycles (record { canister_id = principal \"aaaaa-aa\" }) replies ();",
+        "",
+    ),
+    (
+        b"call ic.update_settings (record { canister_id = principal \"aaaaa-aa\"; settings = record { controllers = opt vec {} } }) replies ();",
+        "",
+    ),
+    (
+        b"call ic.install_code (record { mode = variant { upgrade = opt record { skip_pre_upgrade = opt true } }; canister_id = principal \"aaaaa-aa\"; wasm_module = blob \"\"; arg = blob \"\" }) replies ();",
+        "",
+    ),
+    (
+        b"call ic.uninstall_code (record { canister_id = principal \"aaaaa-aa\" }) replies ();",
+        "",
+    ),
+    (
+        b"call ic.start_canister (record { canister_id = principal \"aaaaa-aa\" }) replies ();",
+        "",
+    ),
+    (
+        b"call ic.stop_canister (record { canister_id = principal \"aaaaa-aa\" }) replies ();",
+        "",
+    ),
+    (
+        b"call ic.delete_canister (record { canister_id = principal \"aaaaa-aa\" }) replies ();",
+        "",
+    ),
+    (
+        b"call ic.canister_status (record { canister_id = principal \"aaaaa-aa\" }) replies (record { status = variant { stopping }; settings = record { controllers = vec {} }; module_hash = opt blob \"\"; memory_size = 5; cycles = 5 });",
+        "",
+    ),
+    (b"query ic.^raw_rand ();", "no such method"),
     (
         b"canister c = \"m\", \"c\"; call c.set (5, ^6);",
         "not a value of its type",
@@ -308,15 +376,22 @@ fn values() -> &'static [Row] {
     &VALUES
 }
 
-// The text of a row without its mark, and the place of that.
+fn push_long(text: &mut Vec<u8>) -> Result<(), AllocError> {
+    for _ in 0..20_000 {
+        text.push(b'x')?;
+    }
+    Ok(())
+}
+
+// The text of a row or of a file without marks, and the place of `^`.
 fn unmarked(alloc: Global, marked: &[u8]) -> Result<(Vec<u8>, Option<usize>), AllocError> {
     let mut text = Vec::new(alloc);
     let mut place = None;
     for byte in marked {
-        if *byte == b'^' {
-            place = Some(text.len());
-        } else {
-            text.push(*byte)?;
+        match *byte {
+            b'^' => place = Some(text.len()),
+            b'%' => push_long(&mut text)?,
+            byte => text.push(byte)?,
         }
     }
     Ok((text, place))
@@ -326,7 +401,7 @@ fn unmarked(alloc: Global, marked: &[u8]) -> Result<(Vec<u8>, Option<usize>), Al
 fn source_of(alloc: Global, name: &Text) -> Result<Option<Source>, AllocError> {
     for (other, bytes) in files() {
         if name.items.as_str() == *other {
-            let items = Vec::from_slice(alloc, bytes)?;
+            let (items, _) = unmarked(alloc, bytes)?;
             return Ok(Some(Source::of(alloc, Bytes { items })?));
         }
     }
