@@ -172,7 +172,7 @@ fn filled_argument(
 }
 
 /// The argument of a message: what is filled in, where it says values of the types with what the
-/// names stand for in their place. Nothing is written where an installation has no arguments. More than
+/// names stand for in their place. Without `filled` the arguments of an installation are left out. More than
 /// 16,777,216 tokens in place of names count as out of memory.
 pub fn argument_of(
     alloc: Global,

@@ -1,7 +1,7 @@
 //! What tests of canisters print: TAP version 13 (Test Anything Protocol), with a block for each test that
-//! is not passed.
+//! failed.
 #![tactic(auto)]
 
 mod tap;
 
-pub use tap::{Counts, passed, plan};
+pub use tap::{Counts, failed, passed, plan, push_block};

@@ -89,7 +89,7 @@ pub fn passed(alloc: Global, number: usize, name: &Text) -> Result<Bytes, NoMemo
 
 /// The line of a test that failed, by its number from 1.
 #[tactic(auto, unfolding(crate::specs::Texts::failed_text))]
-pub(crate) fn failed(alloc: Global, number: usize, name: &Text) -> Result<Bytes, NoMemory>
+pub fn failed(alloc: Global, number: usize, name: &Text) -> Result<Bytes, NoMemory>
     ensures { IfOk result (λ text. text ≡ failed_text number name.now) }
 {
     let name = name.items.as_str();
@@ -134,7 +134,7 @@ fn push_line(key: &str, text: &[u8], out: &mut Vec<u8>) -> Result<(), NoMemory>
 
 /// Adds the block of a statement that is not met: where it is, what was expected, and what came.
 #[tactic(auto, unfolding(crate::specs::Texts::block_text))]
-pub(crate) fn push_block(
+pub fn push_block(
     at: &[u8],
     expected: &[u8],
     got: &[u8],

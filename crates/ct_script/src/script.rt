@@ -12,7 +12,7 @@ pub struct Script {
     lines: Option<Vec<u8>>,
 }
 
-// The front of a text with at most so many characters.
+// The front of a text, of at most this many characters.
 fn front_of(text: &[u8], most: usize) -> &[u8] {
     let mut left = most;
     for (place, byte) in text.iter().enumerate() {
@@ -24,6 +24,14 @@ fn front_of(text: &[u8], most: usize) -> &[u8] {
         }
     }
     text
+}
+
+// Bytes as a script has them; `-` is none.
+fn digits_of(alloc: Global, bytes: &Bytes) -> Result<String, NoMemory> {
+    if bytes.items.is_empty() {
+        return String::from_str(alloc, "-");
+    }
+    hex::encode(alloc, &bytes.items)
 }
 
 impl Script {
@@ -79,7 +87,7 @@ impl Script {
             return Ok(());
         }
         let method = method.items.as_str();
-        let digits = hex::encode(self.alloc, &arg.items)?;
+        let digits = digits_of(self.alloc, arg)?;
         let line = format!(in self.alloc; "{word} {sender} {callee} {method} {digits}\n")?;
         self.push(line.as_bytes())
     }
