@@ -10,10 +10,10 @@ use Rattle.ct_search.specs.Search.{AreKeyed, AreFound, IsLonger, HasVisited, Hav
 use Rattle.ct_search.proofs.Lists.{any_at, any_longer, all_front, all_middle}
 
 module _ {S : Type 0} (m : Meaning S) where
-  longer_same : (old : List (Case S)) → IsLonger old old
+  pub longer_same : (old : List (Case S)) → IsLonger old old
   longer_same old = ([], sym (append-nil old))
 
-  longer_further : (old mid new : List (Case S)) → IsLonger old mid → IsLonger mid new → IsLonger old new
+  pub longer_further : (old mid new : List (Case S)) → IsLonger old mid → IsLonger mid new → IsLonger old new
   longer_further old mid new a b = (a.0 ++ b.0, b.1 ∙ ap (λ l. l ++ b.0) a.1 ∙ append_assoc old a.0 b.0)
 
   pub longer_length : (old new : List (Case S)) → IsLonger old new → length old ≤ length new

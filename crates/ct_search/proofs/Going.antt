@@ -24,7 +24,7 @@ module _ {Q K S : Type 0} (Holds : Q → K → Type 0) (state : Q → K → S) (
     pub few : length cases ≤ most
     pub within : next ≤ length cases
 
-  nothing_met : AreMet m starts []
+  pub nothing_met : AreMet m starts []
   nothing_met = record { visits = λ k d lt. absurd (omega (arith, lt)); different = λ i j d less lt. absurd (omega (arith, lt)) }
 
   -- ---- the starts

@@ -5,3 +5,4 @@ pub mod Orders
 pub mod Further
 pub mod Complete
 pub mod Going
+pub mod Downward

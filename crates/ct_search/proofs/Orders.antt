@@ -15,7 +15,7 @@ module _ {S : Type 0} (m : Meaning S) where
   allowed_more s [] place allowed may = (may, tt)
   allowed_more s (p ∷ ps) place allowed may = (allowed.0, allowed_more (m.next s p) ps place allowed.1 may)
 
-  visit_after : (starts : List S) (c after : Case S) (place : ℕ) → IsVisit m starts c → IsAfter m c place after → IsVisit m starts after
+  pub visit_after : (starts : List S) (c after : Case S) (place : ℕ) → IsVisit m starts c → IsAfter m c place after → IsVisit m starts after
   visit_after starts c after place visit is = record {
     from = visit.from;
     is = subst (λ k. slice_get starts k ≡ Some visit.from) (sym is.start) visit.is;

@@ -1,5 +1,5 @@
 -- What a search keeps on its way. Cases are seen with their states in place of what is kept of these.
-use Rattle.std.specs.Prelude.{◌≡◌, ℕ, ◌+◌, ◌<◌, ◌≤◌, ◌++◌, ◌∷◌, [], Bool, List, length, map, All, slice_index_or}
+use Rattle.std.specs.Prelude.{◌≡◌, ℕ, ◌+◌, ◌<◌, ◌≤◌, ◌++◌, ◌∷◌, [], Bool, List, length, map, All, MatchOption, slice_get, slice_index_or}
 use Rattle.std.specs.Bool.{OnTrue, OnFalse}
 use Rattle.std.specs.List.{Any, AllByRecursion}
 use Rattle.ct_search.specs.declared.case.Case.{Case}
@@ -78,6 +78,21 @@ pub record HaveVisited {S : Type 0} (m : Meaning S) (most : ℕ) (old some : Lis
   pub met : (starts : List S) → AreMet m starts old → All (IsVisit m starts) some → AreMet m starts new
   pub found : OnTrue room (AreFound m some new)
   pub more : OnFalse room ((starts : List S) → AreMet m starts old → All (IsVisit m starts) some → IsMore m starts most)
+
+-- ---- depth first
+
+-- each is a move of a case: its place, and that of the move
+abbrev pub AreMoves : {S : Type 0} → Meaning S → List (Case S) → List (ℕ × ℕ) → Type 0
+AreMoves m cases moves = All (λ (move : ℕ × ℕ). MatchOption (slice_get cases move.0) ⊥ (λ c. May m c.kept move.1)) moves
+
+-- more cases were met by moves of those that were met
+pub record GoesDown {Q K S : Type 0} (Holds : Q → K → Type 0) (state : Q → K → S) (m : Meaning S) (most : ℕ) (a b : Q) (old new : List (Case K)) : Type 0 where
+  pub stays : Stays Holds state a b
+  pub held : AreHeld Holds b new
+  pub keyed : AreKeyed m (all_seen state b new)
+  pub longer : IsLonger (all_seen state a old) (all_seen state b new)
+  pub few : length new ≤ most
+  pub met : (starts : List S) → AreMet m starts (all_seen state a old) → AreMet m starts (all_seen state b new)
 
 -- ---- starts
 

@@ -11,8 +11,8 @@ use crate::visiting::visit_all;
 use ic_base::NoMemory;
 use std::alloc::Global;
 
-// A case for each start.
-fn started<M: Machine>(
+/// A case for each start.
+pub(crate) fn started<M: Machine>(
     alloc: Global,
     machine: &M,
     keeper: &M::Keeper,

@@ -16,8 +16,8 @@ fn longer(alloc: Global, order: &[usize], place: usize) -> Result<Vec<usize>, No
     Ok(all)
 }
 
-// The case after one move.
-fn case_after<M: Machine>(
+/// The case after one move.
+pub(crate) fn case_after<M: Machine>(
     alloc: Global,
     machine: &M,
     keeper: &mut M::Keeper,

@@ -56,8 +56,8 @@ fn has_same<M: Machine>(
     false
 }
 
-// Puts a case after the others unless it is one of them. Gives whether there was room.
-fn visit<M: Machine>(
+/// Puts a case after the others unless it is one of them. Gives whether there was room.
+pub(crate) fn visit<M: Machine>(
     alloc: Global,
     machine: &M,
     keeper: &M::Keeper,

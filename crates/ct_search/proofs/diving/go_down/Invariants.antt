@@ -1,0 +1,9 @@
+use Rattle.ct_search.specs.Index.{AreUnderKeys}
+use Rattle.ct_search.specs.Search.{all_seen, AreMoves, GoesDown}
+use Rattle.ct_search.proofs.diving.go_down.Given as goal
+
+abbrev pub invariant-loop : goal.invariant-loop
+invariant-loop g l =
+    GoesDown g.M.Machine.Holds g.M.Machine.state (g.M.Machine.meaning l.machine) l.most l.fn.keeper l.keeper l.fn.met.cases.items l.met.cases.items
+    × AreMoves (g.M.Machine.meaning l.machine) (all_seen g.M.Machine.state l.keeper l.met.cases.items) l.moves.items
+    × AreUnderKeys l.met.index.places l.met.cases.items
