@@ -134,12 +134,7 @@ fn push_line(key: &str, text: &[u8], out: &mut Vec<u8>) -> Result<(), NoMemory>
 
 /// Adds the block of a statement that is not met: where it is, what was expected, and what came.
 #[tactic(auto, unfolding(crate::specs::Texts::block_text))]
-pub fn push_block(
-    at: &[u8],
-    expected: &[u8],
-    got: &[u8],
-    out: &mut Vec<u8>,
-) -> Result<(), NoMemory>
+pub fn push_block(at: &[u8], expected: &[u8], got: &[u8], out: &mut Vec<u8>) -> Result<(), NoMemory>
     ensures { OnOk result (out.new.items ≡ out.old.items ++ block_text at.now expected.now got.now) }
 {
     out.extend_from_slice(b"  ---\n")?;
