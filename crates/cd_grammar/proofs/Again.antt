@@ -12,7 +12,7 @@ use Rattle.cd_grammar.specs.declared.written.Written.{Written}
 use Rattle.cd_grammar.specs.declared.written.Written.TheVariants.{Opt, Seq, Rec, Var}
 use Rattle.cd_grammar.specs.Words.{spelling}
 use Rattle.cd_grammar.specs.Grammar.{Writes, WritesField, WritesCase, after_field, no_place, WritesArgument, WritesTuple, WritesNotes, WritesFunction, WritesMethod, WritesName, WritesService, WritesFields, WritesInner, WritesBehind, WritesType, WritesMethodType}
-use Rattle.cd_grammar.specs.Read.{Reads, is_mark, starts, named_at, labelled_at, field_at, case_at, argument_at, tuple_at, first_note, notes_at, function_at, method_at, service_at, fields_at, inner_at, behind_word_at, type_at, method_type_at}
+use Rattle.cd_grammar.specs.Read.{Reads, is_mark, starts, named_at, labelled_at, field_at, case_at, argument_at, tuple_at, first_note, notes_at, function_at, method_at, service_at, fields_at, inner_at, after_word_at, type_at, method_type_at}
 use Rattle.cd_grammar.proofs.Words.{word_again, free_again, argument_name_again, argument_no_mark, name_no_word, note_again}
 use Rattle.cd_tokens.proofs.Parts.{Complete}
 use Rattle.cd_grammar.proofs.PartLemmas.{enclosed_again}
@@ -224,8 +224,8 @@ fields_again P read step made law on before part after front rest w free =
 inner_again : (P : Writes Part) (read : Reads Part) (made : Part → Written) → Complete is_free P read → Complete is_free (WritesInner P made) (inner_at read made)
 inner_again P read made law before part after front rest w free = rw (law before w.0 w.1 front rest w.2 free, w.3.0, w.3.1) refl
 
-behind_again : (depth : ℕ) → Complete is_free (WritesType depth) (type_at depth) → Complete is_free (WritesMethodType depth) (method_type_at depth) → (w : Word) → Complete is_free (WritesBehind (WritesType depth) (WritesMethodType depth) w) (behind_word_at (type_at depth) (method_type_at depth) w)
-unfolding behind_word_at
+behind_again : (depth : ℕ) → Complete is_free (WritesType depth) (type_at depth) → Complete is_free (WritesMethodType depth) (method_type_at depth) → (w : Word) → Complete is_free (WritesBehind (WritesType depth) (WritesMethodType depth) w) (after_word_at (type_at depth) (method_type_at depth) w)
+unfolding after_word_at
 behind_again depth law laws (words.Prim p) before part after front rest w free = rw (w.0, w.1, w.2) refl
 behind_again depth law laws words.Float32 before part after front rest w free = rw (w.0, w.1, w.2) refl
 behind_again depth law laws words.Float64 before part after front rest w free = rw (w.0, w.1, w.2) refl

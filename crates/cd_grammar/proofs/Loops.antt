@@ -11,7 +11,7 @@ use Rattle.cd_tokens.proofs.Loops as loops
 use Rattle.cd_tokens.proofs.Loops.{Still}
 use Rattle.cd_grammar.specs.declared.word.Word.{Word}
 use Rattle.cd_grammar.specs.declared.written.Written.{Written}
-use Rattle.cd_grammar.specs.Read.{Reading, is_mark, starts, put_behind, token_note, first_note, notes_at, first_word, named_at, behind_word_at, type_at, method_type_at}
+use Rattle.cd_grammar.specs.Read.{Reading, is_mark, starts, put_behind, token_note, first_note, notes_at, first_word, named_at, after_word_at, type_at, method_type_at}
 
 -- what a part was put behind tells of the part
 pub by_part : {S A : Type 0} (read : Option (A × S × List Token)) (step : A → ℕ) (front : List A) (P : List A × ℕ × S × List Token → Type 0) → ((x : A × S × List Token) → read ≡ Some x → P (front ++ x.0 ∷ [], step x.0, x.1, x.2))
@@ -62,7 +62,7 @@ part_read {S} {A} separator end read step front most i next state tokens total y
 -- ---- a type by its first word
 
 pub type_value : (depth : ℕ) (types : List Written) (tokens rest : List Token) (w : Word) → 0 < depth → first_word tokens ≡ Some w → rest ≡ drop 1 tokens
-    → type_at depth types tokens ≡ behind_word_at (type_at (depth - 1)) (method_type_at (depth - 1)) w types rest
+    → type_at depth types tokens ≡ after_word_at (type_at (depth - 1)) (method_type_at (depth - 1)) w types rest
 unfolding type_at
 type_value zero types tokens rest w deep is e = absurd (omega (arith, deep))
 type_value (suc depth) types [] rest w deep is e = absurd cc

@@ -14,7 +14,7 @@ use Rattle.cd_grammar.specs.declared.written.Part.TheVariants.{Prim, Float, Name
 use Rattle.cd_grammar.specs.declared.written.Written.{Written}
 use Rattle.cd_grammar.specs.declared.written.Written.TheVariants.{Opt, Seq, Rec, Var, Func, Service}
 use Rattle.cd_grammar.specs.Grammar.{Writing, Writes, WritesLabelled, WritesField, WritesCase, after_field, no_place, WritesArgument, WritesTuple, WritesNotes, WritesFunction, WritesMethod, WritesName, WritesService, WritesFields, WritesInner, WritesBehind, WritesType, WritesMethodType}
-use Rattle.cd_grammar.specs.Read.{Reads, is_mark, is_arrow, starts, then_make, enclosed_at, added, token_word, free_name, named_at, labelled_at, field_at, case_at, is_argument_name, argument_at, tuple_at, token_note, with_note, notes_at, noted, results_at, function_at, method_at, service_at, fields_at, inner_at, behind_word_at, worded_at, type_at, method_type_at}
+use Rattle.cd_grammar.specs.Read.{Reads, is_mark, is_arrow, starts, then_make, enclosed_at, added, token_word, free_name, named_at, labelled_at, field_at, case_at, is_argument_name, argument_at, tuple_at, token_note, with_note, notes_at, noted, results_at, function_at, method_at, service_at, fields_at, inner_at, after_word_at, worded_at, type_at, method_type_at}
 use Rattle.cd_tokens.proofs.Fronts.{true_or_false}
 use Rattle.cd_tokens.proofs.Starts.{started}
 use Rattle.cd_grammar.proofs.Words.{arrow_started, token_takes, free_takes, argument_name_takes, note_takes}
@@ -207,8 +207,8 @@ alone_takes : (P M : Writes Part) (w : Word) (part : Part) (state : List Written
 alone_takes P M w part state tokens z written e =
     subst (Takes (WritesBehind P M w) state tokens) (some_is {A = Part × List Written × List Token} (part, state, tokens) z e) (record { front = []; parts = refl; written = written })
 
-behind_takes : (P M : Writes Part) (read method : Reads Part) → Sound P read → Sound M method → (w : Word) → Sound (WritesBehind P M w) (behind_word_at read method w)
-unfolding behind_word_at
+behind_takes : (P M : Writes Part) (read method : Reads Part) → Sound P read → Sound M method → (w : Word) → Sound (WritesBehind P M w) (after_word_at read method w)
+unfolding after_word_at
 behind_takes P M read method law laws (words.Prim p) state tokens z e = alone_takes P M (words.Prim p) (Prim p) state tokens z (refl, refl, refl) e
 behind_takes P M read method law laws words.Float32 state tokens z e = alone_takes P M words.Float32 Float state tokens z (refl, refl, refl) e
 behind_takes P M read method law laws words.Float64 state tokens z e = alone_takes P M words.Float64 Float state tokens z (refl, refl, refl) e

@@ -118,13 +118,13 @@ WritesBehind P M words.Service before part after tokens = WritesService M before
 WritesBehind P M _ before part after tokens = ⊥
 
 abbrev mutual
-  -- a type, within so many levels
+  -- a type, within a number of levels
   pub WritesType : ℕ → Writes Part
   WritesType zero before part after tokens = ⊥
   WritesType (suc depth) before part after tokens = WritesName before part after tokens
       ⊎ ((w : Word) × (rest : List Token) × (tokens ≡ word w ∷ rest) × WritesBehind (WritesType depth) (WritesMethodType depth) w before part after rest)
 
-  -- the type of a method, within so many levels: a function type without its word, or a name
+  -- the type of a method, within a number of levels: a function type without its word, or a name
   pub WritesMethodType : ℕ → Writes Part
   WritesMethodType zero before part after tokens = ⊥
   WritesMethodType (suc depth) before part after tokens = WritesName before part after tokens ⊎ WritesFunction (WritesType depth) before part after tokens

@@ -164,32 +164,32 @@ abbrev pub inner_at : Reads Part → (Part → Written) → Reads Part
 inner_at read made types tokens = read types tokens >>= added made
 
 -- a type behind its word
-unfoldable pub behind_word_at : Reads Part → Reads Part → Word → Reads Part
-behind_word_at read method (words.Prim p) types tokens = Some (Prim p, types, tokens)
-behind_word_at read method words.Float32 types tokens = Some (Float, types, tokens)
-behind_word_at read method words.Float64 types tokens = Some (Float, types, tokens)
-behind_word_at read method words.Blob types tokens = added (λ item. Seq item) (Prim primitives.Nat8, types, tokens)
-behind_word_at read method words.Opt types tokens = inner_at read (λ t. Opt t) types tokens
-behind_word_at read method words.Seq types tokens = inner_at read (λ t. Seq t) types tokens
-behind_word_at read method words.Rec types tokens = fields_at (field_at read) after_field (λ fs. Rec fs) types tokens
-behind_word_at read method words.Var types tokens = fields_at (case_at read) no_place (λ fs. Var fs) types tokens
-behind_word_at read method words.Func types tokens = function_at read types tokens
-behind_word_at read method words.Service types tokens = service_at method types tokens
-behind_word_at read method _ types tokens = None
+unfoldable pub after_word_at : Reads Part → Reads Part → Word → Reads Part
+after_word_at read method (words.Prim p) types tokens = Some (Prim p, types, tokens)
+after_word_at read method words.Float32 types tokens = Some (Float, types, tokens)
+after_word_at read method words.Float64 types tokens = Some (Float, types, tokens)
+after_word_at read method words.Blob types tokens = added (λ item. Seq item) (Prim primitives.Nat8, types, tokens)
+after_word_at read method words.Opt types tokens = inner_at read (λ t. Opt t) types tokens
+after_word_at read method words.Seq types tokens = inner_at read (λ t. Seq t) types tokens
+after_word_at read method words.Rec types tokens = fields_at (field_at read) after_field (λ fs. Rec fs) types tokens
+after_word_at read method words.Var types tokens = fields_at (case_at read) no_place (λ fs. Var fs) types tokens
+after_word_at read method words.Func types tokens = function_at read types tokens
+after_word_at read method words.Service types tokens = service_at method types tokens
+after_word_at read method _ types tokens = None
 
 -- a type behind its first token, if that is a word; else a name
 abbrev pub worded_at : Reads Part → Reads Part → Option Word → Token → Reads Part
 worded_at read method None t types rest = named_at types (t ∷ rest)
-worded_at read method (Some w) t types rest = behind_word_at read method w types rest
+worded_at read method (Some w) t types rest = after_word_at read method w types rest
 
 unfoldable mutual
-  -- a type within so many levels
+  -- a type within a number of levels
   pub type_at : ℕ → Reads Part
   type_at zero types tokens = None
   type_at (suc depth) types [] = None
   type_at (suc depth) types (t ∷ rest) = worded_at (type_at depth) (method_type_at depth) (token_word t) t types rest
 
-  -- the type of a method within so many levels
+  -- the type of a method within a number of levels
   pub method_type_at : ℕ → Reads Part
   method_type_at zero types tokens = None
   method_type_at (suc depth) types tokens = if starts (is_mark 40) tokens then function_at (type_at depth) types tokens else named_at types tokens

@@ -7,7 +7,7 @@ ghost use Rattle.cd_grammar.specs.declared.written.Part.{Part};
 ghost use Rattle.cd_grammar.specs.declared.written.Written.{Written};
 ghost use Rattle.cd_grammar.specs.declared.written.Written.TheVariants.{Opt, Seq};
 ghost use Rattle.cd_grammar.specs.Grammar.{no_place};
-ghost use Rattle.cd_grammar.specs.Read.{parts_at, then_make, named_at, labelled_at, lone_case, row_at, id_after, after_row, rows_made, with_part, argument_at, tuple_at, first_note, notes_at, noted, results_at, function_at, method_at, service_at, fields_at, inner_at, behind_word_at, type_at, method_type_at};
+ghost use Rattle.cd_grammar.specs.Read.{parts_at, then_make, named_at, labelled_at, lone_case, row_at, id_after, after_row, rows_made, with_part, argument_at, tuple_at, first_note, notes_at, noted, results_at, function_at, method_at, service_at, fields_at, inner_at, after_word_at, type_at, method_type_at};
 
 use crate::front::{first_word, is_argument_name, name_of, starts_arrow, word_of};
 use crate::word::Word;
@@ -134,7 +134,7 @@ fn lone_case(reader: &mut Reader<'_, '_>, label: &Token<'_>) -> Result<(u64, Par
     }
 }
 
-/// A type, within so many levels.
+/// A type, within a number of levels.
 #[cycle(reader)]
 #[tactic(auto, unfolding(crate::specs::Read::type_at))]
 pub(crate) fn type_of(reader: &mut Reader<'_, '_>, depth: u32) -> Result<Part, ReadError>
@@ -167,11 +167,11 @@ fn method_type_of(reader: &mut Reader<'_, '_>, depth: u32) -> Result<Part, ReadE
     }
 }
 
-// A type behind its word.
+// A type after its word.
 #[cycle(reader)]
-#[tactic(auto, unfolding(crate::specs::Read::behind_word_at))]
+#[tactic(auto, unfolding(crate::specs::Read::after_word_at))]
 fn after_word(reader: &mut Reader<'_, '_>, depth: u32, word: Word) -> Result<Part, ReadError>
-    ensures { Gives (λ x. (x, reader.new.types.items, token_views reader.new.rest.now)) result (behind_word_at (type_at depth) (method_type_at depth) word reader.old.types.items (token_views reader.old.rest.now)) }
+    ensures { Gives (λ x. (x, reader.new.types.items, token_views reader.new.rest.now)) result (after_word_at (type_at depth) (method_type_at depth) word reader.old.types.items (token_views reader.old.rest.now)) }
 {
     match word {
         Word::Prim(prim) => Ok(Part::Prim(prim)),
@@ -341,7 +341,7 @@ fn typed_of(reader: &mut Reader<'_, '_>, depth: u32, id: u64) -> Result<(u64, Pa
     }
 }
 
-/// The types of a tuple, within so many levels.
+/// The types of a tuple, within a number of levels.
 #[cycle(reader)]
 pub(crate) fn tuple_of(reader: &mut Reader<'_, '_>, depth: u32) -> Result<Vec<Part>, ReadError>
     ensures { Gives (λ x. (x.items, reader.new.types.items, token_views reader.new.rest.now)) result (tuple_at (type_at depth) reader.old.types.items (token_views reader.old.rest.now)) }
@@ -451,7 +451,7 @@ fn results_of(reader: &mut Reader<'_, '_>, depth: u32, args: Parts) -> Result<Pa
     }
 }
 
-/// A service behind its word: methods whose types have so many levels.
+/// A service after its word: methods whose types have a number of levels.
 #[cycle(reader)]
 pub(crate) fn service_of(reader: &mut Reader<'_, '_>, depth: u32) -> Result<Part, ReadError>
     ensures { Gives (λ x. (x, reader.new.types.items, token_views reader.new.rest.now)) result (service_at (method_type_at depth) reader.old.types.items (token_views reader.old.rest.now)) }

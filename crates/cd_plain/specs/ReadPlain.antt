@@ -38,7 +38,7 @@ first_at f (t ∷ rest) = f t >>= λ x. Some (x, rest)
 abbrev pub taken : {A B : Type 0} → (A → B) → Taking A → Taking B
 taken f read tokens = read tokens >>= λ x. Some (f x.0, x.1)
 
--- behind a word
+-- after a word
 abbrev pub after_word : {A : Type 0} → List ℕ → Taking A → Taking A
 after_word w read tokens = if starts (is_word w) tokens then read (drop 1 tokens) else None
 

@@ -7,5 +7,5 @@ mod plain_writer;
 mod printing;
 mod types;
 
-pub use plain_reader::{func_of, natural_below, primitive_of, principal_behind, string_of};
+pub use plain_reader::{func_of, natural_below, primitive_of, principal_after, string_of};
 pub use printing::{print, print_named};

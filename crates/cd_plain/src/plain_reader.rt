@@ -131,7 +131,7 @@ fn principal_at(alloc: Global, tokens: &[Token<'_>]) -> Result<Principal, ReadEr
 }
 
 /// A word, and the text of a principal.
-pub fn principal_behind(
+pub fn principal_after(
     alloc: Global,
     word: &[u8],
     tokens: &[Token<'_>],
@@ -294,7 +294,7 @@ pub fn primitive_of<'t, 'a>(
             let (text, rest) = text_at(alloc, tokens)?;
             Ok((Value::Text(text), left, rest))
         }
-        Prim::Principal => match principal_behind(alloc, b"principal", tokens) {
+        Prim::Principal => match principal_after(alloc, b"principal", tokens) {
             Ok(principal) => {
                 let rest = rest_of(rest_of(tokens));
                 Ok((Value::Principal(principal), left, rest))

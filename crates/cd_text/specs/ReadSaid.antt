@@ -190,7 +190,7 @@ abbrev pub spend_one : Budgeted Content → Budgeted Content
 spend_one read zero tokens = None
 spend_one read (suc left) tokens = read left tokens
 
--- a value within so many levels
+-- a value within a number of levels
 unfoldable pub value_at : List Entry → ℕ → TyRef → Budgeted Content
 value_at table zero type left tokens = None
 value_at table (suc depth) type left tokens =

@@ -146,7 +146,7 @@ SaysShape depth table P (compound (Func args results notes)) v tokens = (p : Lis
 SaysShape depth table P (compound (Service methods)) v tokens = (p : List ℕ) × (v ≡ plain (service p)) × SaysPrincipal (codes "service") p tokens
 SaysShape depth table P dangling v tokens = ⊥
 
--- the tokens say the value at the type, within so many levels: values and their parts are one below another, and so is what stands in parentheses
+-- the tokens say the value at the type, within a number of levels: values and their parts are one below another, and so is what stands in parentheses
 abbrev pub Says : List Entry → ℕ → TyRef → Saying Content
 Says table zero type v tokens = ⊥
 Says table (suc depth) type v tokens = SaysShape depth table (Says table depth) (shape table type) v tokens ⊎ InParentheses type (Says table depth type v) tokens

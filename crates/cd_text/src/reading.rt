@@ -12,7 +12,7 @@ ghost use Rattle.cd_text.specs.ReadSaid.{past_annotation, annotated_at, braces_a
 
 use crate::fields::{find, record_made};
 use cd_codec::Value;
-use cd_plain::{func_of, natural_below, primitive_of, principal_behind, string_of};
+use cd_plain::{func_of, natural_below, primitive_of, principal_after, string_of};
 use cd_tokens::{Token, label_of, rest_of, starts_mark, starts_word};
 use cd_types::{Entry, Prim, TyRef, TypeTable};
 use ic_base::ReadError;
@@ -241,7 +241,7 @@ fn value_of<'t, 'a>(
     }
 }
 
-/// A value within so many levels, and its type's name where one stands.
+/// A value within a number of levels, and its type's name where one stands.
 #[cycle(reader)]
 pub(crate) fn annotated_of<'t, 'a>(
     alloc: Global,
@@ -296,7 +296,7 @@ fn service_of<'t, 'a>(
 ) -> Result<(Value, u32, &'t [Token<'a>]), ReadError>
     ensures { Gives (λ x. (view x.0, x.1, token_views x.2.now)) result (alone (λ p. plain (service p)) (after_word (codes "service") principal_text_at) left (token_views tokens.now)) }
 {
-    match principal_behind(alloc, b"service", tokens) {
+    match principal_after(alloc, b"service", tokens) {
         Ok(service) => {
             let rest = rest_of(rest_of(tokens));
             Ok((Value::Service(service), left, rest))

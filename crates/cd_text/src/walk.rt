@@ -5,7 +5,7 @@ use crate::fields::find;
 use crate::reading::{name_of as type_name, without_null};
 use crate::whole::{MAX_NESTING, MAX_VALUES, is_utf8};
 use cd_codec::{Expected, Value};
-use cd_plain::{natural_below, primitive_of, principal_behind};
+use cd_plain::{natural_below, primitive_of, principal_after};
 use cd_tokens::{Token, label_of, name_of, rest_of, says_bytes, starts_mark, starts_word};
 use cd_types::{Entry, Prim, TyRef, TypeTable};
 use ic_base::{NoMemory, ReadError};
@@ -83,7 +83,7 @@ impl<'w, 't, 'a> Walk<'w, 't, 'a> {
     fn pass_principal(&mut self, word: &[u8]) -> Result<(), ReadError> {
         let tokens = self.rest;
         self.pass_word(word)?;
-        principal_behind(self.alloc, word, tokens)?;
+        principal_after(self.alloc, word, tokens)?;
         self.pass();
         Ok(())
     }

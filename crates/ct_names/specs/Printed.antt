@@ -6,7 +6,7 @@ use Rattle.std.specs.List.{list_all}
 abbrev pub is_script_byte : ℕ → Bool
 is_script_byte byte = nat_le 33 byte && nat_le byte 126
 
--- bad name of a method
+-- a name of a method that a script can have as a word
 abbrev pub is_script_word : List ℕ → Bool
 is_script_word name = not (length name == 0) && (nat_le (length name) 20000 && list_all is_script_byte name)
 
@@ -14,6 +14,6 @@ is_script_word name = not (length name == 0) && (nat_le (length name) 20000 && l
 abbrev pub is_plain : ℕ → Bool
 is_plain byte = nat_le 32 byte && (not (byte == 127) && (not (byte == 35) && not (byte == 92)))
 
--- bad name of a test
+-- a name of a test that TAP prints as it is
 abbrev pub is_test_name : List ℕ → Bool
 is_test_name name = not (length name == 0) && list_all is_plain name

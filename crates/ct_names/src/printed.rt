@@ -2,7 +2,7 @@ ghost use Rattle.std.specs.Prelude.{◌≡◌};
 ghost use Rattle.std.specs.List.{list_all};
 ghost use Rattle.ct_names.specs.Printed.{is_script_byte, is_script_word, is_plain, is_test_name};
 
-/// How long a word of a script may be.
+/// How long the name of a method may be in a script.
 const LONGEST: usize = 20_000;
 
 fn is_script_byte(byte: u8) -> bool

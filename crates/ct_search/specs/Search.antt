@@ -54,7 +54,7 @@ AreFound m some cases = All (λ c. HasSame m c.kept (length c.order.items) cases
 abbrev pub IsClosed : {S : Type 0} → Meaning S → List (Case S) → Case S → Type 0
 IsClosed m cases c = (place : ℕ) → May m c.kept place → HasSame m (m.next c.kept place) (length c.order.items + 1) cases
 
--- so do the moves of the first of them
+-- so do the moves of the first `count` cases
 abbrev pub AreClosed : {S : Type 0} → Meaning S → List (Case S) → (count : ℕ) → Type 0
 AreClosed {S} m cases count = (k : ℕ) (d : Case S) → k < count → IsClosed m cases (slice_index_or cases k d)
 

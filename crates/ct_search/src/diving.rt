@@ -101,7 +101,7 @@ where
     Ok(())
 }
 
-/// Meets cases that can be reached from the starts, depth first, up to so many: from the case that was met last and has a
+/// Meets cases that can be reached from the starts, depth first, up to `most`: from the case that was met last and has a
 /// move that was not made, the first such move is made. So some orders come to their ends where `explore` has no room.
 pub fn dive<M: Machine>(
     alloc: Global,

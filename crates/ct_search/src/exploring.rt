@@ -38,7 +38,7 @@ where
     Ok(cases)
 }
 
-/// Meets each case that can be reached from the starts, breadth first, up to a number of cases: of each case in turn each move
+/// Meets each case that can be reached from the starts, breadth first, up to `most` cases: of each case in turn each move
 /// is made, in order, and a case that was not met before comes after the others. A case is a state that is reached
 /// by a number of moves.
 pub fn explore<M: Machine>(

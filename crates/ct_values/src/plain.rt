@@ -9,7 +9,7 @@ ghost use Rattle.ct_values.specs.Spelled.{principal_at, reference_at, func_at, p
 use crate::cursor::Cursor;
 use crate::reader::Reader;
 use cd_codec::Value;
-use cd_plain::{natural_below, primitive_of, principal_behind, string_of};
+use cd_plain::{natural_below, primitive_of, principal_after, string_of};
 use cd_text::type_name;
 use cd_types::{Prim, TyRef};
 use ct_patterns::Step;
@@ -31,7 +31,7 @@ impl<'r> Reader<'r> {
             cursor.advance();
             return Ok(None);
         }
-        let principal = principal_behind(self.alloc, word, tokens)?;
+        let principal = principal_after(self.alloc, word, tokens)?;
         cursor.advance();
         Ok(Some(principal))
     }

@@ -28,7 +28,7 @@ pub record Grows (old new : Tables) : Type 0 where
   pub ranges : Extends old.ranges new.ranges
   pub codes : Extends old.codes new.codes
 
--- whole pages of 65,536 bytes, at most a number of them
+-- whole pages of 65,536 bytes, at most `most` of them
 pub record ArePages (most : ℕ) (bytes : List ℕ) : Type 0 where
   pub whole : length bytes % 65536 ≡ 0
   pub few : pages_of bytes ≤ most

@@ -1,4 +1,4 @@
--- A number by which states are looked up: it differs only where states differ, not in the order of messages alone. No standard has this.
+-- A number by which states are looked up: equal for states that are the same up to the order of messages that go different ways. No standard has this.
 use Rattle.std.specs.Prelude.{ℕ, ◌+◌, ◌*◌, ◌%◌, ◌^◌, List, Option, Some, None, length, nat_lt, cond}
 use Rattle.std.specs.List.{fold}
 use Rattle.ic_behaviour.specs.declared.call.Origin.{Origin}

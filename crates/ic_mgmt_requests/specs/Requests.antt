@@ -69,7 +69,7 @@ installation_value mode canister wasm arg = record_of (parts_of (
 
 -- ---- arguments
 
--- of a canister with these cycles, or with as many as one gets
+-- of a canister with these cycles, or, where none are named, with 100,000,000,000,000
 unfoldable pub creation_argument : Option ℕ → List ℕ
 creation_argument cycles = message_spelling creation_type.0 creation_type.1 (creation_value cycles ∷ [])
 

@@ -31,8 +31,8 @@ fn creation_value(alloc: Global, cycles: Option<u128>) -> Result<Value, NoMemory
     Ok(Value::of_fields(fields))
 }
 
-/// The argument of `provisional_create_canister_with_cycles` for a canister with these cycles, or with as many as one
-/// gets, and without settings.
+/// The argument of `provisional_create_canister_with_cycles` for a canister with these cycles, or, where none are named,
+/// with 100,000,000,000,000, and without settings.
 #[tactic(auto, unfolding(crate::specs::Requests::creation_argument))]
 pub fn creation_argument(alloc: Global, cycles: Option<u128>) -> Result<Bytes, NoMemory>
     ensures { IfOk result (λ arg. arg ≡ creation_argument cycles) }

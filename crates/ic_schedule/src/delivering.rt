@@ -20,8 +20,8 @@ fn is_to_management(message: &Message) -> bool
     }
 }
 
-// Whether a call to the management canister is at the place.
-fn is_managed(world: &World, place: usize) -> bool
+/// Whether a call to the management canister is at the place.
+pub fn is_managed(world: &World, place: usize) -> bool
     ensures { result ≡ is_managed world.now place }
 {
     match world.parts().messages.items.get(place) {
@@ -53,7 +53,8 @@ fn hand_over(alloc: Global, world: World, place: usize, charge: Charge) -> Resul
     Ok(World::seal(parts))
 }
 
-/// Delivers the message at a place.
+/// Delivers the message at a place, whichever messages come before it. `limit` is the most instructions that the
+/// execution or installation may use, and `price` the cycles that an instruction of an execution costs.
 pub fn deliver<M: Manager>(
     alloc: Global,
     world: World,

@@ -11,6 +11,7 @@ mod laws;
 mod manager;
 mod replaying;
 
+pub use delivering::{deliver, is_managed};
 pub use eligibility::eligible;
 pub use laws::picks_are_steps;
 pub use manager::Manager;

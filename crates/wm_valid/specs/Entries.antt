@@ -32,7 +32,7 @@ name_of Inspect method = codes "canister_inspect_message"
 name_of Update method = update_prefix ++ method
 name_of Query method = query_prefix ++ method
 
--- what stands behind the prefix
+-- what follows the prefix
 abbrev pub strip_prefix : List ℕ → List ℕ → Option (List ℕ)
 strip_prefix prefix name =
     if starts_with nat_eq name prefix then Some (drop (length prefix) name) else None

@@ -50,7 +50,7 @@ fn add(alloc: Global, methods: &mut Methods, prefix: &[u8], export: &Export) -> 
     Ok(())
 }
 
-/// What is exported behind the prefix.
+/// What is exported after the prefix.
 fn methods_with_prefix(
     alloc: Global,
     prefix: &[u8],

@@ -24,7 +24,7 @@ pub(crate) fn name_bytes(export: &Export) -> &[u8]
     export.name.items.as_bytes()
 }
 
-/// What stands behind the prefix.
+/// What follows the prefix.
 pub(crate) fn strip_prefix<'a>(prefix: &[u8], name: &'a [u8]) -> Option<&'a [u8]>
     ensures { option_copied result ≡ specs.strip_prefix prefix.now name.now }
 {
