@@ -220,7 +220,7 @@ static NAMES: [Row; 60] = [
 ];
 
 /// Arguments and outcomes.
-static VALUES: [Row; 36] = [
+static VALUES: [Row; 37] = [
     (
         b"call ic.create_canister (record { settings = opt record { controllers = opt vec { principal \"aaaaa-aa\" } } }) replies (record { canister_id = principal \"aaaaa-aa\" });",
         "",
@@ -266,6 +266,10 @@ static VALUES: [Row; 36] = [
         "",
     ),
     (b"query ic.^raw_rand ();", "no such method"),
+    (
+        b"canister c = \"m\", \"c\"; call c.set (^n = 5);",
+        "not a value of its type",
+    ),
     (
         b"canister c = \"m\", \"c\"; call c.set (5, ^6);",
         "not a value of its type",

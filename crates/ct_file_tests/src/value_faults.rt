@@ -23,7 +23,7 @@ const NAMES: Admitted = Admitted {
 /// Types, a text between parentheses, what is admitted, and where the text is wrong, if it is.
 type Row = (&'static [u8], &'static [u8], Admitted, Option<usize>);
 
-static ROWS: [Row; 65] = [
+static ROWS: [Row; 77] = [
     (NATS, b"7", VALUES, None),
     (NATS, b"", VALUES, Some(0)),
     (NATS, b"-5", VALUES, Some(0)),
@@ -46,6 +46,12 @@ static ROWS: [Row; 65] = [
     (NATS, b"n", PATTERNS, Some(0)),
     (NATS, b"n : nat64", NAMES, None),
     (NATS, b"n, 5", NAMES, Some(3)),
+    (NATS, b"n = 5", NAMES, Some(0)),
+    (NATS, b"n = 5", VALUES, Some(0)),
+    (NATS, b"(5 = 5)", VALUES, Some(1)),
+    (NATS, b"5 : nat64 = 5", VALUES, Some(10)),
+    (NATS, b"let n = 5", PATTERNS, Some(6)),
+    (NATS, b"= 5", VALUES, Some(0)),
     (NONE, b"", VALUES, None),
     (NONE, b"5", VALUES, Some(0)),
     (NONE, b",", VALUES, Some(0)),
@@ -79,7 +85,9 @@ static ROWS: [Row; 65] = [
     ),
     (ENTRY, b"record { id = 1 .. }", PATTERNS, Some(16)),
     (ENTRY, b"record { 5 = 1 }", VALUES, Some(9)),
-    (ENTRY, b"record { id = let = 1 }", PATTERNS, Some(18)),
+    (ENTRY, b"record { id = let = 1 }", PATTERNS, Some(14)),
+    (ENTRY, b"record { id = 1 = 2 }", VALUES, Some(14)),
+    (ENTRY, b"record { id = n = 1 }", NAMES, Some(14)),
     (
         ENTRY,
         b"record { 7 = true; id = 1; note = \"\"; \"of whom\" = record { owner = principal \"x\" } }",
@@ -111,6 +119,8 @@ static ROWS: [Row; 65] = [
     (BLOB, b"blob n", NAMES, None),
     (LIST, b"vec { null; opt 1; opt _ }", PATTERNS, None),
     (LIST, b"vec { opt null }", VALUES, Some(10)),
+    (LIST, b"vec = 1", VALUES, Some(0)),
+    (LIST, b"vec { opt n = 1 }", NAMES, Some(10)),
     (LIST, b"vec { null null }", VALUES, Some(11)),
     (PRINCIPAL, b"principal \"2vxsx-fae\"", VALUES, None),
     (
@@ -133,6 +143,8 @@ static ROWS: [Row; 65] = [
         None,
     ),
     (REFERENCES, b"service s, func s.m", NAMES, None),
+    (REFERENCES, b"service s, func s.m = 5", NAMES, Some(20)),
+    (REFERENCES, b"service s = 5", NAMES, Some(10)),
     (
         REFERENCES,
         b"service \"aaaaa-aa\", func \"aaaaa-aa\" ,",

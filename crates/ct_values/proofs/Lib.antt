@@ -4,6 +4,7 @@ pub mod Starts
 pub mod Meant
 pub mod Ties
 pub mod Cases
+pub mod PlaceLists
 pub mod Plains
 pub mod Records
 pub mod Values

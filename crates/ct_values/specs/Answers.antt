@@ -6,7 +6,7 @@ use Rattle.ct_values.specs.Steps.{Step, step_views}
 use Rattle.ct_values.specs.declared.fault.PatternFault.{PatternFault}
 use Rattle.ct_values.specs.declared.fault.PatternFault.TheVariants.{NoMemory, Unexpected}
 
--- a fault is at one of so many tokens, or at their end
+-- a fault is at one of the tokens, which are `count`, or at their end
 abbrev pub IsInside : {A : Type 0} → ℕ → Result A PatternFault → Type 0
 IsInside count (Ok x) = Unit {0}
 IsInside count (Err NoMemory) = Unit {0}

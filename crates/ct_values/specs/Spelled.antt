@@ -139,7 +139,7 @@ primitive_value_at admitted p c = alone plain (primitive_at p) 0 c.2 >>= λ x. a
 
 -- ---- lists
 
--- at most so many parts, up to a closing brace: how many they are, with those before
+-- parts up to a closing brace, `most` at most: how many they are, with those before
 unfoldable pub parts_at : Giving Bool → ℕ → ℕ → Giving ℕ
 parts_at read zero count c = if starts (is_mark 125) c.2 then Some (count, c) else None
 parts_at read (suc most) count c = if starts (is_mark 125) c.2 then Some (count, c) else (read c >>= λ x. separator_at x.1 >>= parts_at read most (suc count))
@@ -217,7 +217,7 @@ ended_or admitted said next c =
     else if starts_others admitted c.2 then (others_at c >>= λ d. Some ((true, said), d))
     else next
 
--- at most so many fields
+-- fields, `most` at most
 unfoldable pub fields_said_at : Admitted → (TyRef → Giving Bool) → List (ℕ × TyRef) → ℕ → Said → Giving (Bool × Said)
 fields_said_at admitted read fields zero said c = ended_or admitted said None c
 fields_said_at admitted read fields (suc most) said c = ended_or admitted said (field_at read fields said c >>= λ x. separator_at x.1 >>= fields_said_at admitted read fields most x.0) c
@@ -286,7 +286,7 @@ shape_at admitted depth table read (primitive p) c = primitive_value_at admitted
 shape_at admitted depth table read (compound entry) c = entry_at admitted depth table read entry c
 shape_at admitted depth table read dangling c = None
 
--- a value within so many levels, or what is in its place
+-- a value that nests at most `depth` levels deep, or what is in its place
 unfoldable pub value_at : Admitted → List Entry → ℕ → TyRef → Giving Bool
 value_at admitted table zero type c = None
 value_at admitted table (suc depth) type c =

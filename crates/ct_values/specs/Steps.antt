@@ -52,4 +52,4 @@ abbrev pub Said : Type 0
 Said = List ℕ × ℕ
 
 abbrev pub said_view : HeldSaid → Said
-said_view said = (said.places.items, said.next)
+said_view said = (said.places.keys, said.next)

@@ -7,6 +7,7 @@
 
 mod cursor;
 mod fault;
+mod label;
 pub mod laws;
 mod plain;
 mod reader;

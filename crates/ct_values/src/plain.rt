@@ -156,7 +156,7 @@ impl<'r> Reader<'r> {
         Ok(is_value)
     }
 
-    // At most so many bytes, up to a closing brace: how many they are.
+    // Bytes up to a closing brace, `most` at most: how many they are.
     fn bytes(
         &self,
         depth: u32,

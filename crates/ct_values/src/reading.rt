@@ -9,6 +9,7 @@ ghost use Rattle.ct_values.specs.Spelled.{annotated_at, parts_at, list_at, opt_a
 
 use crate::cursor::Cursor;
 use crate::fault::PatternFault;
+use crate::label::told_at;
 use crate::reader::{Admitted, Reader};
 use crate::said::Said;
 use cd_codec::Value;
@@ -71,7 +72,7 @@ impl<'r> Reader<'r> {
         Ok(is_value)
     }
 
-    // A value that is said by its type; its parts are within so many levels.
+    // A value that is said by its type; its parts nest at most `depth` levels deep.
     #[cycle(reader)]
     fn typed(&self, depth: u32, ty: TyRef, cursor: &mut Cursor<'_, '_>) -> Result<(), ReadError>
         requires { depth + 1 < 2 ^ 32 }
@@ -130,7 +131,7 @@ impl<'r> Reader<'r> {
         cursor.mark(b'}')
     }
 
-    // At most so many values, up to a closing brace: how many they are.
+    // Values up to a closing brace, `most` at most: how many they are.
     #[cycle(reader)]
     fn items(
         &self,
@@ -173,11 +174,12 @@ impl<'r> Reader<'r> {
         if !self.said_fields(depth, fields, most, &mut said, cursor)? {
             self.missing_fields(depth, fields, &mut said, cursor)?;
         }
-        cursor.put(at, Step::Rec(said.into_places()));
+        let places = said.places(self.alloc)?;
+        cursor.put(at, Step::Rec(places));
         cursor.mark(b'}')
     }
 
-    // At most so many fields, up to a closing brace. True: the others may be any.
+    // Fields up to a closing brace, `most` at most. True: the others may be any.
     #[cycle(reader)]
     fn said_fields(
         &self,
@@ -328,7 +330,7 @@ impl<'r> Reader<'r> {
 
 /// The pattern that tokens say, which are those between the parentheses: a value of each type. Names
 /// that are admitted are read as any value. Time grows with the tokens, and at each record with the
-/// fields of its type times those that it says.
+/// fields of its type.
 #[tactic(auto, unfolding(crate::specs::Spelled::spelled))]
 pub fn pattern_of<'a>(
     alloc: Global,
@@ -358,7 +360,8 @@ pub fn pattern_of<'a>(
         Ok(()) => Ok(cursor.steps),
         Err(ReadError::NoMemory) => Err(PatternFault::NoMemory),
         Err(ReadError::Refused) => {
-            let index = tokens.len().saturating_sub(cursor.rest.len());
+            let seen = tokens.len().saturating_sub(cursor.rest.len());
+            let index = told_at(tokens, seen);
             Err(PatternFault::Unexpected { index })
         }
     }

@@ -1,17 +1,18 @@
-ghost use Rattle.std.specs.Prelude.{◌≡◌, ◌++◌, ◌∷◌, [], Some};
+ghost use Rattle.std.specs.Prelude.{◌≡◌, ◌++◌, ◌∷◌, [], false, Some};
 ghost use Rattle.ic_base.specs.Gives.{Gives};
 ghost use Rattle.ct_values.specs.Steps.{said_view};
 ghost use Rattle.ct_values.specs.Spelled.{is_said, also};
 
 use ct_patterns::Places;
 use ic_base::ReadError;
+use indexmap::IndexSet;
 use std::alloc::Global;
 
 /// The fields of a record that were said: their places, and the id of one without label that would
 /// follow.
 #[derive(Drop)]
 pub(crate) struct Said {
-    pub(crate) places: Vec<u32>,
+    pub(crate) places: IndexSet<u32>,
     pub(crate) next: u64,
 }
 
@@ -20,7 +21,7 @@ impl Said {
         ensures { said_view result ≡ ([], 0) }
     {
         Said {
-            places: Vec::new(alloc),
+            places: IndexSet::new(alloc),
             next: 0,
         }
     }
@@ -31,16 +32,20 @@ impl Said {
         self.next
     }
 
+    #[tactic(auto, using(crate::proofs::PlaceLists::has_place))]
     pub(crate) fn contains(&self, place: u32) -> bool
-        ensures { result ≡ is_said place self.now.places.items }
+        ensures { result ≡ is_said place self.now.places.keys }
     {
         self.places.contains(&place)
     }
 
+    /// Adds a place that is not there.
+    #[tactic(auto, using(crate::proofs::PlaceLists::put_last))]
     pub(crate) fn push(&mut self, place: u32) -> Result<(), ReadError>
-        ensures { Gives (λ done. said_view self.new) result (Some (self.old.places.items ++ place ∷ [], self.old.next)) }
+        requires { is_said place self.old.places.keys ≡ false }
+        ensures { Gives (λ done. said_view self.new) result (Some (self.old.places.keys ++ place ∷ [], self.old.next)) }
     {
-        self.places.push(place)?;
+        self.places.insert(place)?;
         Ok(())
     }
 
@@ -56,9 +61,11 @@ impl Said {
         Ok(())
     }
 
-    pub(crate) fn into_places(self) -> Places
-        ensures { result.items.items ≡ self.places.items }
+    /// The places, in the order in which they were said.
+    pub(crate) fn places(&self, alloc: Global) -> Result<Places, ReadError>
+        ensures { Gives (λ places. places.items.items) result (Some self.now.places.keys) }
     {
-        Places { items: self.places }
+        let items = Vec::from_slice(alloc, self.places.as_slice())?;
+        Ok(Places { items })
     }
 }
