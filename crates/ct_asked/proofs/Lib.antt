@@ -1,0 +1,3 @@
+mod Said
+mod Moves
+pub mod Once
