@@ -14,6 +14,7 @@ mod source;
 mod sources;
 
 pub use fault::FileFault;
+pub use management::MANAGEMENT;
 pub use named::named_files;
 pub use quoting::quoted;
 pub use source::Source;

@@ -3,7 +3,7 @@ ghost use Rattle.std.specs.Result.{result_ok};
 ghost use Rattle.ct_sources.specs.Files.{file_at, bytes_at, file_named, wasm_place, interface_id, interface_file, interface_of, interface_text, with_file};
 ghost use Rattle.ct_sources.specs.IsSourceOf.{IsSourceOf};
 
-use crate::management::management;
+use crate::management::{MANAGEMENT, management};
 use crate::source::Source;
 use cd_did::Interface;
 use ct_scope::{ByName, InterfaceId};
@@ -35,7 +35,7 @@ impl Sources {
     pub fn new(alloc: Global) -> Result<Sources, NoMemory>
         ensures files { IfOk result (λ sources. sources.files ≡ []) }
         ensures places { IfOk result (λ sources. sources.places ≡ []) }
-        ensures management { IfOk result (λ sources. IsSourceOf sources.management.bytes sources.management) }
+        ensures management { IfOk result (λ sources. IsSourceOf MANAGEMENT.now sources.management) }
     {
         Ok(Sources {
             files: Vec::new(alloc),
