@@ -17,6 +17,8 @@ use Rattle.cd_codec.specs.Basic.{SpellsCounted}
 use Rattle.ic_behaviour.specs.declared.install.Mode.{Mode}
 use Rattle.ic_behaviour.specs.declared.install.Mode.TheVariants.{Install, Reinstall, Upgrade}
 use Rattle.ic_mgmt_requests.specs.declared.ids.TheConstants.{ARG, REINSTALL, WASM_MODULE, MODE, CANISTER_ID, SKIP_PRE_UPGRADE, UPGRADE, SETTINGS, INSTALL, AMOUNT}
+use Rattle.ic_mgmt_candid.specs.Types.{canister_type}
+use Rattle.ic_mgmt_candid.specs.Replies.{canister_value}
 use Rattle.ic_mgmt_candid.proofs.Typed.{Has, HasParts}
 use Rattle.ic_mgmt_requests.specs.Requests.{creation_type, installation_type, amount_value, creation_value, skips, mode_value, installation_value}
 
@@ -33,6 +35,10 @@ module _ (table : List Entry) where
   case_typed : (t : TyRef) (cases : List (ℕ × TyRef)) (case : ℕ × TyRef) (i : ℕ) (v : Content)
       → shape table t ≡ compound (Var cases) → slice_get cases i ≡ Some case → i < 2 ^ 128 → Has table case.1 v → Has table t (variant i v)
   case_typed t cases case i v e at few h = (unsigned_spelling i ++ h.0, (cases, e, case, at, unsigned_spelling i, h.0, refl, unsigned_spelled Candid i few, h.1))
+
+  principal_typed : (id : List ℕ) → length id ≤ 29 → Has table (Prim P.Principal) (plain (principal id))
+  principal_typed id short =
+      (1 ∷ (unsigned_spelling (length id) ++ id), (refl, (unsigned_spelling (length id) ++ id, refl, (short, counted id (omega (arith, short))))))
 
   nothing_typed : HasParts table [] no_part
   nothing_typed = ([], (refl, refl))
@@ -93,11 +99,20 @@ installation_typed mode canister wasm arg short few small =
     let m : ℕ × TyRef = (MODE, Index 3) in
     let c : ℕ × TyRef = (CANISTER_ID, Prim P.Principal) in
     let id = plain (principal canister) in
-    let named : Has table (Prim P.Principal) id =
-    (1 ∷ (unsigned_spelling (length canister) ++ canister), (refl, (unsigned_spelling (length canister) ++ canister, refl, (short, counted canister (omega (arith, short)))))) in
-    let last = field_typed table c [] id no_part named (nothing_typed table) in
+    let last = field_typed table c [] id no_part (principal_typed table canister short) (nothing_typed table) in
     let two = field_typed table m (c ∷ []) (mode_value mode) (part CANISTER_ID id no_part) (mode_typed mode) last in
     let three = field_typed table w (m ∷ c ∷ []) (blob wasm) (part MODE (mode_value mode) (part CANISTER_ID id no_part)) (blob_typed table (Index 2) (Prim P.Nat8) wasm refl refl few) two in
     let four = field_typed table a (w ∷ m ∷ c ∷ []) (blob arg) (part WASM_MODULE (blob wasm) (part MODE (mode_value mode) (part CANISTER_ID id no_part))) (blob_typed table (Index 1) (Prim P.Nat8) arg refl refl small) three in
     one_typed table (Index 0) (installation_value mode canister wasm arg)
     (record_typed table (Index 0) (a ∷ w ∷ m ∷ c ∷ []) (part ARG (blob arg) (part WASM_MODULE (blob wasm) (part MODE (mode_value mode) (part CANISTER_ID id no_part)))) refl four)
+
+-- ---- a canister that a reply names
+
+pub canister_typed : (id : List ℕ) → length id ≤ 29 → HasTypes canister_type.0 canister_type.1 (canister_value id ∷ [])
+unfolding canister_type
+canister_typed id short =
+    let table = canister_type.0 in
+    let field : ℕ × TyRef = (CANISTER_ID, Prim P.Principal) in
+    one_typed table (Index 0) (canister_value id)
+    (record_typed table (Index 0) (field ∷ []) (part CANISTER_ID (plain (principal id)) no_part) refl
+    (field_typed table field [] (plain (principal id)) no_part (principal_typed table id short) (nothing_typed table)))

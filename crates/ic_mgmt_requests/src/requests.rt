@@ -1,5 +1,5 @@
 ghost use Rattle.std.specs.Prelude.{◌≡◌, ◌<◌, ◌^◌, length, IfOk, IfSome};
-ghost use Rattle.cd_codec.specs.View.{view, views};
+ghost use Rattle.cd_codec.specs.View.{view};
 ghost use Rattle.ic_mgmt_requests.specs.Requests.{amount_value, creation_value, creation_argument, skips, mode_value, installation_value, installation_argument};
 
 use crate::ids::{AMOUNT, ARG, CANISTER_ID, MODE, SETTINGS, SKIP_PRE_UPGRADE, WASM_MODULE};

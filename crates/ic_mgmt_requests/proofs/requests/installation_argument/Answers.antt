@@ -1,4 +1,4 @@
-use Rattle.std.proofs.Common.{rules, ◌≡◌, List, [], ◌∷◌}
+use Rattle.std.proofs.Common.{rules, [], ◌∷◌}
 use Rattle.cd_codec.specs.View.{views}
 use Rattle.ic_mgmt_candid.proofs.Told.{typed_by}
 use Rattle.ic_mgmt_requests.specs.Requests.{installation_type, installation_value}
