@@ -1,7 +1,7 @@
 -- What a move asks, by its action.
 use Rattle.std.proofs.Common.{◌≡◌, ℕ, false, List, refl, sym, subst, inl, inr}
 use Rattle.std.specs.Prelude.{Result, Ok, Err, IfOk}
-use Rattle.ic_behaviour.specs.declared.install.Mode.TheVariants.{Reinstall, Upgrade}
+use Rattle.ic_behaviour.specs.declared.install.Mode.TheVariants.{Upgrade}
 use Rattle.ic_script.specs.declared.Ask.{Ask}
 use Rattle.ct_sources.specs.Files.{Files}
 use Rattle.ct_check.specs.Moving.{Moving}

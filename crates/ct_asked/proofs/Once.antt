@@ -1,5 +1,5 @@
 -- A move asks one thing.
-use Rattle.std.proofs.Common.{◌≡◌, ℕ, false, List, Option, Some, None, sym, ap, ◌∙◌, subst, inl, inr}
+use Rattle.std.proofs.Common.{◌≡◌, ℕ, false, List, Option, Some, sym, ap, ◌∙◌, subst, inl, inr}
 use Rattle.ic_base.proofs.Steps.{some_is}
 use Rattle.ic_behaviour.specs.declared.install.Mode.{Mode}
 use Rattle.ic_behaviour.specs.declared.install.Mode.TheVariants.{Reinstall, Upgrade}

@@ -12,7 +12,7 @@ use Rattle.ct_check.specs.declared.checked.CheckedMessage.{CheckedMessage}
 use Rattle.ct_outcomes.specs.declared.named.Named.{Named}
 use Rattle.ct_outcomes.specs.Types.{Types}
 use Rattle.ct_outcomes.specs.Arguments.{IsArgument}
-use Rattle.ct_asked.specs.Requests.{Code, installing}
+use Rattle.ct_asked.specs.Requests.{Code}
 use Rattle.ct_asked.specs.Asked.{principal_at, types_of, init_types_of, IsMessage, IsCode, IsChange, IsCreation}
 
 none_is_some : {A : Type 0} (found : Option A) (x : A) → found ≡ None → found ≡ Some x → ⊥

@@ -1,5 +1,5 @@
 -- What a move of a test asks, with what the names stand for, or why nothing is asked.
-use Rattle.std.specs.Prelude.{◌≡◌, ◌⊎◌, ℕ, false, IsTrue, nat_lt, if◌then◌else◌, List, length, option_map, Option, Some, None}
+use Rattle.std.specs.Prelude.{◌≡◌, ◌⊎◌, ℕ, false, IsTrue, nat_lt, if◌then◌else◌, List, length, option_map, Option, Some}
 use Rattle.ic_base.specs.Reader.{◌>>=◌}
 use Rattle.cd_types.specs.declared.entry.TyRef.{TyRef}
 use Rattle.cd_did.specs.declared.fault.Interface.{Interface}

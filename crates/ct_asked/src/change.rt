@@ -1,5 +1,4 @@
 ghost use Rattle.std.specs.Prelude.{IfOk, IsTrue, ◌↔◌};
-ghost use Rattle.ic_behaviour.specs.declared.install.Mode.TheVariants as modes;
 ghost use Rattle.ct_outcomes.specs.Answers.{Finds};
 ghost use Rattle.ct_asked.specs.declared.asked.Asked.TheVariants.{Call};
 ghost use Rattle.ct_asked.specs.Asked.{Asks, AsksUpgrade, IsChange, IsUpgradable};
