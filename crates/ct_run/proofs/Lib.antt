@@ -1,0 +1,5 @@
+mod Calls
+mod Steps
+mod One
+mod Walks
+mod Acts

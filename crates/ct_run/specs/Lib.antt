@@ -1,0 +1,4 @@
+pub mod Called
+pub mod Created
+pub mod Statements
+pub mod Runs
