@@ -126,7 +126,7 @@ module _ (meeting_once : MeetsOnce) (setting : Setting) where
   stops_once s names (k ∷ ks) (suc place) zero came instead last known (acts, bound, met, stops) (y, same) = absurd (met_not_unmet s names k acts bound instead met y)
   stops_once s names (k ∷ ks) (suc place) (suc other) came instead last known (acts, bound, met, stops) (others, bound', met', stops') =
       let rest = stops_once (after_acts setting.charge s acts) (names ++ bound) ks place other came instead last known stops
-          (stops_again s names k ks other instead known acts others bound bound' met met' stops') in
+      (stops_again s names k ks other instead known acts others bound bound' met met' stops') in
       (ap suc rest.0, rest.1, rest.2)
 
   pub one_failure : (ks : List CheckedKind) (place other : ℕ) (came instead : Came) (names others : List Named) → Fails setting ks place came names → Fails setting ks other instead others

@@ -37,6 +37,6 @@ returns-in-Some-failure g c =
     let stops = rw (steps, c.in-Some-failure.is) at c.in_ok-world-2.ensures in
     let front : length c.preamble.inside.items.items ≡ length c.args.preamble.now = ap length c.preamble.view_is in
     let place : c.in-Some-failure.failure.place + c.len.result ≡ length c.args.preamble.now + c.in-Some-failure.failure.place =
-        omega (arith, front, c.len.ensures, c.preamble.inside.items.ok) in
+    omega (arith, front, c.len.ensures, c.preamble.inside.items.ok) in
     stops_after c.args.self.now empty c.in_ok-world.world c.args.names.now _ _ c.args.preamble.now (without_interleaves c.args.test.now.steps) first.0
     c.in-Some-failure.failure.place (c.in-Some-failure.failure.place + c.len.result) c.in-Some-failure.failure.unmet.came place first.1 stops
