@@ -1,4 +1,5 @@
 ghost use Rattle.std.specs.Prelude.{◌≡◌, ◌↔◌, [], IfOk, IsTrue};
+ghost use Rattle.std.specs.Bool.{OnTrue, OnFalse};
 ghost use Rattle.ic_keep.specs.Kept.{Tables, kept_without_messages, state_at};
 ghost use Rattle.ic_keep.specs.Key.{key_of};
 
@@ -6,7 +7,7 @@ use crate::key::{key_of_messages, key_of_requests};
 use crate::messages::KeptMessages;
 use crate::parts::KeptCanister;
 use ic_base::NoMemory;
-use ic_exact::{Same, Shared, same_items, unshared};
+use ic_exact::{Exact, Same, Shared, copied, same_items, unshared};
 use ic_state::{Messages, Request};
 use std::alloc::Global;
 use std::marker::Model;
@@ -90,6 +91,29 @@ impl Kept {
     {
         Ok(Messages {
             items: unshared(alloc, self.messages.as_slice())?,
+        })
+    }
+
+    /// Whether any message is under way.
+    pub fn has_messages(&self) -> bool
+        ensures some { OnTrue result (¬ (self.now.messages ≡ [])) }
+        ensures none { OnFalse result (self.now.messages ≡ []) }
+    {
+        !self.messages.as_slice().is_empty()
+    }
+
+    /// The same state, kept by the same `Keeper`.
+    pub fn copy(&self, alloc: Global) -> Result<Kept, NoMemory>
+        ensures { IfOk result (λ copy. copy ≡ self.now) }
+    {
+        Ok(Kept {
+            canisters: copied(alloc, self.canisters.as_slice())?,
+            messages: self.messages.copy(alloc)?,
+            requests: copied(alloc, self.requests.as_slice())?,
+            time: self.time,
+            created: self.created,
+            burned: self.burned,
+            next_canister: self.next_canister,
         })
     }
 

@@ -3,7 +3,7 @@ ghost use Rattle.ic_order.specs.Order.{SameWays};
 ghost use Rattle.ic_order.specs.Sorted.{IsByWays};
 
 use ic_base::NoMemory;
-use ic_exact::{Same, Shared, copied, same_items};
+use ic_exact::{Exact, Same, Shared, copied, same_items};
 use ic_order::{sorted_lists_tell, way_of};
 use ic_state::Message;
 use std::alloc::Global;
@@ -84,5 +84,14 @@ impl KeptMessages {
 impl Same for KeptMessages {
     fn same(&self, other: &KeptMessages) -> bool {
         same_items(self.items.as_slice(), other.items.as_slice())
+    }
+}
+
+impl Exact for KeptMessages {
+    fn copy(&self, alloc: Global) -> Result<KeptMessages, NoMemory> {
+        Ok(KeptMessages {
+            items: copied(alloc, self.items.as_slice())?,
+            by_ways: copied(alloc, self.by_ways.as_slice())?,
+        })
     }
 }
