@@ -57,8 +57,16 @@ impl Machine for Steps {
 #[cfg(test)]
 mod tests {
     use super::*;
-    use ct_search::explore;
+    use ct_search::{Case, dive, explore};
     use std::test::Fail;
+
+    // What is counted in a case, and by how many moves.
+    fn seen(cases: &[Case<u8>], place: usize) -> (u8, usize) {
+        match cases.get(place) {
+            Some(case) => (case.kept, case.order.len()),
+            None => (9, 9),
+        }
+    }
 
     // What is counted so far, by the number of moves: 0; 1, 2; 2, 3; 3.
     #[test]
@@ -68,10 +76,7 @@ mod tests {
         starts.push(0)?;
         let met = explore(alloc, &Steps, &mut (), starts, 6)?;
         assert!(rt; met.all);
-        let found = [0, 1, 2, 3, 4, 5].map(|place| match met.cases.get(place) {
-            Some(case) => (case.kept, case.order.len()),
-            None => (9, 9),
-        });
+        let found = [0, 1, 2, 3, 4, 5].map(|place| seen(&met.cases, place));
         assert_eq!(rt; found, [(0, 0), (1, 1), (2, 1), (2, 2), (3, 2), (3, 3)]);
         Ok(())
     }
@@ -84,6 +89,29 @@ mod tests {
         let met = explore(alloc, &Steps, &mut (), starts, 5)?;
         assert!(rt; !met.all);
         assert_eq!(rt; met.cases.len(), 5);
+        Ok(())
+    }
+
+    // The second start is one with the first; three that is a start and three that is reached are two.
+    #[test]
+    fn two_starts_that_are_one(rt: HostRuntime) -> Result<(), Fail> {
+        let alloc = rt.alloc();
+        let starts = Vec::from_slice(alloc, &[2, 2, 3])?;
+        let met = explore(alloc, &Steps, &mut (), starts, 6)?;
+        assert!(rt; met.all);
+        let found = [0, 1, 2, 3].map(|place| seen(&met.cases, place));
+        assert_eq!(rt; found, [(2, 0), (3, 0), (3, 1), (9, 9)]);
+        Ok(())
+    }
+
+    // By ones to three, and then the moves by two, from the last case that has one.
+    #[test]
+    fn depth_first(rt: HostRuntime) -> Result<(), Fail> {
+        let alloc = rt.alloc();
+        let starts = Vec::from_slice(alloc, &[0])?;
+        let cases = dive(alloc, &Steps, &mut (), starts, 6)?;
+        let found = [0, 1, 2, 3, 4, 5].map(|place| seen(&cases, place));
+        assert_eq!(rt; found, [(0, 0), (1, 1), (2, 2), (3, 3), (3, 2), (2, 1)]);
         Ok(())
     }
 }
