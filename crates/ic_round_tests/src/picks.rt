@@ -2,5 +2,6 @@
 
 mod keeping;
 mod managing;
+mod searching;
 mod tests;
 mod worlds;

@@ -8,8 +8,8 @@ use ic_state::World;
 use std::alloc::{AllocError, Global};
 use std::test::*;
 
-// The user with this number calls, if there are fewer than 1,000 calls.
-fn asked(
+/// The user with this number calls, if there are fewer than 1,000 calls.
+pub(crate) fn asked(
     alloc: Global,
     world: World,
     user: u64,

@@ -1,5 +1,6 @@
 use crate::picks::managing::Management;
 use ic_base::NoMemory;
+use ic_order::next_places;
 use ic_principal::{Bytes, Principal, Text};
 use ic_schedule::{eligible, replay};
 use ic_state::World;
@@ -52,17 +53,27 @@ fn are_picked(alloc: Global, world: World) -> bool {
     }
 }
 
+// The calls of users may come in any order.
+fn all_may_come(alloc: Global, world: &World) -> bool {
+    match next_places(alloc, &world.parts().messages.items) {
+        Ok(places) => places.as_slice() == [0, 1, 2, 3, 4],
+        Err(_) => false,
+    }
+}
+
 fn are_delivered(alloc: Global) -> bool {
     match calls(alloc) {
         Ok(world) => {
             let seen = [0, 1, 2, 3, 4, 5].map(|place| eligible(&world, place));
-            seen == [true, true, true, false, true, false] && are_picked(alloc, world)
+            seen == [true, true, true, false, true, false]
+                && all_may_come(alloc, &world)
+                && are_picked(alloc, world)
         }
         Err(_) => false,
     }
 }
 
-// Only an earlier message of the same sender to the same callee stands in the way.
+// Only an earlier message of the same sender to the same callee is in the way of a pick.
 #[test]
 fn of_two_users(rt: HostRuntime) {
     assert!(rt; are_delivered(rt.alloc()));
