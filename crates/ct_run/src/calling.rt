@@ -2,7 +2,7 @@ ghost use Rattle.std.specs.Prelude.{◌≡◌, ◌<◌, length, IfOk};
 ghost use Rattle.std.specs.Option.{option_copied};
 ghost use Rattle.ic_state.specs.Seen.{answer_at};
 ghost use Rattle.ic_behaviour.specs.State.{State};
-ghost use Rattle.ct_run.specs.Called.{Done, acts_of_rounds, after_acts, called, came_now, came_of, doing, nothing, if_accepted};
+ghost use Rattle.ct_run.specs.Called.{Done, acts_of_rounds, after_acts, called, came_now, came_of, doing, if_accepted, most_calls, nothing};
 ghost use Rattle.ic_asking.specs.Asking.{answer_now};
 
 use crate::runner::Runner;
