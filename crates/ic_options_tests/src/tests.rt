@@ -1,3 +1,4 @@
+use ct_words::{Choice, TestOptions};
 use ic_base::NoMemory;
 use ic_options::Options;
 use std::alloc::Global;
@@ -76,11 +77,63 @@ fn is_taken(alloc: Global, line: &str, wanted: Numbers) -> bool {
     }
 }
 
+// The words of `canister_test`: the limit, the price, the states, which tests and which files they ask for.
+static TESTS: [(&str, &str); 5] = [
+    ("canister_test a", "50000000 0 20000 all a"),
+    (
+        "canister_test a --only b --states=7 -- c --only",
+        "50000000 0 7 only b a c --only",
+    ),
+    (
+        "canister_test --script b --limit 1 --price 2 a",
+        "1 2 20000 script b a",
+    ),
+    ("canister_test --only b --script b a", "refused"),
+    ("canister_test --only b", "refused"),
+];
+
+fn tests() -> &'static [(&'static str, &'static str)] {
+    &TESTS
+}
+
+fn shown(alloc: Global, options: &TestOptions) -> Result<String, NoMemory> {
+    let (limit, price, states) = (options.limit, options.price, options.states);
+    let mut text = match &options.choice {
+        Choice::All => format!(in alloc; "{limit} {price} {states} all")?,
+        Choice::Only(part) => format!(in alloc; "{limit} {price} {states} only {}", part.items)?,
+        Choice::Script(name) => format!(in alloc;
+            "{limit} {price} {states} script {}",
+            name.items
+        )?,
+    };
+    for file in &options.files.items {
+        text.push(' ')?;
+        text.push_str(file.items.as_str())?;
+    }
+    Ok(text)
+}
+
+fn asked(alloc: Global, line: &str) -> Result<String, NoMemory> {
+    match TestOptions::read(alloc, &words(alloc, line)?)? {
+        None => String::from_str(alloc, "refused"),
+        Some(options) => shown(alloc, &options),
+    }
+}
+
 #[test]
 fn words_are_taken(rt: HostRuntime) {
     for (line, wanted) in taken() {
         assert!(rt; is_taken(rt.alloc(), line, *wanted), "{line}");
     }
+}
+
+#[test]
+fn words_of_tests_are_read(rt: HostRuntime) -> Result<(), NoMemory> {
+    for (line, wanted) in tests() {
+        let found = asked(rt.alloc(), line)?;
+        assert!(rt; found.as_str() == *wanted, "{line} {found}");
+    }
+    Ok(())
 }
 
 // As clap 4.0.32 refuses them.
