@@ -35,7 +35,7 @@ static TOKENS: [Row; 26] = [
 ];
 
 /// Faults of the grammar.
-static GRAMMAR: [Row; 42] = [
+static GRAMMAR: [Row; 45] = [
     (b"user", "1:5: expected a name"),
     (b"user \"a\";", "1:6: expected a name"),
     (b"user a = principal;", "1:19: expected a text"),
@@ -111,6 +111,9 @@ static GRAMMAR: [Row; 42] = [
         "1:12: expected a statement or '}'",
     ),
     (b"user a;\x0d\n\x09user b c;", "2:9: expected ';'"),
+    (b"user a; // \"\nuser b c;", "2:8: expected ';'"),
+    (b"user a; /* \" */ user b c;", "1:24: expected ';'"),
+    (b"test \"//\" { } user", "1:15: expected 'test'"),
 ];
 
 /// Faults in files.

@@ -1,6 +1,7 @@
 //! Types of methods, as what follows a table in the header of a message.
 
 use cd_codec::{Expected, read_header};
+use cd_did::Interface;
 use std::alloc::Global;
 
 /// The table that all rows share:
@@ -38,13 +39,31 @@ pub(crate) const REFERENCES: &[u8] = b"\x02\x09\x0a";
 /// nothing
 pub(crate) const NONE: &[u8] = b"\x00";
 
-/// The table, and these types of it.
-pub(crate) fn expected_of(alloc: Global, types: &[u8]) -> Option<Expected> {
+fn header_of(alloc: Global, types: &[u8]) -> Option<Vec<u8>> {
     let mut header = Vec::new(alloc);
     header.extend_from_slice(TABLE).ok()?;
     header.extend_from_slice(types).ok()?;
+    Some(header)
+}
+
+/// The table, and these types of it.
+pub(crate) fn expected_of(alloc: Global, types: &[u8]) -> Option<Expected> {
+    let header = header_of(alloc, types)?;
     match read_header(alloc, &header) {
         Ok(header) => Some(Expected::of(header.table, header.types.items)),
+        Err(_) => None,
+    }
+}
+
+/// An interface with the table, whose service is installed with these types.
+pub(crate) fn interface_of(alloc: Global, types: &[u8]) -> Option<Interface> {
+    let header = header_of(alloc, types)?;
+    match read_header(alloc, &header) {
+        Ok(header) => Some(Interface {
+            table: header.table,
+            service: None,
+            init: header.types,
+        }),
         Err(_) => None,
     }
 }
