@@ -56,7 +56,7 @@ fn are_picked(alloc: Global, world: World) -> bool {
 // The calls of users may come in any order.
 fn all_may_come(alloc: Global, world: &World) -> bool {
     match next_places(alloc, &world.parts().messages.items) {
-        Ok(places) => places.as_slice() == [0, 1, 2, 3, 4],
+        Ok(places) => places.as_slice() == [0, 1, 2, 3, 4].as_slice(),
         Err(_) => false,
     }
 }
