@@ -1,6 +1,7 @@
 -- What tests print: TAP version 13 (Test Anything Protocol), with a block for each test that fails.
-use Rattle.std.specs.Prelude.{ℕ, ◌++◌, ◌==◌, List, [], ◌∷◌, codes, decimal, if◌then◌else◌}
-use Rattle.std.specs.List.{flat_map}
+use Rattle.std.specs.Prelude.{ℕ, suc, ◌+◌, ◌++◌, ◌==◌, List, [], ◌∷◌, codes, count_by, decimal, take, if◌then◌else◌}
+use Rattle.std.specs.List.{flat_map, suffix_len}
+use Rattle.ct_file.specs.Position.{is_line_feed, is_inside_line}
 use Rattle.ct_report.specs.declared.tap.Counts.{Counts}
 
 -- what ends a printed line
@@ -17,6 +18,13 @@ passed_text number name = codes "ok " ++ decimal number ++ codes " - " ++ name +
 
 unfoldable pub failed_text : ℕ → List ℕ → List ℕ
 failed_text number name = codes "not ok " ++ decimal number ++ codes " - " ++ name ++ newline
+
+-- how many tests ended, and the number of the next one
+abbrev pub ended : Counts → ℕ
+ended counts = counts.passed + counts.failed + counts.undecided
+
+abbrev pub next_number : Counts → ℕ
+next_number counts = ended counts + 1
 
 -- the last line
 unfoldable pub counts_text : Counts → List ℕ
@@ -37,3 +45,17 @@ key_text key text = codes "  " ++ key ++ codes ": '" ++ doubled text ++ codes "'
 -- the block of a statement that is not met: where it is, what was expected, and what came
 unfoldable pub block_text : (at expected got : List ℕ) → List ℕ
 block_text at expected got = codes "  ---" ++ newline ++ key_text (codes "at") at ++ key_text (codes "expected") expected ++ key_text (codes "got") got ++ codes "  ..." ++ newline
+
+-- the line and the column of a place of a text, from 1
+abbrev pub line_at : (text : List ℕ) → (place : ℕ) → ℕ
+line_at text place = suc (count_by is_line_feed (take place text))
+
+abbrev pub column_at : (text : List ℕ) → (place : ℕ) → ℕ
+column_at text place = suc (suffix_len is_inside_line (take place text))
+
+-- a position in a test file, by its name on the command line, and that of a place
+unfoldable pub position_text : (name : List ℕ) → (line column : ℕ) → List ℕ
+position_text name line column = name ++ codes ":" ++ decimal line ++ codes ":" ++ decimal column
+
+abbrev pub place_text : (name text : List ℕ) → (place : ℕ) → List ℕ
+place_text name text place = position_text name (line_at text place) (column_at text place)

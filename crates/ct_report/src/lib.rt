@@ -2,6 +2,10 @@
 //! failed.
 #![tactic(auto)]
 
+mod block;
+mod came;
+mod naming;
 mod tap;
 
+pub use block::TestFile;
 pub use tap::{Counts, failed, passed, plan, push_block};

@@ -1,9 +1,9 @@
-ghost use Rattle.std.specs.Prelude.{◌≡◌, ◌↔◌, ◌++◌, true, IfOk, OnOk};
-ghost use Rattle.ct_report.specs.Texts.{block_text, counts_text, doubled, doubled_byte, failed_text, key_text, passed_text, plan_text};
+ghost use Rattle.std.specs.Prelude.{◌≡◌, ◌↔◌, ◌+◌, ◌++◌, true, IfOk, OnOk};
+ghost use Rattle.ct_report.specs.Texts.{block_text, counts_text, doubled, doubled_byte, failed_text, key_text, next_number, passed_text, plan_text};
 
 use ic_base::NoMemory;
 use ic_principal::{Bytes, Text};
-use std::alloc::Global;
+use std::alloc::{AllocError, Global};
 
 /// How many tests ended how.
 #[derive(Clone, Copy, Debug, PartialEq, Eq)]
@@ -13,9 +13,18 @@ pub struct Counts {
     pub undecided: usize,
 }
 
+// A sum. Memory ends before there are so many tests that they have no number.
+fn sum(a: usize, b: usize) -> Result<usize, NoMemory>
+    ensures { IfOk result (λ sum. sum ≡ a + b) }
+{
+    a.checked_add(b).ok_or(AllocError)
+}
+
 impl Counts {
     /// No tests.
-    pub fn new() -> Counts {
+    pub fn new() -> Counts
+        ensures { result ≡ record { passed = 0; failed = 0; undecided = 0 } }
+    {
         Counts {
             passed: 0,
             failed: 0,
@@ -24,21 +33,27 @@ impl Counts {
     }
 
     /// The number of the next test, from 1.
-    pub fn next(&self) -> usize {
-        self.passed
-            .saturating_add(self.failed)
-            .saturating_add(self.undecided)
-            .saturating_add(1)
+    pub fn next(&self) -> Result<usize, NoMemory>
+        ensures { IfOk result (λ number. number ≡ next_number self.now) }
+    {
+        let decided = sum(self.passed, self.failed)?;
+        sum(sum(decided, self.undecided)?, 1)
     }
 
     /// One more passed.
-    pub fn pass(&mut self) {
-        self.passed = self.passed.saturating_add(1);
+    pub fn pass(&mut self) -> Result<(), NoMemory>
+        ensures { OnOk result (self.new ≡ record self.old { passed = self.old.passed + 1 }) }
+    {
+        self.passed = sum(self.passed, 1)?;
+        Ok(())
     }
 
     /// One more failed.
-    pub fn fail(&mut self) {
-        self.failed = self.failed.saturating_add(1);
+    pub fn fail(&mut self) -> Result<(), NoMemory>
+        ensures { OnOk result (self.new ≡ record self.old { failed = self.old.failed + 1 }) }
+    {
+        self.failed = sum(self.failed, 1)?;
+        Ok(())
     }
 
     /// Whether each test passed.
