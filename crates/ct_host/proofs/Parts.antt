@@ -1,5 +1,5 @@
 -- A text has a part just where this is a slice of it.
-use Rattle.std.proofs.Common.{◌≡◌, ◌⊎◌, ◌==◌, ◌||◌, ℕ, Bool, true, false, List, [], ◌∷◌, ◌++◌, length, drop, refl, ap, inl, inr}
+use Rattle.std.proofs.Common.{◌≡◌, ◌⊎◌, ◌↔◌, ◌==◌, ◌||◌, ℕ, Bool, true, false, List, [], ◌∷◌, ◌++◌, length, drop, refl, sym, ap, inl, inr}
 use Rattle.std.specs.Bool.{Decides}
 use Rattle.std.specs.List.{starts_with}
 use Rattle.std.specs.Str.Iter.{HasSubslice}
@@ -27,9 +27,11 @@ from_right false b e = e
 
 found : (part text : List ℕ) → has_part part text ≡ true → HasSubslice text part
 found part [] e = ([], drop (length part) [], (begins_is part []).0 e)
-found part (c ∷ text) e = elim either (begins part (c ∷ text)) (has_part part text) e [
-    inl here ↦ ([], drop (length part) (c ∷ text), (begins_is part (c ∷ text)).0 here)
-  | inr later ↦ (let (a, b, split) = found part text later in (c ∷ a, b, ap (λ (bs : List ℕ). c ∷ bs) split)) ]
+found part (c ∷ text) e =
+    elim (either (begins part (c ∷ text)) (has_part part text) e) [
+      | inl here ↦ ([], drop (length part) (c ∷ text), (begins_is part (c ∷ text)).0 here)
+      | inr later ↦ (let there = found part text later in (c ∷ there.0, there.1, ap (λ (bs : List ℕ). c ∷ bs) there.2))
+    ]
 
 has : (part text : List ℕ) → HasSubslice text part → has_part part text ≡ true
 has part [] ([], b, split) = (begins_is part []).1 b split
@@ -39,3 +41,11 @@ has part (c ∷ text) (x ∷ a, b, split) = from_right (begins part (c ∷ text)
 
 pub part_decides : (part text : List ℕ) → Decides (has_part part text) (HasSubslice text part)
 part_decides part text = (found part text, has part text)
+
+pub has_part_is : (part text : List ℕ) (r : Bool) → ((r ≡ true) ↔ HasSubslice text part) → r ≡ has_part part text
+has_part_is part text true is = sym (has part text (is.0 refl))
+has_part_is part text false is = by (has_part part text) refl
+  where
+    by : (b : Bool) → has_part part text ≡ b → false ≡ b
+    by true e = absurd (let both : false ≡ true = is.1 (found part text e) in cc)
+    by false e = refl

@@ -1,14 +1,22 @@
 -- Tests one after another, as loops take them.
-use Rattle.std.proofs.Common.{◌≡◌, ◌≢◌, ◌⊎◌, ◌↔◌, ℕ, Bool, true, false, List, [], ◌∷◌, ◌++◌, Option, Some, None, All, refl, sym, ap, ◌∙◌, subst, inl, inr, append_assoc}
+use Rattle.std.proofs.Common.{◌≡◌, ◌≢◌, ◌⊎◌, ◌↔◌, ℕ, Bool, true, false, List, [], ◌∷◌, ◌++◌, Option, Some, None, All, length, ◌+◌, refl, sym, ap, ap₂, ◌∙◌, subst, inl, inr, append_assoc}
+use Rattle.std.specs.Prelude.{Result, Ok, Err, IfOk}
+use Rattle.std.proofs.lemmas.List.Elements.{All-cons, All-tail}
 use Rattle.std.proofs.lemmas.List.{append-nil}
 use Rattle.std.specs.Io.KnownBytes.{append_known}
 use Rattle.ic_behaviour.specs.declared.charge.Charge.{Charge}
 use Rattle.ct_check.specs.declared.checked.CheckedTest.{CheckedTest}
+use Rattle.ct_outcomes.specs.declared.came.Came.{Came}
+use Rattle.ct_outcomes.specs.declared.named.Named.{Named}
+use Rattle.ct_run.specs.Runs.{Fails}
 use Rattle.ct_report.specs.declared.tap.Counts.{Counts}
+use Rattle.ct_report.specs.Texts.{block_text, counts_text, failed_text, next_number, place_text, plan_text}
+use Rattle.ct_report.specs.Told.{Tells}
 use Rattle.ct_words.specs.declared.Choice.{Choice}
-use Rattle.ct_host.specs.Chosen.{Chosen, chosen_in, chosen_tests, is_chosen}
+use Rattle.ct_host.specs.Chosen.{Chosen, IsPlain, chosen_in, chosen_tests, is_chosen, statements_of}
 use Rattle.ct_host.specs.Looking.{Suite}
-use Rattle.ct_host.specs.Reports.{TellsTest, TellsTests}
+use Rattle.ct_host.specs.Reports.{IsReport, IsVerdict, TellsTest, TellsTests, no_counts, setting_of}
+use Rattle.ct_host.specs.declared.status.Status.{Status}
 
 -- ---- those that are meant
 
@@ -69,3 +77,42 @@ module _ (charge : Charge) where
 pub known_more : (before : Option (List ℕ)) (first second : List ℕ) → append_known (append_known before first) second ≡ append_known before (first ++ second)
 known_more None first second = refl
 known_more (Some bytes) first second = ap (λ (b : List ℕ). Some b) (append_assoc bytes first second)
+
+-- a whole report is the plan, what is told of the tests, and the counts
+pub reported : (charge : Charge) (tests : List Chosen) (before first second after : Option (List ℕ)) (plan text : List ℕ) (start counts : Counts) (status : Status)
+    → plan ≡ plan_text (length tests) → first ≡ append_known before plan → start ≡ no_counts
+    → ((told : List ℕ) × TellsTests charge tests start told counts × (second ≡ append_known first told))
+    → text ≡ counts_text counts → after ≡ append_known second text → IsVerdict counts status
+    → (report : List ℕ) × IsReport charge tests report status × (after ≡ append_known before report)
+reported charge tests before first second after plan text start counts status planned printed none (told, tells, more) summed last verdict = (
+  plan ++ (told ++ text),
+  (
+    told,
+    counts,
+    subst (λ (k : Counts). TellsTests charge tests k told counts) none tells,
+    ap₂ (λ (p s : List ℕ). p ++ (told ++ s)) planned summed ∙ sym (append_assoc (plan_text (length tests)) told (counts_text counts)),
+    verdict,
+  ),
+  last
+      ∙ ap (λ (t : Option (List ℕ)). append_known t text) (more ∙ ap (λ (t : Option (List ℕ)). append_known t told) printed)
+      ∙ known_more (append_known before plan) told text
+      ∙ known_more before plan (told ++ text),
+)
+
+-- what is told of a test that failed
+pub told_failed : {E : Type 0} (charge : Charge) (chosen : Chosen) (counts next : Counts) (number place start : ℕ) (title name text : List ℕ) (came : Came) (names : List Named) (r : Result (List ℕ) E)
+    → Fails (setting_of charge chosen.suite.sourced) (statements_of chosen) place came names → number ≡ next_number counts
+    → title ≡ chosen.test.name → name ≡ chosen.suite.sourced.name → text ≡ chosen.suite.sourced.text → next ≡ record counts { failed = counts.failed + 1 }
+    → IfOk r (λ told. (expected : List ℕ) × (got : List ℕ) × Tells came got × (told ≡ failed_text number title ++ block_text (place_text name text start) expected got))
+    → IfOk r (λ told. TellsTest charge chosen counts told next)
+told_failed charge chosen counts next number place start title name text came names (Err e) fails numbered titled named written counted is = tt
+told_failed charge chosen counts next number place start title name text came names (Ok told) fails numbered titled named written counted (expected, got, tells, is) =
+    let block = block_text (place_text chosen.suite.sourced.name chosen.suite.sourced.text start) expected got in
+    let here : told ≡ failed_text (next_number counts) chosen.test.name ++ block = rw (numbered, titled, named, written) at is in
+    inr (place, came, names, block, fails, (start, expected, got, tells, refl), here, counted)
+
+-- ---- tests without interleaves
+
+pub plain_more : (all rest : List Chosen) (x : Chosen) (xs : List Chosen) → rest ≡ x ∷ xs → IsPlain x → (All IsPlain rest ↔ All IsPlain all) → All IsPlain xs ↔ All IsPlain all
+plain_more all rest x xs split plain so_far =
+    (λ h. so_far.0 (subst (All IsPlain) (sym split) (All-cons IsPlain x xs plain h)), λ h. All-tail IsPlain x xs (subst (All IsPlain) split (so_far.1 h)))

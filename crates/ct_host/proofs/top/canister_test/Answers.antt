@@ -22,5 +22,6 @@ returns-clause-write g c = λ is.
     let run = c.run_words-ended.ensures in
     let over = is_over (g.D.Disk.gives c.args.disk.now) (options_of (map string_bytes c.args.words.now)) _ _ c.run_words-ended.result (λ none. (run.refused none).1) run.ended in
     elim (rose _ _ c.run_words-ended.result c.conclude.result (g.K.Sink.faults c.args.outputs.now.out) over c.conclude.ensures.status is) [
-        inl broke ↦ inl (let e : g.K.Sink.faults c.conclude.new.self.out ≡ next_count (g.K.Sink.faults c.args.outputs.now.out) = rw c.conclude.ensures.out (run.counted ∙ broke) in omega (arith, e))
-      | inr (told, e, more) ↦ inr (let m : g.E.Sink.faults c.conclude.new.self.err ≡ next_count (g.E.Sink.faults c.args.outputs.now.err) = rw (sym (run.silent told e)) more in omega (arith, m)) ]
+      | inl broke ↦ inl (let e : g.K.Sink.faults c.conclude.new.self.out ≡ next_count (g.K.Sink.faults c.args.outputs.now.out) = rw c.conclude.ensures.out (run.counted ∙ broke) in omega (arith, e))
+      | inr (told, e, more) ↦ inr (let m : g.E.Sink.faults c.conclude.new.self.err ≡ next_count (g.E.Sink.faults c.args.outputs.now.err) = rw (sym (run.silent told e)) more in omega (arith, m))
+    ]
