@@ -11,7 +11,7 @@ ghost use Rattle.ct_host.specs.Ends.{EndsRefused, EndsWell, Hinders, HindersTest
 ghost use Rattle.ct_host.specs.Looking.{first_of, why_of};
 ghost use Rattle.ct_host.specs.Statuses.{status_of};
 
-use crate::choosing::{are_ready, chosen_tests};
+use crate::choosing::{Chosen, are_ready, chosen_tests};
 use crate::disk::Disk;
 use crate::looking::{Looked, Suite, check_all, load, source};
 use crate::outputs::Outputs;
@@ -47,6 +47,25 @@ fn first_of(first: Option<Told>, later: Option<Told>) -> Option<Told>
     }
 }
 
+// Runs tests that are meant, or says why they cannot be run.
+fn run_chosen<'i, R: Threads + Sync, K: Sink + Drop, E: Sink + Drop, G: Gate + Sync>(
+    session: &Session<'i, R, G>,
+    choice: &Choice,
+    tests: &[Chosen<'_, 'i, '_>],
+    outputs: &mut Outputs<K, E>,
+) -> Result<Status, Stop>
+    ensures ended { IfOk result (RunsChosen session.now.charge choice.now tests.now (K.taken outputs.old.out) (K.taken outputs.new.out)) }
+    ensures told { (told : ATold) → result ≡ Err (stops.Told told)
+        → (outputs.new ≡ outputs.old) × HindersTests choice.now tests.now told.why }
+    ensures counted { K.faults outputs.new.out ≡ faults_then (K.faults outputs.old.out) result }
+{
+    are_ready(session.alloc, choice, tests)?;
+    match session.perform(choice, tests, outputs) {
+        Ok(status) => Ok(status),
+        Err(broken) => Err(Stop::Broken(broken)),
+    }
+}
+
 // Runs the tests that are meant, of files of which all holds that must.
 fn run_suites<'i, R: Threads + Sync, K: Sink + Drop, E: Sink + Drop, G: Gate + Sync>(
     session: &Session<'i, R, G>,
@@ -61,11 +80,7 @@ fn run_suites<'i, R: Threads + Sync, K: Sink + Drop, E: Sink + Drop, G: Gate + S
     ensures counted { K.faults outputs.new.out ≡ faults_then (K.faults outputs.old.out) result }
 {
     let tests = chosen_tests(session.alloc, choice, suites)?;
-    are_ready(session.alloc, choice, &tests)?;
-    match session.perform(choice, &tests, outputs) {
-        Ok(status) => Ok(status),
-        Err(broken) => Err(Stop::Broken(broken)),
-    }
+    run_chosen(session, choice, &tests, outputs)
 }
 
 // Looks at all files, and runs tests.
