@@ -80,7 +80,7 @@ fn run_suites<'i, R: Threads + Sync, K: Sink + Drop, E: Sink + Drop, G: Gate + S
     ensures counted { K.faults outputs.new.out ≡ faults_then (K.faults outputs.old.out) result }
 {
     let tests = chosen_tests(session.alloc, choice, suites)?;
-    run_chosen(session, choice, &tests, outputs)
+    run_chosen(session, choice, &tests[..], outputs)
 }
 
 // Looks at all files, and runs tests.
