@@ -80,10 +80,19 @@ impl<'a> fmt::Display for CheckCause<'a> {
 }
 
 /// Where something does not hold of a test file, and what: the offset of a byte.
-#[derive(Drop)]
 pub struct CheckFault<'a> {
     pub place: usize,
     pub cause: CheckCause<'a>,
+}
+
+// Not derived, so that it is proved here and not in each crate that drops one.
+impl<'a> Drop for CheckFault<'a> {
+    fn drop(self) {
+        let CheckFault {
+            place: _,
+            cause: _cause,
+        } = self;
+    }
 }
 
 impl<'a> CheckFault<'a> {

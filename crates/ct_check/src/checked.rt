@@ -254,8 +254,17 @@ impl<'f, 'i, 'a> Model for CheckedTests<'f, 'i, 'a> {
 }
 
 /// A test file of which all holds that must.
-#[derive(Drop)]
 pub struct Checked<'f, 'i, 'a> {
     pub preamble: CheckedStatements<'f, 'i, 'a>,
     pub tests: CheckedTests<'f, 'i, 'a>,
+}
+
+// Not derived, so that it is proved here and not in each crate that drops one.
+impl<'f, 'i, 'a> Drop for Checked<'f, 'i, 'a> {
+    fn drop(self) {
+        let Checked {
+            preamble: _preamble,
+            tests: _tests,
+        } = self;
+    }
 }

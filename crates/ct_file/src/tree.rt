@@ -236,8 +236,17 @@ impl<'a> Model for Tests<'a> {
 }
 
 /// A test file: the statements before its tests, and the tests.
-#[derive(Drop)]
 pub struct File<'a> {
     pub preamble: Statements<'a>,
     pub tests: Tests<'a>,
+}
+
+// Not derived, so that it is proved here and not in each crate that drops one.
+impl<'a> Drop for File<'a> {
+    fn drop(self) {
+        let File {
+            preamble: _preamble,
+            tests: _tests,
+        } = self;
+    }
 }

@@ -12,11 +12,21 @@ use wm_valid::Valid;
 
 /// A file as it was read: its bytes, and what they are as a module and as an interface, or why they are
 /// none. Contracts see the bytes, whether they are a module, and the interface.
-#[derive(Drop)]
 pub struct Source {
     pub bytes: Bytes,
     pub wasm: Result<Valid, Text>,
     pub interface: Result<Interface, Text>,
+}
+
+// Not derived, so that it is proved here and not in each crate that drops one.
+impl Drop for Source {
+    fn drop(self) {
+        let Source {
+            bytes: _bytes,
+            wasm: _wasm,
+            interface: _interface,
+        } = self;
+    }
 }
 
 impl Model for Source {

@@ -14,12 +14,22 @@ use std::marker::Model;
 
 /// The files that a test file names, in the order in which they were put in, and the interface file of
 /// the management canister. Contracts see these.
-#[derive(Drop)]
 pub struct Sources {
     // A file that could not be read has no source.
     files: Vec<Option<Source>>,
     places: ByName<usize>,
     management: Source,
+}
+
+// Not derived, so that it is proved here and not in each crate that drops one.
+impl Drop for Sources {
+    fn drop(self) {
+        let Sources {
+            files: _files,
+            places: _places,
+            management: _management,
+        } = self;
+    }
 }
 
 impl Model for Sources {
