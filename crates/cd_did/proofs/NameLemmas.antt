@@ -31,11 +31,6 @@ names rows = map (λ (r : Row). r.0) rows
 abbrev cmp : List ℕ → List ℕ → Ordering
 cmp = slice_cmp nat_cmp
 
-lt_false_eq : (o : Ordering) → is_lt o ≡ true → is_eq o ≡ false
-lt_false_eq Less e = refl
-lt_false_eq Equal e = absurd cc
-lt_false_eq Greater e = absurd cc
-
 lt_is : (o : Ordering) → is_lt o ≡ true → o ≡ Less
 lt_is Less e = refl
 lt_is Equal e = absurd cc

@@ -88,7 +88,7 @@ stuck : (defs : Definitions) (i : ℕ) (k : ℕ) → next_place defs i ≡ i →
 stuck defs i zero e = refl
 stuck defs i (suc k) e = ap (after_steps defs k) e ∙ stuck defs i k e
 
--- what one comes to by so many steps
+-- what one comes to by a number of steps
 pub record Comes (defs : Definitions) (k i : ℕ) (d : List ℕ × Part) : Type 0 where
   pub row : List ℕ × Part
   pub there : slice_get defs (after_steps defs k i) ≡ Some row
@@ -164,7 +164,7 @@ around defs p i (suc m) ring =
     let n : suc m * suc p ≡ suc p + m * suc p = grind arith in
     ap (λ k. after_steps defs k i) n ∙ after_sum defs (suc p) (m * suc p) i ∙ ap (after_steps defs (m * suc p)) ring ∙ around defs p i m ring
 
--- a place on a ring is come to by so many steps
+-- a place on a ring is come to by a number of steps
 pub reached : (defs : Definitions) (p i k : ℕ) → after_steps defs (suc p) i ≡ i → after_steps defs k (after_steps defs (k * p) i) ≡ i
 reached defs p i k ring =
     let n : k * p + k ≡ k * suc p = grind arith in

@@ -45,7 +45,7 @@ PartStands P types Float s = ⊥
 PartStands P types (Name name) s = ⊥
 PartStands P types (Place place) s = TypeStands P (slice_get types place) s
 
--- the part stands for the reference, as far as so many levels show; a name is replaced by its definition first
+-- the part means the reference, as far as a number of levels show; a name is replaced by its definition first
 abbrev pub Denotes : ℕ → File → List Entry → Part → TyRef → Type 0
 Denotes zero file table part r = Unit {0}
 Denotes (suc n) file table part r = (found : Part) × StandsBehind file.definitions part found × PartStands (Denotes n file table) file.types found (shape table r)

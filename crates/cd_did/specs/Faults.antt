@@ -49,7 +49,7 @@ name_in _ = None
 abbrev pub next_name : Definitions → List ℕ → Option (List ℕ)
 next_name definitions name = definition_of definitions name >>= name_in
 
--- the name that one comes to by so many definitions, each of which is a name alone
+-- the name that one comes to by a number of definitions, each of which is a name alone
 abbrev pub follow : Definitions → ℕ → List ℕ → Option (List ℕ)
 follow definitions zero name = Some name
 follow definitions (suc k) name = next_name definitions name >>= follow definitions k
@@ -68,7 +68,7 @@ abbrev pub replaced : Definitions → Part → Option Part
 replaced definitions (Name name) = definition_of definitions name
 replaced definitions _ = None
 
--- what one comes to by so many replacements
+-- what one comes to by a number of replacements
 abbrev pub replaced_times : Definitions → ℕ → Part → Option Part
 replaced_times definitions zero part = Some part
 replaced_times definitions (suc k) part = replaced definitions part >>= replaced_times definitions k

@@ -33,12 +33,12 @@ next_from definitions here (Some d) = leads_to definitions here d.1
 abbrev pub next_place : Definitions → ℕ → ℕ
 next_place definitions place = next_from definitions place (slice_get definitions place)
 
--- the place that one comes to by so many steps
+-- the place that one comes to by a number of steps
 abbrev pub after_steps : Definitions → ℕ → ℕ → ℕ
 after_steps definitions zero place = place
 after_steps definitions (suc k) place = after_steps definitions k (next_place definitions place)
 
--- for each definition the place that one comes to by so many steps
+-- for each definition the place that one comes to by a number of steps
 abbrev pub AreJumps : Definitions → ℕ → List ℕ → Type 0
 AreJumps definitions k jumps = (length jumps ≡ length definitions) × ((i : ℕ) → i < length definitions → slice_get jumps i ≡ Some (after_steps definitions k i))
 
@@ -46,7 +46,7 @@ AreJumps definitions k jumps = (length jumps ≡ length definitions) × ((i : �
 abbrev pub HasEnds : Definitions → List ℕ → Type 0
 HasEnds definitions ends = (k : ℕ) × (length definitions ≤ k) × AreJumps definitions k ends
 
--- the next places of so many definitions
+-- the next places of a number of definitions
 abbrev pub firsts : Definitions → ℕ → List ℕ
 firsts definitions zero = []
 firsts definitions (suc n) = firsts definitions n ++ next_place definitions n ∷ []

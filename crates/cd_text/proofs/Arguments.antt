@@ -2,7 +2,6 @@
 use Rattle.std.proofs.Common.{◌≡◌, ℕ, suc, ◌+◌, ◌≤◌, ◌<◌, ◌-◌, Bool, true, false, List, [], ◌∷◌, ◌++◌, length, drop, map, Option, Some, None, refl, sym, ap, subst, ◌∙◌, inl, inr, arith}
 use Rattle.std.specs.Prelude.{◌==◌, ◌&&◌, slice_get, Result, Ok, Err, IfOk, IsTrue}
 use Rattle.std.specs.Str.{is_utf8}
-use Rattle.std.proofs.lemmas.Bool.{false≢true}
 use Rattle.ic_base.specs.declared.read_error.ReadError.{ReadError}
 use Rattle.ic_base.specs.declared.read_error.ReadError.TheVariants.{NoMemory, Refused}
 use Rattle.ic_base.specs.Gives.{Fails, Gives}
@@ -279,9 +278,6 @@ tokens_agree view_of table types tokens (Err Refused) is gives values s = none_s
 pub no_tokens : {A B : Type 0} (view_of : A → List Content) (see : B → List Token) (table : List Entry) (types : List TyRef) (text : List ℕ) (e : ReadError) → ((tokens : List Token) → IsTokens false tokens text → Agrees see (Err e) tokens) → (values : List Content) → Said table types values text → Agrees view_of (Err e) values
 no_tokens view_of see table types text NoMemory law values s = tt
 no_tokens view_of see table types text Refused law values s = law (mark 40 ∷ s.tokens) s.lexed
-
-pub no_utf8 : {A : Type 0} (view_of : A → List Content) (table : List Entry) (types : List TyRef) (text : List ℕ) → is_utf8 text ≡ false → (values : List Content) → Said table types values text → Agrees view_of (Err Refused) values
-no_utf8 view_of table types text bad values s = false≢true (sym bad ∙ s.utf8)
 
 -- ---- as the code counts
 

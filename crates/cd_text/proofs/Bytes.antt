@@ -1,6 +1,5 @@
 -- Values whose bytes are bytes, one more at a time; so what is printed of them says them.
 use Rattle.std.proofs.Common.{◌≡◌, ℕ, ◌+◌, ◌≤◌, ◌<◌, List, [], ◌∷◌, ◌++◌, length, take, get_or, Option, sym, ap, subst, ◌∙◌}
-use Rattle.std.proofs.lemmas.List.{take_all}
 use Rattle.std.specs.Prelude.{IsTrue}
 use Rattle.cd_types.specs.IsTable.{is_table}
 use Rattle.cd_types.specs.declared.entry.Entry.{Entry}
@@ -34,12 +33,6 @@ pub field_held : (items : List (ℕ × Value)) (i : ℕ) (x : ℕ × Value) → 
 field_held items i x below is all one =
     let more = seen_more (λ (f : ℕ × Value). (f.0, view f.1)) items i x below ∙ ap (λ (y : ℕ × Value). views_of_fields (take i items) ++ (y.0, view y.1) ∷ []) (sym is) in
     subst (λ ps. HoldsBytesParts (parts_of ps)) (sym more) (parts_push (views_of_fields (take i items)) (x.0, view x.1) all one)
-
-pub values_held : (items : List Value) (i : ℕ) → length items ≤ i → HoldsBytesAll (contents_of (views (take i items))) → HoldsBytesAll (contents_of (views items))
-values_held items i past all = subst (λ xs. HoldsBytesAll (contents_of (views xs))) (take_all i items past) all
-
-pub fields_held : (items : List (ℕ × Value)) (i : ℕ) → length items ≤ i → HoldsBytesParts (parts_of (views_of_fields (take i items))) → HoldsBytesParts (parts_of (views_of_fields items))
-fields_held items i past all = subst (λ xs. HoldsBytesParts (parts_of (views_of_fields xs))) (take_all i items past) all
 
 -- what was printed says the values
 pub printed_back : (names : Option IdNames) (table at : List Entry) (types : List TyRef) (expected : List Entry × List TyRef) (values : List Content) (bytes : List ℕ) → AreLabels names → IsTrue (is_table table) → table ≡ expected.0 → at ≡ expected.0 → types ≡ expected.1

@@ -231,9 +231,6 @@ word_at_takes {A} w x tokens z e = elim (true_or_false (starts (is_word w) token
   | inr never ↦ let f : None ≡ Some z = rw never at e in absurd cc
 ]
 
-word_at_again : {A : Type 0} (w : List ℕ) (x : A) (rest : List Token) → word_at w x (run w ∷ rest) ≡ Some (x, rest)
-word_at_again w x rest = rw (same_bytes w) refl
-
 -- ---- a value of a primitive type
 
 made_takes : {A : Type 0} (P : Words A) (Q : Words Plain) (f : A → Plain) (read : Taking A) → Takes P read → ((x : A) (front : List Token) → P x front → Q (f x) front) → Takes Q (taken f read)

@@ -6,7 +6,7 @@ use Rattle.std.proofs.Math.ListN.{drop_of_length-le}
 use Rattle.std.proofs.Math.Seq.{drop-cons}
 use Rattle.cd_types.specs.declared.entry.Entry.{Entry}
 use Rattle.cd_types.specs.Shape.{shape}
-use Rattle.std.proofs.lemmas.List.{append-nil, length-append, length-map, map_push, reverse-append}
+use Rattle.std.proofs.lemmas.List.{append-nil, length-append, map_push, reverse-append}
 use Rattle.std.specs.Prelude.{Err}
 use Rattle.ic_base.specs.declared.read_error.ReadError.{ReadError}
 use Rattle.ic_base.specs.declared.read_error.ReadError.TheVariants.{NoMemory, Refused}
@@ -243,14 +243,6 @@ no_room depth table fields said left rise none = elim (true_or_false (fits field
       rw (good, few) refl
 ]
 
--- not all fit
-pub not_fitting : (depth : ℕ) (table : List Entry) (fields : List (ℕ × TyRef)) (said : List (ℕ × Content)) (left : ℕ) → slots_at fields said ≡ None → made depth table fields said left ≡ None
-unfolding made
-not_fitting depth table fields said left none = elim (true_or_false (fits fields said)) [
-  | inr bad ↦ rw bad refl
-  | inl good ↦ let f : Some (map (λ f. value_of said f.0) fields) ≡ None = rw good at none in absurd cc
-]
-
 -- all fit, and fields are left out
 pub record_is : (depth : ℕ) (table : List Entry) (fields : List (ℕ × TyRef)) (said : List (ℕ × Content)) (slots : List (Option Content)) (left less : ℕ) → ids_rise_from 0 (map (λ f. f.0) fields) ≡ true → (nat_le (length said) (length fields) && nat_le (length fields - length said) left) ≡ true
     → slots_at fields said ≡ Some slots → less ≡ left - (length fields - length said) → made depth table fields said left ≡ (filled_slots depth table fields slots >>= λ ps. Some (record_of (parts_of ps), less))
@@ -285,12 +277,6 @@ pub parts_end : (depth : ℕ) (table : List Entry) (fields : List (ℕ × TyRef)
 parts_end depth table fields slots all parts new none now h =
     all_taken depth table fields (map slot_view slots) all (views_of_fields parts) (ap (map slot_view) none) h ∙ ap (λ (xs : List (ℕ × Content)). Some xs) (sym (ap views_of_fields now ∙ views_reverse parts))
 
-pub slots_count : (fields : List (ℕ × TyRef)) (said : List (ℕ × Content)) (slots : List (Option Content)) → slots_at fields said ≡ Some slots → length slots ≡ length fields
-slots_count fields said slots e = elim (true_or_false (fits fields said)) [
-  | inr bad ↦ let f : None ≡ Some slots = rw bad at e in absurd cc
-  | inl good ↦ let is = some_is {A = List (Option Content)} (map (λ f. value_of said f.0) fields) slots (rw good at e) in rw (sym is) (length-map fields (λ f. value_of said f.0))
-]
-
 -- as the code counts
 pub no_room_for : (depth : ℕ) (table : List Entry) (fields : List (ℕ × TyRef)) (said : List (ℕ × Content)) (count left : ℕ) (room : Bool) → ids_rise_from 0 (map (λ f. f.0) fields) ≡ true → count ≡ length said → room ≡ (nat_le count (length fields) && nat_le (length fields - count) left) → room ≡ false
     → made depth table fields said left ≡ None
@@ -305,7 +291,3 @@ made_is depth table fields said slots count again left room rise many same is fi
 pub no_parts : {A B C : Type 0} (view_of : C → B) (e : ReadError) (total : Option B) (read : Option A) (f : A → Option B) → total ≡ (read >>= f) → Fails e read → Gives view_of (Err e) total
 no_parts view_of NoMemory total read f is none = tt
 no_parts view_of Refused total read f is none = is ∙ ap (λ r. r >>= f) none
-
-pub slots_fail : (e : ReadError) (depth : ℕ) (table : List Entry) (fields : List (ℕ × TyRef)) (said : List (ℕ × Content)) (left : ℕ) → Fails e (slots_at fields said) → Fails e (made depth table fields said left)
-slots_fail NoMemory depth table fields said left none = tt
-slots_fail Refused depth table fields said left none = not_fitting depth table fields said left none

@@ -353,9 +353,6 @@ not_said id (f ∷ said) h =
     let t = both (not (id == f.0)) (is_absent id said) h in
     rw (not_true (id == f.0) t.0) (not_said id said t.1)
 
-known_not : (type : TyRef) (found : Option TyRef) → found ≡ Some type → found ≡ None → ⊥
-known_not type found e f = cc
-
 -- a value of no field changes nothing
 none_said : (x : ℕ × Content) (more : List (ℕ × Content)) (fields : List (ℕ × TyRef)) → type_of fields x.0 ≡ None → (weight (x ∷ more) fields ≡ weight more fields) × (absent (x ∷ more) fields ≡ absent more fields)
 unfolding weight
@@ -448,7 +445,7 @@ none_absent : (fields : List (ℕ × TyRef)) → absent [] fields ≡ length fie
 none_absent [] = refl
 none_absent (f ∷ fields) = let i = none_absent fields in omega (arith, i)
 
--- so many are not said
+-- as many are not said
 pub absent_count : (fields : List (ℕ × TyRef)) → are_fields fields → (said : List (ℕ × Content)) → fits fields said ≡ true → absent said fields + length said ≡ length fields
 absent_count fields are [] h = let i = none_absent fields in omega (arith, i)
 absent_count fields are (x ∷ said) h =

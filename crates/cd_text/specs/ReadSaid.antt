@@ -1,4 +1,4 @@
--- How values are said, as functions that read tokens, within a depth and with so many values allowed.
+-- How values are said, as functions that read tokens, within a depth and a number of values.
 use Rattle.std.specs.Prelude.{ℕ, zero, suc, Bool, true, false, ◌^◌, ◌==◌, ◌&&◌, nat_le, List, [], ◌∷◌, length, drop, map, Option, Some, None, slice_get, codes, if◌then◌else◌, ◌+◌, ◌-◌}
 use Rattle.ic_base.specs.Reader.{◌>>=◌}
 use Rattle.cd_types.specs.declared.primitive.Primitive.{Primitive}

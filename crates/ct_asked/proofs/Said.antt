@@ -4,7 +4,7 @@ use Rattle.ic_base.proofs.Steps.{some_is}
 use Rattle.ic_behaviour.specs.declared.install.Mode.{Mode}
 use Rattle.ic_script.specs.declared.Ask.{Ask}
 use Rattle.ct_scope.specs.declared.bound.InterfaceId.{InterfaceId}
-use Rattle.ct_sources.specs.Files.{Files, bytes_at}
+use Rattle.ct_sources.specs.Files.{Files, file_bytes}
 use Rattle.ct_check.specs.Filling.{Filling}
 use Rattle.ct_check.specs.declared.checked.CheckedChange.{CheckedChange}
 use Rattle.ct_check.specs.declared.checked.CheckedCreation.{CheckedCreation}
@@ -41,7 +41,7 @@ module _ (files : Files) (names : List Named) (wasm : ℕ) (interface : Interfac
   pub code_types : init_types_of files interface ≡ None → (code : Code) → IsCode files names wasm interface arguments code → ⊥
   code_types none code is = none_is_some _ is.types none is.typed
 
-  pub code_file : bytes_at files wasm ≡ None → (code : Code) → IsCode files names wasm interface arguments code → ⊥
+  pub code_file : file_bytes files wasm ≡ None → (code : Code) → IsCode files names wasm interface arguments code → ⊥
   code_file none code is = none_is_some _ code.wasm none is.file
 
   pub code_argument : (types : Types) → init_types_of files interface ≡ Some types

@@ -8,7 +8,7 @@ use Rattle.ic_behaviour.specs.declared.install.Mode.{Mode}
 use Rattle.ic_behaviour.specs.declared.install.Mode.TheVariants.{Reinstall, Upgrade}
 use Rattle.ic_script.specs.declared.Ask.{Ask}
 use Rattle.ct_scope.specs.declared.bound.InterfaceId.{InterfaceId}
-use Rattle.ct_sources.specs.Files.{Files, bytes_at, interface_of}
+use Rattle.ct_sources.specs.Files.{Files, file_bytes, interface_of}
 use Rattle.ct_check.specs.Filling.{Filling}
 use Rattle.ct_check.specs.Moving.{Moving}
 use Rattle.ct_check.specs.declared.checked.CheckedAction.{CheckedAction}
@@ -60,7 +60,7 @@ pub record IsMessage (files : Files) (names : List Named) (by : ℕ) (message : 
 -- the module of a file, and what is filled in as its argument
 pub record IsCode (files : Files) (names : List Named) (wasm : ℕ) (interface : InterfaceId) (arguments : Option Filling) (code : Code) : Type 0 where
   pub types : Types
-  pub file : bytes_at files wasm ≡ Some code.wasm
+  pub file : file_bytes files wasm ≡ Some code.wasm
   pub typed : init_types_of files interface ≡ Some types
   pub argument : IsArgument types names arguments code.arg
 

@@ -114,14 +114,6 @@ both meaning (name ∷ names) more = ap (λ (ms : List (List Token)). meaning na
 pub meanings_start : (meaning : Meanings) (roles : List Role) (tokens : List PlacedToken) → AreRoles roles tokens → map meaning (used_by roles (placed_views tokens)) ≡ map meaning (used_names (placed_views tokens))
 meanings_start meaning roles tokens are = rw are (ap (map meaning) (used_are (placed_views tokens)))
 
-pub meanings_more : (meaning : Meanings) (read new total : List (List Token)) (roles : List Role) (tokens : List PlacedToken) (i : ℕ) (placed : PlacedToken) (r : Role) → AreRoles roles tokens → i < length tokens → placed ≡ get_or tokens i placed
-    → r ≡ get_or roles i Other → new ≡ read ++ map meaning (used_name r (placed_view placed)) → read ++ map meaning (used_by (drop i roles) (placed_views (drop i tokens))) ≡ total
-    → new ++ map meaning (used_by (drop (i + 1) roles) (placed_views (drop (i + 1) tokens))) ≡ total
-meanings_more meaning read new total roles tokens i placed r are within at is news so_far =
-    let rest = placed_views (drop (i + 1) tokens) in
-    let here : read ++ map meaning (used_by (r ∷ drop (i + 1) roles) (placed_view placed ∷ rest)) ≡ total = rw (role_there roles tokens i r are within is, there tokens i placed within at) at so_far in
-    rw news (append_assoc read (map meaning (used_name r (placed_view placed))) (map meaning (used_by (drop (i + 1) roles) rest)) ∙ ap (λ (ms : List (List Token)). read ++ ms) (sym (both meaning (used_name r (placed_view placed)) (used_by (drop (i + 1) roles) rest))) ∙ here)
-
 pub meanings_end : (meaning : Meanings) (read total : List (List Token)) (roles : List Role) (tokens : List PlacedToken) (i : ℕ) → length tokens ≤ i → read ++ map meaning (used_by (drop i roles) (placed_views (drop i tokens))) ≡ total → read ≡ total
 meanings_end meaning read total roles tokens i all so_far =
     let done : read ++ [] ≡ total = rw (past tokens i all, none_used (drop i roles)) at so_far in

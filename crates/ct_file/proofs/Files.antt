@@ -35,10 +35,6 @@ file_again tokens text file are is =
 pub file_only : (tokens : List Token) (text : List ℕ) (file : File) (rest : List Token) → AreTokens tokens text → file_at tokens ≡ Some (file, rest) → (other : File) → IsFile other text → file ≡ other
 file_only tokens text file rest are e other is = ap (λ (z : File × List Token). z.0) (some_is {A = File × List Token} (file, rest) (other, []) (sym e ∙ file_again tokens text other are is))
 
--- a text with a fault of its tokens is no file
-pub no_file_tokens : {A : Type 0} (fault : Option A) (x : A) (text : List ℕ) → ((tokens : List Token) → AreTokens tokens text → fault ≡ None) → fault ≡ Some x → (file : File) → IsFile file text → ⊥
-no_file_tokens fault x text only e file is = let f : None ≡ Some x = sym (only (file_tokens file) is.are) ∙ e in absurd cc
-
 -- and one whose tokens are no file is none
 none_some : {A : Type 0} (x : A) (read : Option A) → read ≡ None → read ≡ Some x → ⊥
 none_some x read e f = cc

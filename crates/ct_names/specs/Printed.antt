@@ -11,9 +11,9 @@ abbrev pub is_script_word : List ℕ → Bool
 is_script_word name = not (length name == 0) && (nat_le (length name) 20000 && list_all is_script_byte name)
 
 -- no control character, `#` (35) or `\` (92)
-abbrev pub is_plain : ℕ → Bool
-is_plain byte = nat_le 32 byte && (not (byte == 127) && (not (byte == 35) && not (byte == 92)))
+abbrev pub is_plain_byte : ℕ → Bool
+is_plain_byte byte = nat_le 32 byte && (not (byte == 127) && (not (byte == 35) && not (byte == 92)))
 
 -- a name of a test that TAP prints as it is
 abbrev pub is_test_name : List ℕ → Bool
-is_test_name name = not (length name == 0) && list_all is_plain name
+is_test_name name = not (length name == 0) && list_all is_plain_byte name

@@ -1,6 +1,6 @@
 ghost use Rattle.std.specs.Prelude.{◌≡◌};
 ghost use Rattle.std.specs.List.{list_all};
-ghost use Rattle.ct_names.specs.Printed.{is_script_byte, is_script_word, is_plain, is_test_name};
+ghost use Rattle.ct_names.specs.Printed.{is_script_byte, is_script_word, is_plain_byte, is_test_name};
 
 /// How long the name of a method may be in a script.
 const LONGEST: usize = 20_000;
@@ -25,16 +25,16 @@ pub fn is_script_word(name: &[u8]) -> bool
 }
 
 // Whether TAP gives the byte of a name no meaning.
-fn is_plain(byte: u8) -> bool
-    ensures { result ≡ is_plain byte }
+fn is_plain_byte(byte: u8) -> bool
+    ensures { result ≡ is_plain_byte byte }
 {
     byte >= 0x20 && byte != 0x7F && byte != b'#' && byte != b'\\'
 }
 
 fn are_plain(name: &[u8]) -> bool
-    ensures { result ≡ list_all is_plain name.now }
+    ensures { result ≡ list_all is_plain_byte name.now }
 {
-    name.iter().all(|byte| is_plain(*byte))
+    name.iter().all(|byte| is_plain_byte(*byte))
 }
 
 /// Whether TAP prints the name of a test as it is.

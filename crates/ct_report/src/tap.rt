@@ -13,7 +13,7 @@ pub struct Counts {
     pub undecided: usize,
 }
 
-// A sum. Memory ends before there are so many tests that they have no number.
+// A sum. Memory ends before a test has no number.
 fn sum(a: usize, b: usize) -> Result<usize, NoMemory>
     ensures { IfOk result (λ sum. sum ≡ a + b) }
 {

@@ -1,5 +1,5 @@
 -- What the statements of a test do is a run.
-use Rattle.std.proofs.Common.{◌≡◌, ◌≤◌, ◌<◌, ◌^◌, ℕ, Bool, true, false, cond, ◌&&◌, List, [], ◌∷◌, ◌++◌, length, Option, Some, None, refl, sym, ap, ◌∙◌, subst, inl, inr, nat_le, nat_lt, arith}
+use Rattle.std.proofs.Common.{◌≡◌, ◌<◌, ◌^◌, ℕ, Bool, true, false, cond, ◌&&◌, List, [], ◌∷◌, ◌++◌, length, Option, Some, None, refl, sym, ap, ◌∙◌, subst, inl, inr, nat_le, nat_lt, arith}
 use Rattle.std.proofs.lemmas.Bool.{ltb-true, leb-true}
 use Rattle.ic_behaviour.specs.State.{State}
 use Rattle.ic_behaviour.specs.Sound.{Sound}
@@ -7,7 +7,7 @@ use Rattle.ic_behaviour.specs.Submitted.{empty}
 use Rattle.ic_behaviour.proofs.Ties.{sound as sound_from}
 use Rattle.ic_behaviour.proofs.Changes.{empty_tallied}
 use Rattle.ic_behaviour.specs.Steps.{Rules, IsEligible}
-use Rattle.ic_behaviour.specs.Runs.{Act, SetsTime, after, AreAllowed, IsRun}
+use Rattle.ic_behaviour.specs.Runs.{Act, SetsTime, AreAllowed, IsRun}
 use Rattle.ic_behaviour.specs.declared.charge.Charge.{Charge}
 use Rattle.ic_behaviour.specs.declared.install.Mode.TheVariants.{Install}
 use Rattle.ic_behaviour.proofs.RunLaws.{after-append, delivers_allowed, allowed-append}
@@ -27,7 +27,7 @@ use Rattle.ct_asked.specs.declared.asked.Asked.TheVariants.{Call, Query, Nothing
 use Rattle.ct_asked.specs.Asked.{unless_too_long}
 use Rattle.ct_asked.specs.Requests.{Code, creating, installing}
 use Rattle.ct_run.specs.Called.{Doing, rules_of, most_calls, most_rounds, nothing, acts_of_rounds, call_act, with_call, accepted_call, called, doing, after_acts}
-use Rattle.ct_run.specs.Created.{Making, canister_of, then_installed, after_first, making}
+use Rattle.ct_run.specs.Created.{Making, canister_of, then_installed, making}
 use Rattle.ct_run.specs.Statements.{Setting, IsMaking, time_set, IsMet, first_names}
 use Rattle.ct_run.specs.Runs.{Runs}
 

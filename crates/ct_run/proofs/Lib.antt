@@ -1,5 +1,5 @@
 mod Calls
 mod Steps
-mod One
-mod Walks
+pub mod One
+pub mod Walks
 mod Acts

@@ -3,7 +3,6 @@ use Rattle.std.proofs.Common.{◌≡◌, ℕ, zero, suc, List, [], ◌∷◌, �
 use Rattle.ic_base.proofs.Steps.{some_is}
 use Rattle.ic_behaviour.specs.State.{State}
 use Rattle.ic_behaviour.specs.Runs.{Act}
-use Rattle.ct_sources.specs.Files.{Files}
 use Rattle.ct_check.specs.Moving.{Moving}
 use Rattle.ct_check.specs.declared.checked.CheckedCreation.{CheckedCreation}
 use Rattle.ct_check.specs.declared.checked.CheckedKind.{CheckedKind}
@@ -12,16 +11,15 @@ use Rattle.ct_check.specs.declared.checked.CheckedOrigin.TheVariants as origins
 use Rattle.ct_check.specs.declared.checked.CheckedOutcome.{CheckedOutcome}
 use Rattle.ct_outcomes.specs.declared.named.Named.{Named}
 use Rattle.ct_outcomes.specs.declared.came.Came.{Came}
-use Rattle.ct_outcomes.specs.declared.came.Came.TheVariants.{NotPrincipal}
 use Rattle.ct_outcomes.specs.Types.{Types}
 use Rattle.ct_outcomes.specs.Meets.{MeetsOne}
 use Rattle.ct_asked.specs.declared.asked.Asked.{Asked}
 use Rattle.ct_asked.specs.Requests.{Code}
-use Rattle.ct_asked.specs.Asked.{principal_at, types_of, IsAsked, IsCreation}
+use Rattle.ct_asked.specs.Asked.{types_of, IsAsked}
 use Rattle.ct_asked.proofs.Once.{move_once, creation_once}
 use Rattle.ct_run.specs.Called.{doing, after_acts}
 use Rattle.ct_run.specs.Created.{Making, making}
-use Rattle.ct_run.specs.Statements.{Setting, MeetsAt, expected_of, reply_types, IsMoveMet, IsMaking, IsMadeAsExpected, IsMet, IsUnmet, principal_named, name_at}
+use Rattle.ct_run.specs.Statements.{Setting, MeetsAt, expected_of, reply_types, IsMoveMet, IsMaking, IsMadeAsExpected, IsMet, IsUnmet, principal_named}
 use Rattle.ct_run.specs.Runs.{Runs, Stops, Passes, Fails}
 
 -- outcomes that are met bind one thing

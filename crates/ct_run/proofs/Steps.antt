@@ -11,12 +11,11 @@ use Rattle.ct_scope.specs.declared.bound.InterfaceId.{InterfaceId}
 use Rattle.ct_outcomes.specs.declared.named.Named.{Named}
 use Rattle.ct_outcomes.specs.declared.came.Came.{Came}
 use Rattle.ct_outcomes.specs.declared.came.Came.TheVariants.{NotValues}
-use Rattle.ct_outcomes.specs.Types.{Types}
 use Rattle.ct_asked.specs.declared.asked.Asked.{Asked}
 use Rattle.ct_asked.specs.Requests.{Code}
 use Rattle.ct_asked.specs.Asked.{types_of, IsAsked, IsCreation}
 use Rattle.ct_run.specs.Called.{doing, after_acts}
-use Rattle.ct_run.specs.Created.{Making, making}
+use Rattle.ct_run.specs.Created.{making}
 use Rattle.ct_run.specs.Statements.{Setting, MeetsAt, reply_types, expected_of, principal_named, user_named, time_set, unmade, Judges, IsThere, IsMadeBy, Binds}
 use Rattle.ct_run.specs.Runs.{Steps}
 

@@ -23,8 +23,8 @@ abbrev pub file_at : Files → ℕ → Option SourceFile
 file_at sources place = slice_get sources.files place >>= λ file. file
 
 -- its bytes
-abbrev pub bytes_at : Files → ℕ → Option (List ℕ)
-bytes_at sources place = option_map (λ file. file.bytes) (file_at sources place)
+abbrev pub file_bytes : Files → ℕ → Option (List ℕ)
+file_bytes sources place = option_map (λ file. file.bytes) (file_at sources place)
 
 -- the place of the file with a name, and what it is
 abbrev pub file_named : Files → List ℕ → Option (ℕ × SourceFile)

@@ -1,6 +1,6 @@
 ghost use Rattle.std.specs.Prelude.{◌≡◌, ◌++◌, ◌∷◌, [], IfOk, OnOk, option_map};
 ghost use Rattle.std.specs.Result.{result_ok};
-ghost use Rattle.ct_sources.specs.Files.{file_at, bytes_at, file_named, wasm_place, interface_id, interface_file, interface_of, interface_text, with_file};
+ghost use Rattle.ct_sources.specs.Files.{file_at, file_bytes, file_named, wasm_place, interface_id, interface_file, interface_of, interface_text, with_file};
 ghost use Rattle.ct_sources.specs.IsSourceOf.{IsSourceOf};
 
 use crate::management::{MANAGEMENT, management};
@@ -83,7 +83,7 @@ impl Sources {
 
     /// The bytes of the file at a place, if it could be read.
     pub fn bytes(&self, place: usize) -> Option<&Bytes>
-        ensures found { option_map (λ bytes. bytes.now) result ≡ bytes_at self.now place }
+        ensures found { option_map (λ bytes. bytes.now) result ≡ file_bytes self.now place }
     {
         match self.file(place) {
             None => None,

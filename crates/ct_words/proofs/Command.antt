@@ -6,7 +6,8 @@ use Rattle.clap.specs.Walk.{Rule}
 use Rattle.clap.proofs.OnLiterals.{clap_on_literals}
 use Rattle.ic_options.proofs.Exact.{IsPlainLeaf}
 use Rattle.ic_options.proofs.Numbers.{IsNumber, only_place}
-use Rattle.ct_words.specs.Command.{command, limit_rule, price_rule, states_rule}
+use Rattle.ic_options.specs.Command.{limit_rule, price_rule}
+use Rattle.ct_words.specs.Command.{command, states_rule}
 
 pub limit_option : IsNumber command limit_rule 0 1 1000000000000
 limit_option = record { place = omega arith; rule = λ e. refl; parser = refl; named = refl; not_help = refl; not_version = refl; unique = only_place 0 (codes "limit") command.top.rules refl }

@@ -3,13 +3,7 @@ use Rattle.std.specs.Prelude.{Some, codes, true}
 use Rattle.clap.specs.Lexer.{usize_max}
 use Rattle.clap.specs.Simple.{App, new_app, new_rule, with_rule}
 use Rattle.clap.specs.Walk.{Rule, Text}
-use Rattle.ic_options.specs.Command.{default_rule}
-
-abbrev pub limit_rule : Rule
-limit_rule = default_rule (codes "limit") 1 1000000000000 (codes "50000000")
-
-abbrev pub price_rule : Rule
-price_rule = default_rule (codes "price") 0 1000000 (codes "0")
+use Rattle.ic_options.specs.Command.{default_rule, limit_rule, price_rule}
 
 abbrev pub states_rule : Rule
 states_rule = default_rule (codes "states") 1 1000000 (codes "20000")

@@ -1,7 +1,7 @@
 //! The command line of `canister_test`.
 //!
 //! The words are read by `clap`: they are taken where its definition for the command of `specs/Command` takes them, and the
-//! options are what it matches (`specs/Options`). Options stand before, between or after the names of files; after `--` all
+//! options are what it matches (`specs/Options`). Options are before, between or after the names of files; after `--` all
 //! words are names of files.
 #![tactic(auto)]
 

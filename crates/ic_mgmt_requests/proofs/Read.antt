@@ -36,7 +36,7 @@ use Rattle.ic_mgmt_candid.specs.Types.{Types, canister_type, provisional_create_
 use Rattle.ic_mgmt_candid.specs.Demands.{type_of, picked, argument, canister_id, demand_of}
 use Rattle.ic_mgmt_candid.specs.Replies.{canister_value, canister_reply}
 use Rattle.ic_mgmt_requests.specs.declared.ids.TheConstants.{ARG, REINSTALL, WASM_MODULE, MODE, CANISTER_ID, SKIP_PRE_UPGRADE, UPGRADE, SETTINGS, INSTALL, AMOUNT}
-use Rattle.ic_mgmt_requests.specs.Requests.{creation_type, creation_argument, installation_type, installation_argument, amount_value, creation_value, skips, mode_value, installation_value, canister_named}
+use Rattle.ic_mgmt_requests.specs.Requests.{creation_type, creation_argument, installation_type, installation_argument, amount_value, creation_value, skipping, mode_value, installation_value, canister_named}
 use Rattle.ic_mgmt_requests.proofs.Typed.{creation_typed, installation_typed, canister_typed}
 
 -- a test decides subtyping, and a function gives what bytes decode to: laws of crates below
@@ -157,7 +157,7 @@ abbrev read_modes : List (ℕ × TyRef)
 read_modes = (REINSTALL, Prim P.Null) ∷ (UPGRADE, Index 2) ∷ (INSTALL, Prim P.Null) ∷ []
 
 module _ (decided : Decided) where
-  skips_read : IsReadAs installation_type.0 install_type.0 (Index 5) skips (Index 1) skips
+  skips_read : IsReadAs installation_type.0 install_type.0 (Index 5) skipping (Index 1) skipping
   unfolding installation_type install_type below
   skips_read =
       let set : IsReadAs installation_type.0 install_type.0 (Index 6) (some (plain (bool true))) (Index 0) (some (plain (bool true))) =
@@ -176,9 +176,9 @@ module _ (decided : Decided) where
   mode_read Reinstall = (wire_modes, read_modes, refl, refl, 0, plain null, refl, (REINSTALL, Prim P.Null), refl, Prim P.Null, refl, inr (inl (refl, refl)))
   mode_read (Upgrade false) = (wire_modes, read_modes, refl, refl, 1, none, refl, (UPGRADE, Index 4), refl, Index 2, refl, (Index 1, refl, inr (inr (inl refl))))
   mode_read (Upgrade true) =
-      let skipped : IsReadAs installation_type.0 install_type.0 (Index 4) (some skips) (Index 2) (some skips) =
-      (Index 1, refl, inl (Index 5, skips, refl, refl, (decided installation_type.0 install_type.0 (Index 5) (Index 1)).0 refl, skips_read)) in
-      (wire_modes, read_modes, refl, refl, 1, some skips, refl, (UPGRADE, Index 4), refl, Index 2, refl, skipped)
+      let skipped : IsReadAs installation_type.0 install_type.0 (Index 4) (some skipping) (Index 2) (some skipping) =
+      (Index 1, refl, inl (Index 5, skipping, refl, refl, (decided installation_type.0 install_type.0 (Index 5) (Index 1)).0 refl, skips_read)) in
+      (wire_modes, read_modes, refl, refl, 1, some skipping, refl, (UPGRADE, Index 4), refl, Index 2, refl, skipped)
   mode_read Install = (wire_modes, read_modes, refl, refl, 2, plain null, refl, (INSTALL, Prim P.Null), refl, Prim P.Null, refl, inr (inl (refl, refl)))
 
   installation_read : (mode : Mode) (canister wasm arg : List ℕ) → IsReadAt installation_type.0 (Index 0) install_type.0 (Index 5) (installation_value mode canister wasm arg)

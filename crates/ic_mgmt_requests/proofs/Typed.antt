@@ -20,7 +20,7 @@ use Rattle.ic_mgmt_requests.specs.declared.ids.TheConstants.{ARG, REINSTALL, WAS
 use Rattle.ic_mgmt_candid.specs.Types.{canister_type}
 use Rattle.ic_mgmt_candid.specs.Replies.{canister_value}
 use Rattle.ic_mgmt_candid.proofs.Typed.{Has, HasParts}
-use Rattle.ic_mgmt_requests.specs.Requests.{creation_type, installation_type, amount_value, creation_value, skips, mode_value, installation_value}
+use Rattle.ic_mgmt_requests.specs.Requests.{creation_type, installation_type, amount_value, creation_value, skipping, mode_value, installation_value}
 
 counted : (s : List ℕ) → length s < 2 ^ 128 → SpellsCounted s (unsigned_spelling (length s) ++ s)
 counted s few = record { count = unsigned_spelling (length s); whole = refl; counted = unsigned_spelled Candid (length s) few }
@@ -73,7 +73,7 @@ creation_typed cycles fits =
 abbrev modes : List (ℕ × TyRef)
 modes = (REINSTALL, Prim P.Null) ∷ (UPGRADE, Index 4) ∷ (INSTALL, Prim P.Null) ∷ []
 
-skips_typed : Has installation_type.0 (Index 5) skips
+skips_typed : Has installation_type.0 (Index 5) skipping
 unfolding installation_type
 skips_typed =
     let table = installation_type.0 in
@@ -86,7 +86,7 @@ unfolding installation_type
 mode_typed Reinstall = case_typed installation_type.0 (Index 3) modes (REINSTALL, Prim P.Null) 0 (plain null) refl refl (omega arith) ([], (refl, refl))
 mode_typed (Upgrade false) = case_typed installation_type.0 (Index 3) modes (UPGRADE, Index 4) 1 none refl refl (omega arith) (0 ∷ [], (Index 5, refl, refl))
 mode_typed (Upgrade true) =
-    case_typed installation_type.0 (Index 3) modes (UPGRADE, Index 4) 1 (some skips) refl refl (omega arith) (some_typed installation_type.0 (Index 4) (Index 5) skips refl skips_typed)
+    case_typed installation_type.0 (Index 3) modes (UPGRADE, Index 4) 1 (some skipping) refl refl (omega arith) (some_typed installation_type.0 (Index 4) (Index 5) skipping refl skips_typed)
 mode_typed Install = case_typed installation_type.0 (Index 3) modes (INSTALL, Prim P.Null) 2 (plain null) refl refl (omega arith) ([], (refl, refl))
 
 pub installation_typed : (mode : Mode) (canister wasm arg : List ℕ) → length canister ≤ 29 → length wasm < 2 ^ 64 → length arg < 2 ^ 64

@@ -53,14 +53,14 @@ abbrev pub creation_value : Option ℕ → Content
 creation_value cycles = record_of (parts_of ((SETTINGS, none) ∷ (AMOUNT, amount_value cycles) ∷ []))
 
 -- record { skip_pre_upgrade = opt true }
-abbrev pub skips : Content
-skips = record_of (parts_of ((SKIP_PRE_UPGRADE, some (plain (bool true))) ∷ []))
+abbrev pub skipping : Content
+skipping = record_of (parts_of ((SKIP_PRE_UPGRADE, some (plain (bool true))) ∷ []))
 
 -- a case by its place
 abbrev pub mode_value : Mode → Content
 mode_value Reinstall = variant 0 (plain null)
 mode_value (Upgrade false) = variant 1 none
-mode_value (Upgrade true) = variant 1 (some skips)
+mode_value (Upgrade true) = variant 1 (some skipping)
 mode_value Install = variant 2 (plain null)
 
 abbrev pub installation_value : Mode → (canister wasm arg : List ℕ) → Content

@@ -1,6 +1,6 @@
 ghost use Rattle.std.specs.Prelude.{◌≡◌, ◌<◌, ◌^◌, length, IfOk, IfSome};
 ghost use Rattle.cd_codec.specs.View.{view};
-ghost use Rattle.ic_mgmt_requests.specs.Requests.{amount_value, creation_value, creation_argument, skips, mode_value, installation_value, installation_argument};
+ghost use Rattle.ic_mgmt_requests.specs.Requests.{amount_value, creation_value, creation_argument, skipping, mode_value, installation_value, installation_argument};
 
 use crate::ids::{AMOUNT, ARG, CANISTER_ID, MODE, SETTINGS, SKIP_PRE_UPGRADE, WASM_MODULE};
 use crate::types::{creation_type, installation_type};
@@ -45,8 +45,8 @@ pub fn creation_argument(alloc: Global, cycles: Option<u128>) -> Result<Bytes, N
 
 // The options of an upgrade that skips `canister_pre_upgrade`.
 #[tactic(auto, using(cd_codec::proofs::Views::layers))]
-fn skips(alloc: Global) -> Result<Value, NoMemory>
-    ensures { IfOk result (λ v. view v ≡ skips) }
+fn skipping(alloc: Global) -> Result<Value, NoMemory>
+    ensures { IfOk result (λ v. view v ≡ skipping) }
 {
     let mut fields = Vec::new(alloc);
     fields.push((SKIP_PRE_UPGRADE, Value::some(alloc, Value::Bool(true))?))?;
@@ -65,14 +65,14 @@ fn mode_value(alloc: Global, mode: Mode) -> Result<Value, NoMemory>
         Mode::Upgrade {
             skip_pre_upgrade: true,
         } => {
-            let options = Value::some(alloc, skips(alloc)?)?;
+            let options = Value::some(alloc, skipping(alloc)?)?;
             Value::of_case(alloc, 1, options)
         }
         Mode::Install => Value::of_case(alloc, 2, Value::Null),
     }
 }
 
-// Fields stand by rising ids.
+// Fields are in rising order of ids.
 #[tactic(auto, using(cd_codec::proofs::Views::layers))]
 fn installation_value(
     alloc: Global,

@@ -2,7 +2,8 @@ use Rattle.std.proofs.Common.{◌≡◌, ◌∙◌, ap₂, codes, rules}
 use Rattle.std.proofs.lemmas.Result.{IfOk-weaker}
 use Rattle.clap.specs.Words.{app_of, with_rule}
 use Rattle.clap.specs.Simple.{App, new_app}
-use Rattle.ct_words.specs.Command.{limit_rule, price_rule, states_rule, text_rule}
+use Rattle.ic_options.specs.Command.{limit_rule, price_rule}
+use Rattle.ct_words.specs.Command.{states_rule, text_rule}
 use Rattle.ct_words.proofs.describe.Goals as goal
 
 abbrev limited : App

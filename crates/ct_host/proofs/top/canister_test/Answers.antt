@@ -1,4 +1,4 @@
-use Rattle.std.proofs.Common.{◌≡◌, ◌≤◌, ◌⊎◌, ℕ, List, Option, Some, None, Err, refl, sym, ◌∙◌, inl, inr, map, string_bytes, arith}
+use Rattle.std.proofs.Common.{◌≡◌, refl, sym, ◌∙◌, inl, inr, map, string_bytes, arith}
 use Rattle.ic_outside.specs.Faults.{next_count}
 use Rattle.ct_words.specs.Options.{options_of}
 use Rattle.ct_host.proofs.Ends.{ends_well, is_over, rose, was_told}

@@ -1,4 +1,4 @@
-use Rattle.std.proofs.Common.{◌≡◌, List, Option, Some, None, IfOk, refl, sym, ap, ◌∙◌, subst}
+use Rattle.std.proofs.Common.{List, Option, None, IfOk, refl, sym, ap, ◌∙◌, subst}
 use Rattle.ct_words.specs.declared.TestOptions.{TestOptions}
 use Rattle.ct_host.specs.declared.stop.Told.{Told}
 use Rattle.ct_host.specs.declared.stop.Why.{Why}

@@ -11,7 +11,8 @@ use Rattle.clap.specs.declared.error.kind.ErrorKind.TheVariants.{OutOfMemory}
 use Rattle.clap.proofs.WalkLemmas.{first_value-rows, raw_values-rows}
 use Rattle.ic_options.proofs.Exact.{taken_without_fault}
 use Rattle.ic_options.proofs.Numbers.{given, text_accepted, bounded}
-use Rattle.ct_words.specs.Command.{command, limit_rule, price_rule, states_rule}
+use Rattle.ic_options.specs.Command.{limit_rule, price_rule}
+use Rattle.ct_words.specs.Command.{command, states_rule}
 use Rattle.ct_words.specs.Options.{HasBounds, choice_of, given_options, options_in, options_of}
 use Rattle.ct_words.specs.declared.TestOptions.{TestOptions}
 use Rattle.ct_words.proofs.Command.{limit_option, price_option, states_option, has_simple_rules, is_free, is_plain_leaf}

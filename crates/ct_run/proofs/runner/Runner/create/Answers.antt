@@ -1,4 +1,4 @@
-use Rattle.std.proofs.Common.{◌≡◌, List, ℕ, sym, subst, ◌∙◌}
+use Rattle.std.proofs.Common.{◌≡◌, sym, subst, ◌∙◌}
 use Rattle.ic_behaviour.specs.State.{State}
 use Rattle.ic_behaviour.specs.declared.charge.Charge.{Charge}
 use Rattle.ic_behaviour.specs.declared.install.Mode.TheVariants.{Install}

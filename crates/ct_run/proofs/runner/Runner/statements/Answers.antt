@@ -1,4 +1,4 @@
-use Rattle.std.proofs.Common.{◌≡◌, drop}
+use Rattle.std.proofs.Common.{drop}
 use Rattle.ct_check.proofs.Loops.{there, past}
 use Rattle.ct_run.proofs.Walks.{at_start, goes_on, at_failure, at_end}
 use Rattle.ct_run.proofs.runner.Runner.statements.Goals as goal

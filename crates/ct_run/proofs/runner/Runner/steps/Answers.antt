@@ -1,4 +1,4 @@
-use Rattle.std.proofs.Common.{◌≡◌, List, drop, ap, subst, arith}
+use Rattle.std.proofs.Common.{List, drop, ap, subst, arith}
 use Rattle.ct_check.specs.declared.checked.CheckedKind.{CheckedKind}
 use Rattle.ct_check.proofs.Loops.{there, past}
 use Rattle.ct_run.specs.Runs.{without_interleaves}
