@@ -1,3 +1,4 @@
 pub mod Deciding
 pub mod OneRow
 pub mod Once
+mod Keying

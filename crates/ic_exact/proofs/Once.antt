@@ -1,13 +1,14 @@
 -- Ranges that are kept once, and the numbers that stand for bytes.
-use Rattle.std.proofs.Common.{◌≡◌, ℕ, zero, suc, ◌+◌, ◌*◌, ◌<◌, false, List, [], ◌∷◌, ◌++◌, length, take, drop, slice_get, slice_index_or, Some, refl, sym, ap, ap₂, subst, ◌∙◌, append_assoc, true≢false, not-suc-le-zero, arith}
+use Rattle.std.proofs.Common.{◌≡◌, ℕ, zero, suc, ◌+◌, ◌*◌, ◌<◌, Bool, true, false, if◌then◌else◌, List, [], ◌∷◌, ◌++◌, length, take, drop, slice_get, slice_index_or, Some, refl, sym, ap, ap₂, subst, ◌∙◌, append_assoc, true≢false, not-suc-le-zero, arith}
 use Rattle.std.specs.Prelude.{nat_eq}
-use Rattle.std.specs.List.{AllByRecursion, IsDistinct}
+use Rattle.std.specs.List.{AllByRecursion, IsDistinct, list_any}
 use Rattle.std.specs.Cmp.Lexicographic.{pointwise, bytes_decides}
 use Rattle.std.proofs.Math.Seq.{take-add, take-suc}
 use Rattle.std.proofs.lemmas.List.{append-nil, length-append}
 use Rattle.std.proofs.lemmas.List.{get_or_append_left}
 use Rattle.std.proofs.lemmas.Option.{get_or_from_slice_get, slice_get_within}
 use Rattle.std.proofs.lemmas.Map.Keys.{IsDistinct-head, IsDistinct-tail}
+use Rattle.indexmap.specs.IndexSet.{insert_key}
 use Rattle.ic_exact.specs.Ranges.{bytes_of, AreNumbers, Extends, AreDistinct}
 
 pub each-at : {A : Type 0} (P : A → Type 0) (xs : List A) (n : ℕ) (d : A) → n < length xs → AllByRecursion P xs → P (slice_index_or xs n d)
@@ -49,6 +50,25 @@ one_more first old now ns numbers n bytes range i begun (more, is) are so_far fo
       subst (AreNumbers now) (sym whole) (numbers_append now ns n (slice_get_within now n range found) stay),
       ap (bytes_of now) whole ∙ bytes_append now ns n ∙ ap₂ (λ (a b : List ℕ). a ++ b) (same ∙ so_far) last ∙ sym (take-add (4096 * i) 4096 bytes) ∙ ap (λ k. take k bytes) (sym count),
     )
+
+-- ---- a range is kept
+
+module _ (xs now : List (List ℕ)) (r : List ℕ) (made : now ≡ insert_key (pointwise nat_eq) xs r) where
+  pub extended : Extends xs now
+  extended = by (list_any (pointwise nat_eq r) xs) refl where
+    by : (b : Bool) → list_any (pointwise nat_eq r) xs ≡ b → Extends xs now
+    by true is = ([], made ∙ ap (λ b. if b then xs else xs ++ r ∷ []) is ∙ sym (append-nil xs))
+    by false is = (r ∷ [], made ∙ ap (λ b. if b then xs else xs ++ r ∷ []) is)
+
+  sized_end : (ys : List (List ℕ)) → AllByRecursion (λ (y : List ℕ). length y ≡ 4096) ys → length r ≡ 4096 → AllByRecursion (λ (y : List ℕ). length y ≡ 4096) (ys ++ r ∷ [])
+  sized_end [] all long = (long, tt)
+  sized_end (y ∷ ys) all long = (all.0, sized_end ys all.1 long)
+
+  pub distinct : AreDistinct xs → length r ≡ 4096 → IsDistinct (pointwise nat_eq) now → AreDistinct now
+  distinct are long once = record { sizes = by (list_any (pointwise nat_eq r) xs) refl; distinct = once } where
+    by : (b : Bool) → list_any (pointwise nat_eq r) xs ≡ b → AllByRecursion (λ (y : List ℕ). length y ≡ 4096) now
+    by true is = subst (AllByRecursion (λ (y : List ℕ). length y ≡ 4096)) (sym (made ∙ ap (λ b. if b then xs else xs ++ r ∷ []) is)) are.sizes
+    by false is = subst (AllByRecursion (λ (y : List ℕ). length y ≡ 4096)) (sym (made ∙ ap (λ b. if b then xs else xs ++ r ∷ []) is)) (sized_end xs are.sizes long)
 
 -- ---- each range is kept once
 

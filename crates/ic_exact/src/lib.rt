@@ -10,6 +10,7 @@ mod canisters;
 mod exact;
 mod instructions;
 mod items;
+mod key;
 mod lists;
 mod modules;
 mod ranges;
@@ -17,6 +18,7 @@ mod shared;
 
 pub use exact::{Exact, Same};
 pub use items::{copied, same_items};
+pub use key::mix;
 pub use lists::{Entries, Numbers, Words};
 pub use ranges::Ranges;
 pub use shared::{Shared, shared_items, unshared};

@@ -5,7 +5,9 @@ ghost use Rattle.std.specs.Cmp.Lexicographic.{bytes_decides, pointwise, nat_list
 ghost use Rattle.std.proofs.Common.{ap};
 ghost use Rattle.std.specs.Hash as fed;
 ghost use Rattle.ic_exact.specs.Ranges.{AreDistinct, AreNumbers, Extends, bytes_of};
+ghost use Rattle.ic_exact.specs.Key.{key_of_range};
 
+use crate::key::key_of_range;
 use crate::lists::Numbers;
 use ic_base::NoMemory;
 use indexmap::IndexSet;
@@ -16,18 +18,22 @@ use std::marker::Model;
 /// The bytes of a range.
 const RANGE: usize = 4_096;
 
-/// The bytes of one range. Contracts see the list.
+/// The bytes of one range, and their key. Contracts see the list.
 #[derive(Debug, Drop)]
 struct Range {
     bytes: Vec<u8>,
+    key: u64,
 }
 
 impl Model for Range {
-    ghost use Rattle.std.specs.Prelude.{List, ℕ};
+    ghost use Rattle.std.specs.Prelude.{◌≡◌, List, ℕ};
+    ghost use Rattle.ic_exact.specs.Key.{key_of_range};
 
     ghost Value = { List ℕ };
 
     ghost view = { λ r. r.bytes.items };
+
+    ghost invariant = { λ r. r.key ≡ key_of_range r.bytes.items };
 }
 
 impl PartialEq for Range {
@@ -92,6 +98,16 @@ impl Ranges {
         range.bytes.as_slice()
     }
 
+    /// A number of the bytes of the range of this number. It was made when the range was kept.
+    pub fn key(&self, number: u32) -> u64
+        requires { number < length self.now }
+        ensures { result ≡ key_of_range (slice_index_or self.now number []) }
+    {
+        let ranges = self.set.as_slice();
+        let range = &ranges[number as usize];
+        range.key
+    }
+
     // The range of this number, if there is one.
     fn get(&self, number: u32) -> Option<&[u8]>
         ensures { option_copied result ≡ slice_get self.now number }
@@ -123,6 +139,7 @@ impl Ranges {
         }
         let range = Range {
             bytes: Vec::from_slice(alloc, bytes)?,
+            key: key_of_range(bytes),
         };
         let (number, _) = self.set.insert_full(range)?;
         u32::try_from(number).map_err(|_| AllocError)
