@@ -119,6 +119,19 @@ impl Script {
         self.push(b"drain\n")
     }
 
+    /// The message at a place is delivered.
+    pub fn pick(&mut self, place: usize) -> Result<(), NoMemory> {
+        let line = format!(in self.alloc; "pick {place}\n")?;
+        self.push(line.as_bytes())
+    }
+
+    /// The last line: a delivery that no pick takes.
+    pub fn no_pick(&mut self, delivery: &Bytes) -> Result<(), NoMemory> {
+        self.push(b"# not by a pick: ")?;
+        self.push(&delivery.items)?;
+        self.push(b"\n")
+    }
+
     /// The time is set.
     pub fn time(&mut self, time: u128) -> Result<(), NoMemory> {
         let line = format!(in self.alloc; "time {time}\n")?;
