@@ -90,7 +90,7 @@ module _ (setting : Setting) where
       subst (λ (z : Making). Allowed setting.charge s z.acts) (sym e) (making_allowed setting.charge s maker creation.cycles sound)
   made_allowed s names by creation m sound (inr (none, e)) = subst (λ (z : Making). Allowed setting.charge s z.acts) (sym e) tt
 
-  met_allowed : (s : State) (names : List Named) (k : CheckedKind) (acts : List Act) (bound : List Named) → Sound s → IsMet setting s names k acts bound → Allowed setting.charge s acts
+  pub met_allowed : (s : State) (names : List Named) (k : CheckedKind) (acts : List Act) (bound : List Named) → Sound s → IsMet setting s names k acts bound → Allowed setting.charge s acts
   met_allowed s names (kinds.Users us) acts bound sound (e, binds) = subst (λ (xs : List Act). Allowed setting.charge s xs) (sym e) tt
   met_allowed s names (kinds.Time time) acts bound sound (e, binds) = subst (λ (xs : List Act). Allowed setting.charge s xs) (sym e) (time_allowed setting.charge s time)
   met_allowed s names (kinds.Canister by name (origins.Principal id interface)) acts bound sound (e, binds) = subst (λ (xs : List Act). Allowed setting.charge s xs) (sym e) tt

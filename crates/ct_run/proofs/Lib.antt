@@ -2,4 +2,4 @@ mod Calls
 mod Steps
 pub mod One
 pub mod Walks
-mod Acts
+pub mod Acts
