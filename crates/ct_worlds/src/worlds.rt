@@ -68,8 +68,8 @@ impl Machine for Worlds {
         })
     }
 
-    fn key(&self, _keeper: &WorldKeeper, kept: &NamedWorld) -> u64 {
-        kept.kept.key()
+    fn key(&self, keeper: &WorldKeeper, kept: &NamedWorld) -> u64 {
+        keeper.keeper.key(&kept.kept)
     }
 
     fn same(&self, keeper: &WorldKeeper, kept: &NamedWorld, other: &NamedWorld) -> bool {

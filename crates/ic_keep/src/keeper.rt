@@ -1,17 +1,20 @@
 ghost use Rattle.std.specs.Prelude.{◌≡◌, ◌↔◌, ℕ, ◌<◌, [], List, map, length, take, drop, IfOk, IfSome, IsTrue};
 ghost use Rattle.std.specs.List.{AllByRecursion};
 ghost use Rattle.std.specs.Option.{option_map};
+ghost use Rattle.ic_behaviour.specs.Counted.{dropped};
 ghost use Rattle.ic_state.specs.declared.canister.Canister.{Canister as StoredCanister};
 ghost use Rattle.ic_state.specs.Seen.{code_of, seen};
 ghost use Rattle.ic_state.specs.IsCanister.{FitsCode};
 ghost use Rattle.ic_exact.specs.Ranges.{AreNumbers, bytes_of};
 ghost use Rattle.ic_order.specs.Order.{SameState};
 ghost use Rattle.ic_keep.specs.declared.parts.KeptCanister.{KeptCanister as ACanister};
-ghost use Rattle.ic_keep.specs.Kept.{KeptState, canister_at, code_at, lists_at, state_at};
+ghost use Rattle.ic_keep.specs.Kept.{KeptState, canister_at, code_at, entry_at, lists_at, state_at};
 ghost use Rattle.ic_keep.specs.IsKept.{ArePages, AreTables, Grows, HasCodes, IsKept, IsStored};
+ghost use Rattle.ic_keep.specs.Key.{key_of, with_canister, with_canisters};
 
 use crate::codes::Codes;
 use crate::kept::Kept;
+use crate::key::{with_memory, with_words};
 use crate::messages::KeptMessages;
 use crate::parts::{KeptCanister, KeptStore};
 use ic_base::NoMemory;
@@ -112,6 +115,38 @@ impl Keeper {
             burned: parts.burned,
             next_canister: parts.next_canister,
         })
+    }
+
+    /// A number by which the state is looked up.
+    pub fn key(&self, kept: &Kept) -> u64
+        requires { IsKept self.now kept.now }
+        ensures { result ≡ key_of (state_at self.now kept.now) }
+    {
+        self.with_canisters(kept.key_without_canisters(), kept.canisters.as_slice())
+    }
+
+    // The key that is made of this one and of what canisters have stored.
+    fn with_canisters(&self, key: u64, canisters: &[Shared<KeptCanister>]) -> u64
+        requires { AllByRecursion (IsStored self.now) canisters.now }
+        ensures { result ≡ with_canisters key (map (entry_at self.now) canisters.now) }
+    {
+        let mut key = key;
+        for canister in canisters {
+            key = self.with_canister(key, canister.get());
+        }
+        key
+    }
+
+    // The same of one canister.
+    fn with_canister(&self, key: u64, kept: &KeptCanister) -> u64
+        requires { IsStored self.now kept.now }
+        ensures { result ≡ with_canister key (dropped (canister_at self.now kept.now)) }
+    {
+        let memory = kept.store.memory.items.as_slice();
+        let stable = kept.store.stable.items.as_slice();
+        let key = with_memory(&self.ranges, key, memory);
+        let key = with_memory(&self.ranges, key, stable);
+        with_words(key, kept.store.globals.items.as_slice())
     }
 
     /// Whether two kept states are the same.

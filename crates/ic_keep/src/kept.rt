@@ -1,7 +1,8 @@
-ghost use Rattle.std.specs.Prelude.{◌≡◌, ◌↔◌, [], IfOk, IsTrue};
+ghost use Rattle.std.specs.Prelude.{◌≡◌, ◌↔◌, ◌%◌, ◌^◌, [], IfOk, IsTrue};
 ghost use Rattle.std.specs.Bool.{OnTrue, OnFalse};
-ghost use Rattle.ic_keep.specs.Kept.{Tables, kept_without_messages, state_at};
-ghost use Rattle.ic_keep.specs.Key.{key_of};
+ghost use Rattle.ic_behaviour.specs.Totals.{total};
+ghost use Rattle.ic_keep.specs.Kept.{kept_without_messages};
+ghost use Rattle.ic_keep.specs.Key.{key_of_message, key_of_requests};
 
 use crate::key::{key_of_messages, key_of_requests};
 use crate::messages::KeptMessages;
@@ -117,9 +118,9 @@ impl Kept {
         })
     }
 
-    /// A number by which the state is looked up.
-    pub fn key(&self) -> u64
-        ensures { (t : Tables) → key_of (state_at t self.now) ≡ result }
+    /// The key of the messages and of the answers to requests.
+    pub(crate) fn key_without_canisters(&self) -> u64
+        ensures { result ≡ key_of_requests (total key_of_message self.now.messages % 2 ^ 64) self.now.requests }
     {
         key_of_requests(
             key_of_messages(self.messages.as_slice()),

@@ -1,20 +1,13 @@
 ghost use Rattle.std.specs.Prelude.{◌≡◌, ◌%◌, ◌^◌};
 ghost use Rattle.std.specs.List.{fold};
 ghost use Rattle.ic_behaviour.specs.Totals.{total};
-ghost use Rattle.ic_keep.specs.Key.{mix, key_of_answer, key_of_bytes, key_of_message, key_of_origin, key_of_requests, key_of_response};
+ghost use Rattle.ic_exact.specs.Key.{mix};
+ghost use Rattle.ic_exact.specs.Ranges.{AreNumbers, bytes_of};
+ghost use Rattle.ic_keep.specs.Key.{key_of_answer, key_of_bytes, key_of_message, key_of_origin, key_of_requests, key_of_response, with_memory};
 
 use ic_behaviour::{Origin, Response};
-use ic_exact::Shared;
+use ic_exact::{Ranges, Shared, mix};
 use ic_state::{Message, Request};
-
-/// The prime of FNV-1a, by which a key is multiplied.
-const PRIME: u64 = 1_099_511_628_211;
-
-fn mix(key: u64, n: u64) -> u64
-    ensures { result ≡ mix key n }
-{
-    key.wrapping_mul(PRIME).wrapping_add(n)
-}
 
 fn mix_all(key: u64, bytes: &[u8]) -> u64
     ensures { result ≡ fold mix key bytes.now }
@@ -101,6 +94,30 @@ pub(crate) fn key_of_requests(key: u64, requests: &[Shared<Request>]) -> u64
     let mut key = key;
     for request in requests {
         key = mix(key, key_of_answer(&request.get().answer));
+    }
+    key
+}
+
+/// The key that is made of this one and of the ranges of a memory.
+pub(crate) fn with_memory(ranges: &Ranges, key: u64, numbers: &[u32]) -> u64
+    requires { AreNumbers ranges.now numbers.now }
+    ensures { result ≡ with_memory key (bytes_of ranges.now numbers.now) }
+{
+    ranges.are_distinct();
+    let mut key = key;
+    for number in numbers {
+        key = mix(key, ranges.key(*number));
+    }
+    key
+}
+
+/// The key that is made of this one and of other numbers.
+pub(crate) fn with_words(key: u64, words: &[u64]) -> u64
+    ensures { result ≡ fold mix key words.now }
+{
+    let mut key = key;
+    for word in words {
+        key = mix(key, *word);
     }
     key
 }

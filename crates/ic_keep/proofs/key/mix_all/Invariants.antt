@@ -1,5 +1,5 @@
 use Rattle.std.proofs.Common.{◌≡◌, drop, fold}
-use Rattle.ic_keep.specs.Key.{mix}
+use Rattle.ic_exact.specs.Key.{mix}
 use Rattle.ic_keep.proofs.key.mix_all.Given as goal
 
 abbrev pub invariant-loop-byte : goal.invariant-loop-byte
