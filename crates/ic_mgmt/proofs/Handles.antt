@@ -6,8 +6,9 @@ use Rattle.std.specs.Map.{lookup}
 use Rattle.ic_behaviour.specs.declared.call.CallId.{CallId}
 use Rattle.ic_behaviour.specs.declared.call.Origin.{Origin}
 use Rattle.ic_behaviour.specs.declared.call.Origin.TheVariants as origin
+use Rattle.ic_behaviour.specs.declared.call.Response.{Response}
 use Rattle.ic_behaviour.specs.declared.call.Message.{Message}
-use Rattle.ic_behaviour.specs.declared.call.Message.TheVariants.{Call}
+use Rattle.ic_behaviour.specs.declared.call.Message.TheVariants.{Call, Answer}
 use Rattle.ic_behaviour.specs.Totals.{total}
 use Rattle.ic_behaviour.specs.State.{at, callee_of, Canister, State}
 use Rattle.ic_behaviour.specs.Items.{awaited, item_of, items_at, outstanding}
@@ -26,7 +27,7 @@ use Rattle.ic_state.specs.Seen.{seen, state_of}
 use Rattle.ic_state.specs.IsWorld.{HasCounts, IsWorld}
 use Rattle.ic_api.specs.System.{system_api}
 use Rattle.ic_deliver.specs.Delivered.{sent_back_in}
-use Rattle.ic_run_laws.proofs.Delivers.{deliver_is, answered_advances}
+use Rattle.ic_run_laws.proofs.Delivers.{deliver_is, no_answer, answered_advances}
 use Rattle.ic_behaviour.specs.Steps.{step}
 use Rattle.ic_behaviour.proofs.Lists.{remove_at}
 use Rattle.ic_mgmt_laws.specs.KeepsCalls.{KeepsCalls}
@@ -158,6 +159,14 @@ module _ (limit : ℕ) (kept : List Message) (o : Origin) (from callee method ar
         (delivers limit kept m todo p is absent (sent_back_in callee o n p) (here ∙ sent_end)
         (subst Sound (sym here) (answered_advances (no_canister callee) now (length kept) o from callee method arg n sound_now is_m).sound)
         (λ key id. ap (λ t. outstanding t key id) here ∙ counts key id) is.counts is.canisters)
+
+-- no answer comes to one that is no canister
+pub answer_delivers : (limit : ℕ) (kept : List Message) (o : Origin) (from : List ℕ) (response : Response) (n : ℕ) (todo : List Message) (p q : Parts)
+    → IsWorld (among kept (Answer o from response n ∷ todo) p) → is_some (lookup (at (callee_of (Answer o from response n))) p.canisters.entries) ≡ false
+    → Delivers limit kept (Answer o from response n) todo p q
+answer_delivers limit kept o from response n todo p q is absent =
+    let m : Message = Answer o from response n in
+    absurd (no_answer (state_of (among kept (m ∷ todo) p)) (length kept) (tallied _ is.sound) o from response n (is_at_place kept m todo p) (none limit kept m todo p is absent))
 
 -- ---- as the code has it
 

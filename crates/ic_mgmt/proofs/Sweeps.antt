@@ -1,9 +1,10 @@
 -- The second phase in one pass.
-use Rattle.std.proofs.Common.{◌≡◌, ◌+◌, ℕ, Bool, true, false, ◌&&◌, ◌||◌, List, [], ◌∷◌, ◌++◌, length, map, Option, Some, None, refl, sym, ap, ap₂, ◌∙◌, subst, arith, append_assoc, append-nil, length-append}
+use Rattle.std.proofs.Common.{◌≡◌, ◌+◌, ℕ, zero, suc, Bool, true, false, ◌&&◌, ◌||◌, List, [], ◌∷◌, ◌++◌, length, map, Option, Some, None, refl, sym, ap, ap₂, ◌∙◌, subst, arith, append_assoc, append-nil, length-append}
 use Rattle.std.specs.Prelude.{slice_get, not, is_some}
 use Rattle.std.specs.Option.{option_map}
-use Rattle.std.specs.List.{list_any}
+use Rattle.std.specs.List.{list_any, list_all}
 use Rattle.std.specs.Map.{lookup}
+use Rattle.std.proofs.lemmas.Bool.{and_parts}
 use Rattle.std.proofs.lemmas.Map.Made.{lookup-map_values}
 use Rattle.ic_behaviour.specs.declared.call.Message.{Message}
 use Rattle.ic_behaviour.specs.State.{at, callee_of, State}
@@ -16,7 +17,7 @@ use Rattle.ic_behaviour.specs.Steps.{Rules, step, same_way, along}
 use Rattle.ic_behaviour.specs.Round.{goes, sweep, second_phase}
 use Rattle.ic_behaviour.proofs.Lists.{slice_get_at, take_front}
 use Rattle.ic_mgmt_laws.specs.Managed.{managed_rules}
-use Rattle.ic_mgmt.specs.Sweeping.{among, stays, Delivers, ahead, Reaches}
+use Rattle.ic_mgmt.specs.Sweeping.{among, is_inside, stays, Delivers, ahead, Reaches}
 
 not_both : (a b : Bool) → (not a && not b) ≡ not (a || b)
 not_both true b = refl
@@ -99,3 +100,24 @@ pub reaches_end : (limit price : ℕ) (start : Parts) (kept : List Message) (p :
     × (n ≡ length (second_phase (managed_rules limit price) (state_of start)))
 unfolding sweep
 reaches_end limit price start kept p n so_far = (so_far.state price, omega (arith, so_far.handled price))
+
+-- ---- all are to canisters
+
+inside_at : (es : List (List ℕ × StoredCanister)) (ms : List Message) (place : ℕ) (m : Message) → list_all (is_inside es) ms ≡ true → slice_get ms place ≡ Some m → is_inside es m ≡ true
+inside_at es [] place m all is = cc
+inside_at es (x ∷ ms) zero m all is =
+    let same : x ≡ m = cc in
+    subst (λ (y : Message). is_inside es y ≡ true) same (and_parts (is_inside es x) (list_all (is_inside es) ms) all).0
+inside_at es (x ∷ ms) (suc place) m all is = inside_at es ms place m (and_parts (is_inside es x) (list_all (is_inside es) ms) all).1 is
+
+-- then none goes
+pub none_goes : (rules : Rules) (p : Parts) → list_all (is_inside p.canisters.entries) p.messages ≡ true → second_phase rules (state_of p) ≡ []
+unfolding second_phase sweep
+none_goes rules p all = none (length p.messages) 0 where
+  stays_at : (place : ℕ) (o : Option Message) → slice_get p.messages place ≡ o → goes (state_of p) place o ≡ false
+  stays_at place None is = refl
+  stays_at place (Some m) is = rw (seen_there (callee_of m) p.canisters.entries ∙ inside_at p.canisters.entries p.messages place m all is) refl
+
+  none : (n place : ℕ) → sweep rules n place (state_of p) ≡ []
+  none zero place = refl
+  none (suc n) place = rw (stays_at place (slice_get p.messages place) refl) (none n (place + 1))
