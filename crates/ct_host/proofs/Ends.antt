@@ -1,10 +1,11 @@
 -- How the program ends, by how its run ended.
-use Rattle.std.proofs.Common.{◌≡◌, ◌⊎◌, ℕ, List, Option, Some, None, Result, Ok, Err, IfOk, refl, sym, ◌∙◌, subst, inl, inr}
+use Rattle.std.proofs.Common.{◌≡◌, ◌≢◌, ◌≤◌, ◌⊎◌, ℕ, List, Option, Some, None, Result, Ok, Err, IfOk, refl, sym, ap, ◌∙◌, subst, inl, inr, string_bytes, arith}
 use Rattle.ic_behaviour.specs.declared.charge.Charge.{Charge}
-use Rattle.ic_outside.specs.Faults.{next_count}
+use Rattle.ic_outside.specs.Faults.{Rose, next_count}
 use Rattle.ct_words.specs.declared.Choice.{Choice}
 use Rattle.ct_words.specs.declared.Choice.TheVariants as choices
 use Rattle.ct_words.specs.declared.TestOptions.{TestOptions}
+use Rattle.ct_words.specs.Options.{usage_text}
 use Rattle.ct_host.specs.declared.status.Status.{Status}
 use Rattle.ct_host.specs.declared.status.Status.TheVariants as statuses
 use Rattle.ct_host.specs.declared.stop.Broken.{Broken}
@@ -15,9 +16,9 @@ use Rattle.ct_host.specs.declared.stop.Told.{Told}
 use Rattle.ct_host.specs.declared.stop.Why.{Why}
 use Rattle.ct_host.specs.declared.stop.Why.TheVariants as reasons
 use Rattle.ct_host.specs.Chosen.{Chosen, chosen_tests}
-use Rattle.ct_host.specs.Ends.{Concludes, EndsWell, Hinders, HindersTests, Refuses, RunsChosen, RunsTests, faults_then}
+use Rattle.ct_host.specs.Ends.{Concludes, EndsRefused, EndsWell, Hinders, HindersTests, Refuses, RunsChosen, RunsTests, faults_then}
 use Rattle.ct_host.specs.Looking.{AreSuites, Gives, Suite}
-use Rattle.ct_host.specs.Reports.{IsPrinted}
+use Rattle.ct_host.specs.Reports.{IsPrinted, Prints}
 use Rattle.ct_host.specs.Statuses.{status_of, status_after}
 
 -- ---- what is run, and why nothing is
@@ -67,6 +68,18 @@ module _ (gives : Gives) (taken : Option TestOptions) (before mid : Option (List
       over words (Err stop) refuses runs = tt
 
 -- ---- what the status says
+
+pub ends_refused : (old new : ℕ) (r : Result Status Stop) (status : Status) → Refuses r → Concludes old new r status → EndsRefused status
+ends_refused old new (Ok ended) status refuses concludes = absurd refuses
+ends_refused old new (Err (stops.Told told)) status (bad, line) (inl (is, same)) = inl (is ∙ ap status_of bad)
+ends_refused old new (Err (stops.Told told)) status (bad, line) (inr (is, more)) = inr (inl is)
+ends_refused old new (Err (stops.Broken broken)) status out (is, same) = inr (inr (is ∙ ap status_after out))
+
+pub usage_told : (old new : ℕ) (r : Result Status Stop) (status : Status) → Refuses r → Concludes old new r status → status ≡ statuses.BadWords
+    → (told : Told) × (r ≡ Err (stops.Told told)) × (string_bytes told.line ≡ usage_text)
+usage_told old new (Ok ended) status refuses concludes is = absurd refuses
+usage_told old new (Err (stops.Told told)) status (bad, line) concludes is = (told, refl, line)
+usage_told old new (Err (stops.Broken broken)) status out (concluded, same) is = let e = sym is ∙ concluded ∙ ap status_after out in cc
 
 passed_well : (gives : Gives) (options : TestOptions) (before after : Option (List ℕ)) (status : Status) → IsOver status → RunsTests gives options before after status → EndsWell gives options before after status
 passed_well gives options before after status (inl is) runs =

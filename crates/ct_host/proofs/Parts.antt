@@ -1,5 +1,6 @@
 -- A text has a part just where this is a slice of it.
 use Rattle.std.proofs.Common.{◌≡◌, ◌⊎◌, ◌↔◌, ◌==◌, ◌||◌, ℕ, Bool, true, false, List, [], ◌∷◌, ◌++◌, length, drop, refl, sym, ap, inl, inr}
+use Rattle.std.specs.Bool.{Decides}
 use Rattle.std.specs.List.{starts_with}
 use Rattle.std.specs.Str.Iter.{HasSubslice}
 use Rattle.std.proofs.lemmas.Bool.Decides.{Decides-eqb}
@@ -37,6 +38,9 @@ has part [] ([], b, split) = (begins_is part []).1 b split
 has part [] (x ∷ a, b, split) = cc
 has part (c ∷ text) ([], b, split) = from_left (begins part (c ∷ text)) (has_part part text) ((begins_is part (c ∷ text)).1 b split)
 has part (c ∷ text) (x ∷ a, b, split) = from_right (begins part (c ∷ text)) (has_part part text) (has part text (a, b, ap (λ (bs : List ℕ). drop 1 bs) split))
+
+pub part_decides : (part text : List ℕ) → Decides (has_part part text) (HasSubslice text part)
+part_decides part text = (found part text, has part text)
 
 pub has_part_is : (part text : List ℕ) (r : Bool) → ((r ≡ true) ↔ HasSubslice text part) → r ≡ has_part part text
 has_part_is part text true is = sym (has part text (is.0 refl))

@@ -1,5 +1,5 @@
 -- Tests one after another, as loops take them.
-use Rattle.std.proofs.Common.{◌≡◌, ◌↔◌, ℕ, true, List, [], ◌∷◌, ◌++◌, Option, Some, None, All, length, ◌+◌, refl, sym, ap, ap₂, ◌∙◌, subst, inr, append_assoc}
+use Rattle.std.proofs.Common.{◌≡◌, ◌≢◌, ◌⊎◌, ◌↔◌, ℕ, Bool, true, false, List, [], ◌∷◌, ◌++◌, Option, Some, None, All, length, ◌+◌, refl, sym, ap, ap₂, ◌∙◌, subst, inl, inr, append_assoc}
 use Rattle.std.specs.Prelude.{Result, Ok, Err, IfOk}
 use Rattle.std.proofs.lemmas.List.Elements.{All-cons, All-tail}
 use Rattle.std.proofs.lemmas.List.{append-nil}
@@ -13,7 +13,7 @@ use Rattle.ct_report.specs.declared.tap.Counts.{Counts}
 use Rattle.ct_report.specs.Texts.{block_text, counts_text, failed_text, next_number, place_text, plan_text}
 use Rattle.ct_report.specs.Told.{Tells}
 use Rattle.ct_words.specs.declared.Choice.{Choice}
-use Rattle.ct_host.specs.Chosen.{Chosen, IsPlain, chosen_in, is_chosen, statements_of}
+use Rattle.ct_host.specs.Chosen.{Chosen, IsPlain, chosen_in, chosen_tests, is_chosen, statements_of}
 use Rattle.ct_host.specs.Looking.{Suite}
 use Rattle.ct_host.specs.Reports.{IsReport, IsVerdict, TellsTest, TellsTests, no_counts, setting_of}
 use Rattle.ct_host.specs.declared.status.Status.{Status}
@@ -26,6 +26,30 @@ pub meant : (choice : Choice) (suite : Suite) (front : List Chosen) (rest : List
 meant choice suite front rest test tests all split is so_far =
     let e : chosen_in choice suite rest ≡ (record { suite = suite; test = test }) ∷ chosen_in choice suite tests = rw (split, is) refl in
     append_assoc front ((record { suite = suite; test = test }) ∷ []) (chosen_in choice suite tests) ∙ ap (λ (more : List Chosen). front ++ more) (sym e) ∙ so_far
+
+pub not_meant : (choice : Choice) (suite : Suite) (front : List Chosen) (rest : List CheckedTest) (test : CheckedTest) (tests : List CheckedTest) (all : List Chosen)
+    → rest ≡ test ∷ tests → is_chosen choice test.name ≡ false → front ++ chosen_in choice suite rest ≡ all → front ++ chosen_in choice suite tests ≡ all
+not_meant choice suite front rest test tests all split is_not so_far =
+    let e : chosen_in choice suite rest ≡ chosen_in choice suite tests = rw (split, is_not) refl in
+    ap (λ (more : List Chosen). front ++ more) (sym e) ∙ so_far
+
+pub all_meant : (choice : Choice) (suite : Suite) (front : List Chosen) (rest : List CheckedTest) (all : List Chosen)
+    → rest ≡ [] → front ++ chosen_in choice suite rest ≡ all → front ≡ all
+all_meant choice suite front rest all none so_far =
+    let e : chosen_in choice suite rest ≡ [] = rw none refl in
+    sym (append-nil front) ∙ ap (λ (more : List Chosen). front ++ more) (sym e) ∙ so_far
+
+-- those of a file, and of the files after it
+pub meant_in : (choice : Choice) (front : List Chosen) (rest : List Suite) (suite : Suite) (suites : List Suite) (all : List Chosen)
+    → rest ≡ suite ∷ suites → front ++ chosen_tests choice rest ≡ all
+    → (front ++ chosen_in choice suite suite.checked.tests) ++ chosen_tests choice suites ≡ all
+meant_in choice front rest suite suites all split so_far =
+    append_assoc front (chosen_in choice suite suite.checked.tests) (chosen_tests choice suites)
+    ∙ ap (λ (s : List Suite). front ++ chosen_tests choice s) (sym split) ∙ so_far
+
+pub none_meant : (choice : Choice) (front : List Chosen) (rest : List Suite) (all : List Chosen) → rest ≡ [] → front ++ chosen_tests choice rest ≡ all → front ≡ all
+none_meant choice front rest all none so_far =
+    sym (append-nil front) ∙ ap (λ (s : List Suite). front ++ chosen_tests choice s) (sym none) ∙ so_far
 
 -- ---- what is told of them
 
