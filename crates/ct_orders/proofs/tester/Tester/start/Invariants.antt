@@ -1,0 +1,12 @@
+use Rattle.std.proofs.Common.{◌≡◌, ◌≤◌, length, take, None}
+use Rattle.ct_orders.specs.Cases.{Grows}
+use Rattle.ct_orders.specs.Answers.{AreStarted}
+use Rattle.ct_orders.proofs.tester.Tester.start.Given as goal
+
+abbrev pub invariant-loop-case : goal.invariant-loop-case
+invariant-loop-case g l = record {
+  grows : Grows l.fn.tables l.tables;
+  few : l.submitted ≤ length l.moves;
+  all : l.failing ≡ None → l.submitted ≡ length l.moves;
+  started : AreStarted l.self.setting l.fn.tables l.tables (take l.case-index l.cases) l.moves l.starts.items l.failing;
+}

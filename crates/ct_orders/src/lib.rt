@@ -1,0 +1,25 @@
+//! Tests with interleaves run, in every order that the specification allows.
+//!
+//! A test is at a list of cases: a state, what names stand for in it, and the deliveries that led there. A
+//! statement takes each case to one; an interleave takes them to those behind all orders of its messages, which
+//! `ct_search` looks for. The first statement that is not met in some case ends the test.
+#![tactic(auto)]
+
+mod case;
+mod delivery;
+mod interfaces;
+mod interleaving;
+mod judging;
+pub mod laws;
+mod meanings;
+mod orders;
+mod retelling;
+mod statement;
+mod submitting;
+mod tester;
+mod verdict;
+
+pub use delivery::Delivery;
+pub use retelling::{Retold, Told};
+pub use tester::Tester;
+pub use verdict::{Ended, Last, NotMet, Verdict, Way};
