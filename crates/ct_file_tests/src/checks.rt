@@ -434,7 +434,7 @@ fn fault_in(alloc: Global, text: &[u8]) -> Result<(String, Option<usize>), Alloc
         Ok(_) => Ok((String::new(alloc), None)),
         Err(CheckError::NoMemory) => Err(AllocError),
         Err(CheckError::Faulty(fault)) => {
-            let cause = fault.cause;
+            let cause = &fault.cause;
             Ok((format!(in alloc; "{cause}")?, Some(fault.place)))
         }
     }
