@@ -42,9 +42,26 @@ doubled = flat_map doubled_byte
 unfoldable pub key_text : (key text : List ℕ) → List ℕ
 key_text key text = codes "  " ++ key ++ codes ": '" ++ doubled text ++ codes "'" ++ newline
 
--- the block of a statement that is not met: where it is, what was expected, and what came
-unfoldable pub block_text : (at expected got : List ℕ) → List ℕ
-block_text at expected got = codes "  ---" ++ newline ++ key_text (codes "at") at ++ key_text (codes "expected") expected ++ key_text (codes "got") got ++ codes "  ..." ++ newline
+-- a line of a delivery, and the deliveries that led to a statement, if there are any
+unfoldable pub delivery_line : (delivery : List ℕ) → List ℕ
+delivery_line delivery = codes "    - '" ++ doubled delivery ++ codes "'" ++ newline
+
+abbrev pub deliveries_text : (order : List (List ℕ)) → List ℕ
+deliveries_text = flat_map delivery_line
+
+abbrev pub order_text : (order : List (List ℕ)) → List ℕ
+order_text [] = []
+order_text (delivery ∷ order) = codes "  order:" ++ newline ++ deliveries_text (delivery ∷ order)
+
+-- the block of a statement that is not met: where it is, what was expected, what came, and the order of deliveries that led there
+unfoldable pub block_text : (at expected got : List ℕ) → (order : List (List ℕ)) → List ℕ
+block_text at expected got order =
+    codes "  ---" ++ newline ++ key_text (codes "at") at ++ key_text (codes "expected") expected ++ key_text (codes "got") got ++ order_text order ++ codes "  ..." ++ newline
+
+-- the block of an interleave that has more states than that
+unfoldable pub undecided_text : (at : List ℕ) → (states : ℕ) → List ℕ
+undecided_text at states =
+    codes "  ---" ++ newline ++ key_text (codes "at") at ++ key_text (codes "undecided") (codes "more than " ++ decimal states ++ codes " states") ++ codes "  ..." ++ newline
 
 -- the line and the column of a place of a text, from 1
 abbrev pub line_at : (text : List ℕ) → (place : ℕ) → ℕ

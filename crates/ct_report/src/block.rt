@@ -1,12 +1,13 @@
 ghost use Rattle.std.specs.Prelude.{◌≡◌, ◌++◌, List, ℕ, IfOk, string_bytes};
-ghost use Rattle.ct_report.specs.Texts.{block_text, column_at, failed_text, line_at, place_text, position_text};
+ghost use Rattle.ct_report.specs.Texts.{block_text, column_at, failed_text, line_at, place_text, position_text, undecided_text};
 ghost use Rattle.ct_report.specs.Told.{Tells};
 
 use crate::came::{came_text, fixed};
-use crate::tap::{failed, push_block};
+use crate::delivery::delivery_text;
+use crate::tap::{failed, push_block, push_undecided};
 use ct_file::{Position, position_of};
-use ct_outcomes::Named;
-use ct_run::{Failure, Wanted};
+use ct_orders::{NotMet, Told};
+use ct_run::Wanted;
 use ct_script::written;
 use ct_sources::Sources;
 use ic_base::NoMemory;
@@ -58,25 +59,75 @@ pub struct TestFile<'t> {
 }
 
 impl<'t> TestFile<'t> {
-    /// The line and the block of a test that failed, by its number from 1 and its name, with what the names stand for
-    /// where it did.
+    // Adds the deliveries of an interleave, as they are told.
+    fn add_deliveries(
+        &self,
+        alloc: Global,
+        told: &Told<'_>,
+        order: &mut Vec<Bytes>,
+    ) -> Result<(), NoMemory> {
+        let names = &told.names.items;
+        for delivery in &told.deliveries {
+            order.push(delivery_text(alloc, self.sources, names, delivery)?)?;
+        }
+        Ok(())
+    }
+
+    // The deliveries of interleaves, as they are told.
+    fn order_of(&self, alloc: Global, interleaves: &[Told<'_>]) -> Result<Vec<Bytes>, NoMemory> {
+        let mut order = Vec::new(alloc);
+        for told in interleaves {
+            self.add_deliveries(alloc, told, &mut order)?;
+        }
+        Ok(order)
+    }
+
+    /// The line and the block of a test that failed, by its number from 1 and its name, with the deliveries of the
+    /// interleaves before.
     pub fn not_passed(
         &self,
         alloc: Global,
         number: usize,
         name: &Text,
-        names: &[Named],
-        failure: &Failure<'_>,
+        not_met: &NotMet<'_>,
+        interleaves: &[Told<'_>],
     ) -> Result<Bytes, NoMemory>
-        ensures { IfOk result (λ told. (expected : List ℕ) × (got : List ℕ) × Tells failure.now.unmet.came got
-            × (told ≡ failed_text number name.now ++ block_text (place_text self.now.name.now self.now.text.now failure.now.span.start) expected got)) }
+        ensures { IfOk result (λ told. (expected : List ℕ) × (got : List ℕ) × (order : List (List ℕ)) × Tells not_met.now.failure.unmet.came got
+            × (told ≡ failed_text number name.now ++ block_text (place_text self.now.name.now self.now.text.now not_met.now.failure.span.start) expected got order)) }
     {
+        let failure = &not_met.failure;
         let unmet = &failure.unmet;
+        let names = &not_met.names.items;
         let at = place_text(alloc, self.name, self.text, failure.span.start)?;
         let expected = wanted_text(alloc, self.text, unmet.wanted)?;
         let got = came_text(alloc, self.sources, unmet.at, names, &unmet.came)?;
+        let order = self.order_of(alloc, interleaves)?;
         let mut items = failed(alloc, number, name)?.items;
-        push_block(at.as_bytes(), &expected.items, &got.items, &mut items)?;
+        push_block(
+            at.as_bytes(),
+            &expected.items,
+            &got.items,
+            &order,
+            &mut items,
+        )?;
+        Ok(Bytes { items })
+    }
+
+    /// The line and the block of a test that is not decided, by its number from 1 and its name: the interleave at a
+    /// place has more states than that.
+    pub fn not_decided(
+        &self,
+        alloc: Global,
+        number: usize,
+        name: &Text,
+        place: usize,
+        states: u32,
+    ) -> Result<Bytes, NoMemory>
+        ensures { IfOk result (λ told. told ≡ failed_text number name.now ++ undecided_text (place_text self.now.name.now self.now.text.now place) states) }
+    {
+        let at = place_text(alloc, self.name, self.text, place)?;
+        let mut items = failed(alloc, number, name)?.items;
+        push_undecided(alloc, at.as_bytes(), states, &mut items)?;
         Ok(Bytes { items })
     }
 }

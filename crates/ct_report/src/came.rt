@@ -38,8 +38,13 @@ fn reject_front(alloc: Global, before: &str, code: u32) -> Result<String, NoMemo
     format!(in alloc; "{before}rejects {code} ")
 }
 
-// A reject, after other words.
-fn reject_text(alloc: Global, before: &str, code: u32, text: &Text) -> Result<Bytes, NoMemory>
+/// A reject, after other words.
+pub(crate) fn reject_text(
+    alloc: Global,
+    before: &str,
+    code: u32,
+    text: &Text,
+) -> Result<Bytes, NoMemory>
     ensures { IfOk result (λ told. BeginsWith (before.now ++ reject_front code) told) }
 {
     let front = reject_front(alloc, before, code)?;
@@ -92,6 +97,25 @@ fn labelled(
     }
 }
 
+/// Values in parentheses, with names for labels and principals; or why the bytes cannot be read at the part of a table
+/// that their types need.
+pub(crate) fn values_text(
+    alloc: Global,
+    sources: &Sources,
+    at: At<'_>,
+    part: &Expected,
+    names: &[Named],
+    bytes: &Bytes,
+) -> Result<Result<Bytes, DidlFault>, NoMemory> {
+    match decode(alloc, part, &bytes.items) {
+        Ok(values) => {
+            let printed = labelled(alloc, sources, at, part, &values)?;
+            Ok(Ok(with_names(alloc, names, &printed.items)?))
+        }
+        Err(fault) => Ok(Err(fault)),
+    }
+}
+
 // A reply that is read at these types.
 fn reply_text(
     alloc: Global,
@@ -105,12 +129,8 @@ fn reply_text(
     let Some(part) = at.needed(alloc)? else {
         return fixed(alloc, "replies");
     };
-    match decode(alloc, &part, &bytes.items) {
-        Ok(values) => {
-            let printed = labelled(alloc, sources, at, &part, &values)?;
-            let shown = with_names(alloc, names, &printed.items)?;
-            joined(String::from_str(alloc, "replies ")?, &shown.items)
-        }
+    match values_text(alloc, sources, at, &part, names, bytes)? {
+        Ok(shown) => joined(String::from_str(alloc, "replies ")?, &shown.items),
         Err(fault) => unread_text(alloc, bytes, fault),
     }
 }

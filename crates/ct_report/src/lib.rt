@@ -4,8 +4,10 @@
 
 mod block;
 mod came;
+mod delivery;
 mod naming;
 mod tap;
 
 pub use block::TestFile;
-pub use tap::{Counts, failed, passed, plan, push_block};
+pub use delivery::delivery_text;
+pub use tap::{Counts, failed, passed, plan, push_block, push_undecided};

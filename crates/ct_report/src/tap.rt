@@ -1,5 +1,5 @@
 ghost use Rattle.std.specs.Prelude.{◌≡◌, ◌↔◌, ◌+◌, ◌++◌, true, IfOk, OnOk};
-ghost use Rattle.ct_report.specs.Texts.{block_text, counts_text, doubled, doubled_byte, failed_text, key_text, next_number, passed_text, plan_text};
+ghost use Rattle.ct_report.specs.Texts.{block_text, counts_text, deliveries_text, delivery_line, doubled, doubled_byte, failed_text, key_text, next_number, order_text, passed_text, plan_text, undecided_text};
 
 use ic_base::NoMemory;
 use ic_principal::{Bytes, Text};
@@ -53,6 +53,14 @@ impl Counts {
         ensures { OnOk result (self.new ≡ record self.old { failed = self.old.failed + 1 }) }
     {
         self.failed = sum(self.failed, 1)?;
+        Ok(())
+    }
+
+    /// One more is not decided.
+    pub fn leave(&mut self) -> Result<(), NoMemory>
+        ensures { OnOk result (self.new ≡ record self.old { undecided = self.old.undecided + 1 }) }
+    {
+        self.undecided = sum(self.undecided, 1)?;
         Ok(())
     }
 
@@ -147,15 +155,74 @@ fn push_line(key: &str, text: &[u8], out: &mut Vec<u8>) -> Result<(), NoMemory>
     Ok(())
 }
 
-/// Adds the block of a statement that is not met: where it is, what was expected, and what came.
+// Adds the line of a delivery.
+#[tactic(auto, unfolding(crate::specs::Texts::delivery_line))]
+fn push_delivery(delivery: &Bytes, out: &mut Vec<u8>) -> Result<(), NoMemory>
+    ensures { OnOk result (out.new.items ≡ out.old.items ++ delivery_line delivery.now) }
+{
+    out.extend_from_slice(b"    - '")?;
+    push_doubled(&delivery.items, out)?;
+    out.extend_from_slice(b"'\n")?;
+    Ok(())
+}
+
+fn push_deliveries(deliveries: &[Bytes], out: &mut Vec<u8>) -> Result<(), NoMemory>
+    ensures { OnOk result (out.new.items ≡ out.old.items ++ deliveries_text deliveries.now) }
+{
+    for delivery in deliveries {
+        push_delivery(delivery, out)?;
+    }
+    Ok(())
+}
+
+// Adds the deliveries that led to a statement, if there are any.
+fn push_order(order: &[Bytes], out: &mut Vec<u8>) -> Result<(), NoMemory>
+    ensures { OnOk result (out.new.items ≡ out.old.items ++ order_text order.now) }
+{
+    match order {
+        [] => Ok(()),
+        [_, ..] => {
+            out.extend_from_slice(b"  order:\n")?;
+            push_deliveries(order, out)
+        }
+    }
+}
+
+/// Adds the block of a statement that is not met: where it is, what was expected, what came, and the order of
+/// deliveries that led there.
 #[tactic(auto, unfolding(crate::specs::Texts::block_text))]
-pub fn push_block(at: &[u8], expected: &[u8], got: &[u8], out: &mut Vec<u8>) -> Result<(), NoMemory>
-    ensures { OnOk result (out.new.items ≡ out.old.items ++ block_text at.now expected.now got.now) }
+pub fn push_block(
+    at: &[u8],
+    expected: &[u8],
+    got: &[u8],
+    order: &[Bytes],
+    out: &mut Vec<u8>,
+) -> Result<(), NoMemory>
+    ensures { OnOk result (out.new.items ≡ out.old.items ++ block_text at.now expected.now got.now order.now) }
 {
     out.extend_from_slice(b"  ---\n")?;
     push_line("at", at, out)?;
     push_line("expected", expected, out)?;
     push_line("got", got, out)?;
+    push_order(order, out)?;
+    out.extend_from_slice(b"  ...\n")?;
+    Ok(())
+}
+
+/// Adds the block of an interleave that has more states than that.
+#[tactic(auto, unfolding(crate::specs::Texts::undecided_text))]
+pub fn push_undecided(
+    alloc: Global,
+    at: &[u8],
+    states: u32,
+    out: &mut Vec<u8>,
+) -> Result<(), NoMemory>
+    ensures { OnOk result (out.new.items ≡ out.old.items ++ undecided_text at.now states) }
+{
+    let why = format!(in alloc; "more than {states} states")?;
+    out.extend_from_slice(b"  ---\n")?;
+    push_line("at", at, out)?;
+    push_line("undecided", why.as_bytes(), out)?;
     out.extend_from_slice(b"  ...\n")?;
     Ok(())
 }
