@@ -1,4 +1,4 @@
--- An interleave: what is met behind the starts of cases is what every way through it comes to.
+-- An interleave: what is met after the starts of cases is what every way through it comes to.
 use Rattle.std.proofs.Common.{◌≡◌, ◌⊎◌, ℕ, zero, suc, ◌+◌, ◌<◌, ◌≤◌, Bool, true, false, List, [], ◌∷◌, ◌++◌, length, take, get_or, map, Option, Some, None, refl, sym, ap, ◌∙◌, subst, inl, inr, arith}
 use Rattle.std.specs.Prelude.{All, slice_get}
 use Rattle.std.specs.Bool.{OnTrue, OnFalse}

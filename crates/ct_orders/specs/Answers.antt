@@ -110,7 +110,7 @@ IsStageJudged setting moves t meaning next None =
     × (IsEnd t → (bound : List Named) × CallsAreMet setting meaning.0 t moves (take (length moves) meaning.1) bound × (next ≡ meaning.0 ++ bound))
 IsStageJudged setting moves t meaning next (Some r) = (r.place < length moves) × IsRefuted setting meaning.0 t moves meaning.1 r.unmet.came
 
--- a case in which all is met: it is a case behind the interleave, where no message is left
+-- a case in which all is met: it is a case after the interleave, where no message is left
 abbrev pub IsLeft : Tables → Tables → List Case → Met NamedWorld → List Named → Found → Type 0
 IsLeft old new cases m names Passed = m.kept.kept.messages ≡ [] → ⊥
 IsLeft old new cases m names (End e) =

@@ -95,7 +95,7 @@ pub record IsRefutedFrom (setting : Setting) (moves : List Moving) (order : List
   pub same_order : order ≡ c.order ++ more
   pub same_names : names ≡ c.names
 
--- a case behind an interleave that another begins with
+-- a case after an interleave that another begins with
 pub record IsBehind (setting : Setting) (moves : List Moving) (c end : Reached) : Type 0 where
   pub numbers : List (Option ℕ)
   pub more : List ℕ
@@ -148,7 +148,7 @@ order_of (Some c) = c.order.items
 abbrev pub order_at : List Case → (place : ℕ) → List ℕ
 order_at cases place = order_of (slice_get cases place)
 
--- the stage of a case that is met behind one of these
+-- the stage of a case that is met after one of these
 abbrev pub stage : Tables → List Case → Met NamedWorld → Stage
 stage t cases m = record {
   state = state_at t.keeper m.kept.kept;
@@ -168,7 +168,7 @@ pub record IsMetBehind (t : Tables) (moves : List Moving) (m : Met NamedWorld) :
 abbrev pub AreMetBehind : Tables → List Moving → List (Met NamedWorld) → Type 0
 AreMetBehind t moves met = AllByRecursion (IsMetBehind t moves) met
 
--- it is an end, and its calls are met: the case behind it
+-- it is an end, and its calls are met: the case after it
 pub record IsEndOf (setting : Setting) (moves : List Moving) (g : Stage) (end : Reached) : Type 0 where
   pub bound : List Named
   pub state : end.state ≡ g.state

@@ -29,7 +29,7 @@ struct Started<'i> {
     failing: Option<Failing<'i>>,
 }
 
-/// What comes of an interleave: the cases behind it, the first that fails, and whether all were met.
+/// What comes of an interleave: the cases after it, the first that fails, and whether all were met.
 #[derive(Drop)]
 pub(crate) struct Interleaved<'i> {
     pub(crate) cases: Vec<Case>,
@@ -116,7 +116,7 @@ impl<'i, R: Threads + Sync, G: Gate + Sync> Tester<'i, R, G> {
         Ok(Started { starts, failing })
     }
 
-    // The cases behind an interleave of which the moves are submitted in these, with a start of each.
+    // The cases after an interleave of which the moves are submitted in these, with a start of each.
     fn explored(
         &self,
         tables: &mut Tables,
@@ -140,7 +140,7 @@ impl<'i, R: Threads + Sync, G: Gate + Sync> Tester<'i, R, G> {
         })
     }
 
-    /// The cases behind an interleave that begins with these.
+    /// The cases after an interleave that begins with these.
     pub(crate) fn interleave(
         &self,
         tables: &mut Tables,

@@ -37,13 +37,13 @@ pub(crate) struct Refuted<'i> {
 enum Found<'i> {
     /// Nothing: there are messages left, and all that is asked is met.
     Passed,
-    /// It is one of the cases behind the interleave.
+    /// It is one of the cases after the interleave.
     End(Case),
     /// The move at this place is not met.
     Unmet { place: usize, failing: Failing<'i> },
 }
 
-/// The cases behind an interleave, up to the first that fails.
+/// The cases after an interleave, up to the first that fails.
 #[derive(Drop)]
 pub(crate) struct Judged<'i> {
     pub(crate) ends: Vec<Case>,
@@ -95,7 +95,7 @@ fn accepted_at(accepted: &[Option<u32>], place: usize) -> Option<u32>
     accepted[place]
 }
 
-// The names behind this many, which go to others.
+// The names after this many, which go to others.
 fn move_names(names: &mut Names, count: usize, others: &mut Vec<Named>) -> Result<(), NoMemory>
     ensures names { OnOk result (names.new ≡ take count names.old) }
     ensures others { OnOk result (others.new.items ≡ others.old.items ++ drop count names.old) }
@@ -140,7 +140,7 @@ fn is_silent(case: &Met<NamedWorld>, moves: &[CheckedMove<'_, '_, '_>]) -> bool
     case.kept.kept.has_messages() && !has_query(moves)
 }
 
-// What a case in which all is met comes to: it is one of those behind the interleave, where no message is left.
+// What a case in which all is met comes to: it is one of those after the interleave, where no message is left.
 fn left_of<'i>(
     alloc: Global,
     tables: &mut Tables,
@@ -183,7 +183,7 @@ impl<'i, R: Threads + Sync, G: Gate + Sync> Tester<'i, R, G> {
         Ok((world, unmet))
     }
 
-    // A call, which is judged where no message is left. What it binds comes behind what others bound.
+    // A call, which is judged where no message is left. What it binds comes after what others bound.
     fn judge_call(
         &self,
         world: &World,
@@ -299,7 +299,7 @@ impl<'i, R: Threads + Sync, G: Gate + Sync> Tester<'i, R, G> {
         }
     }
 
-    // Judges moves in a case that is met behind one of these.
+    // Judges moves in a case that is met after one of these.
     fn judge_case(
         &self,
         tables: &mut Tables,
@@ -325,7 +325,7 @@ impl<'i, R: Threads + Sync, G: Gate + Sync> Tester<'i, R, G> {
         }
     }
 
-    /// Judges moves in the cases that are met behind these: the first, in the order of the file, that is not met in
+    /// Judges moves in the cases that are met after these: the first, in the order of the file, that is not met in
     /// one of them, in the first such case.
     pub(crate) fn judge(
         &self,

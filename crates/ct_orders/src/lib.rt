@@ -1,7 +1,7 @@
 //! Tests with interleaves run, in every order that the specification allows.
 //!
 //! A test is at a list of cases: a state, what names stand for in it, and the deliveries that led there. A
-//! statement takes each case to one; an interleave takes them to those behind all orders of its messages, which
+//! statement takes each case to one; an interleave takes them to those after all orders of its messages, which
 //! `ct_search` looks for. The first statement that is not met in some case ends the test.
 #![tactic(auto)]
 

@@ -41,7 +41,7 @@ fn copied(alloc: Global, starts: &[NamedWorld]) -> Result<Vec<NamedWorld>, NoMem
     Ok(items)
 }
 
-/// The order with the places of another behind it.
+/// The order with the places of another after it.
 pub(crate) fn longer(alloc: Global, order: &[usize], more: &[usize]) -> Result<Vec<usize>, NoMemory>
     ensures { IfOk result (λ whole. whole.items ≡ order.now ++ more.now) }
 {
@@ -51,7 +51,7 @@ pub(crate) fn longer(alloc: Global, order: &[usize], more: &[usize]) -> Result<V
     Ok(whole)
 }
 
-/// The order that leads to a case, which is met behind one of these.
+/// The order that leads to a case, which is met after one of these.
 pub(crate) fn order_of(
     alloc: Global,
     cases: &[Case],
@@ -76,7 +76,7 @@ impl<'i, R: Threads + Sync, G: Gate + Sync> Tester<'i, R, G> {
         }
     }
 
-    /// Meets the cases behind these, breadth first, and where they are too many some of them anew, depth first.
+    /// Meets the cases after these, breadth first, and where they are too many some of them anew, depth first.
     pub(crate) fn search(
         &self,
         tables: &mut Tables,

@@ -39,7 +39,7 @@ pub struct Retold<'i> {
 struct Course<'w, 'i> {
     alloc: Global,
     way: &'w Way,
-    // How many places of the way are behind.
+    // How many places of the way are passed.
     count: usize,
     names: Names,
     interfaces: Interfaces,

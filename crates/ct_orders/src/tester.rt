@@ -181,7 +181,7 @@ fn passed<'i>(alloc: Global) -> Ended<'i>
     }
 }
 
-// A test that fails before any interleave, behind this many parts.
+// A test that fails before any interleave, after this many parts.
 fn failed<'i>(alloc: Global, place: usize, failure: Failure<'i>, names: Names) -> Ended<'i>
     ensures { (setting : Setting) (most : ℕ) (steps : List CheckedStep) → FailsFirst setting most steps place [] names failure.entry.unmet.came → IsVerdict setting most steps result }
 {
@@ -287,7 +287,7 @@ impl<'i, R: Threads + Sync, G: Gate + Sync> Tester<'i, R, G> {
         }
     }
 
-    // The parts of a test from its first interleave on, which come behind this many.
+    // The parts of a test from its first interleave on, which come after this many.
     fn steps(
         &self,
         world: World,
@@ -315,7 +315,7 @@ impl<'i, R: Threads + Sync, G: Gate + Sync> Tester<'i, R, G> {
         course.ended(self.alloc())
     }
 
-    // The parts of a test, which come behind this many statements of the preamble.
+    // The parts of a test, which come after this many statements of the preamble.
     fn parts(
         &self,
         world: World,

@@ -62,7 +62,7 @@ pub(crate) struct Failing<'i> {
 }
 
 impl<'i> Failing<'i> {
-    /// The end of the test, behind this many parts.
+    /// The end of the test, after this many parts.
     pub(crate) fn ended(self, place: usize) -> Ended<'i>
         ensures { (setting : Setting) (most : ℕ) (steps : List CheckedStep) → FailsFirst setting most steps place self.entry.order.items self.entry.names self.entry.unmet.came → IsVerdict setting most steps result }
     {
