@@ -1,7 +1,7 @@
 // Savings with a bonus that another canister tells: `deposit : (nat64) -> (nat64)` adds to the total, `add_bonus : () -> (nat64)`
 // asks the canister with the number 1 how much to add and adds that in the callback, `total : () -> (nat64) query`. All three
 // answer the total. The mistake: the callback adds to what the total was before the call went out, so a deposit that comes
-// between the two is lost.
+// between the two is lost. Mended: it adds to what the total is then.
 #include "canister.h"
 
 static const uint8_t OTHER[10] = {0, 0, 0, 0, 0, 0, 0, 1, 1, 1};
@@ -9,7 +9,11 @@ static const char METHOD[] = "get";
 static uint64_t saved;
 
 static void told(uint32_t seen) {
+#ifdef MENDED
+    saved += read_number();
+#else
     saved = seen + read_number();
+#endif
     reply_number(saved);
 }
 

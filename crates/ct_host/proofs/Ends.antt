@@ -1,11 +1,11 @@
 -- How the program ends, by how its run ended.
-use Rattle.std.proofs.Common.{◌≡◌, ◌≢◌, ◌≤◌, ◌⊎◌, ℕ, List, Option, Some, None, Result, Ok, Err, IfOk, refl, sym, ap, ◌∙◌, subst, inl, inr, string_bytes, arith}
-use Rattle.ic_behaviour.specs.declared.charge.Charge.{Charge}
-use Rattle.ic_outside.specs.Faults.{Rose, next_count}
+use Rattle.std.proofs.Common.{◌≡◌, ◌⊎◌, ℕ, List, Option, Some, None, Result, Ok, Err, IfOk, refl, sym, ap, ◌∙◌, subst, inl, inr, string_bytes}
+use Rattle.ic_outside.specs.Faults.{next_count}
 use Rattle.ct_words.specs.declared.Choice.{Choice}
 use Rattle.ct_words.specs.declared.Choice.TheVariants as choices
 use Rattle.ct_words.specs.declared.TestOptions.{TestOptions}
 use Rattle.ct_words.specs.Options.{usage_text}
+use Rattle.ct_host.specs.declared.running.Limits.{Limits}
 use Rattle.ct_host.specs.declared.status.Status.{Status}
 use Rattle.ct_host.specs.declared.status.Status.TheVariants as statuses
 use Rattle.ct_host.specs.declared.stop.Broken.{Broken}
@@ -16,18 +16,18 @@ use Rattle.ct_host.specs.declared.stop.Told.{Told}
 use Rattle.ct_host.specs.declared.stop.Why.{Why}
 use Rattle.ct_host.specs.declared.stop.Why.TheVariants as reasons
 use Rattle.ct_host.specs.Chosen.{Chosen, chosen_tests}
-use Rattle.ct_host.specs.Ends.{Concludes, EndsRefused, EndsWell, Hinders, HindersTests, Refuses, RunsChosen, RunsTests, faults_then}
+use Rattle.ct_host.specs.Ends.{AreOf, Concludes, EndsRefused, EndsWell, Hinders, HindersTests, Refuses, RunsChosen, RunsTests, faults_then}
 use Rattle.ct_host.specs.Looking.{AreSuites, Gives, Suite}
-use Rattle.ct_host.specs.Reports.{IsPrinted, Prints}
+use Rattle.ct_host.specs.Reports.{IsPrinted}
 use Rattle.ct_host.specs.Statuses.{status_of, status_after}
 
 -- ---- what is run, and why nothing is
 
-pub runs_tests : (gives : Gives) (options : TestOptions) (suites : List Suite) (charge : Charge) (before after : Option (List ℕ)) (r : Result Status Stop)
-    → AreSuites gives options.files suites None → charge.limit ≡ options.limit → charge.price ≡ options.price
-    → IfOk r (RunsChosen charge options.choice (chosen_tests options.choice suites) before after) → IfOk r (RunsTests gives options before after)
-runs_tests gives options suites charge before after (Ok status) are limit price runs = (suites, charge, are, limit, price, runs)
-runs_tests gives options suites charge before after (Err stop) are limit price runs = tt
+pub runs_tests : (gives : Gives) (options : TestOptions) (suites : List Suite) (limits : Limits) (before after : Option (List ℕ)) (r : Result Status Stop)
+    → AreSuites gives options.files suites None → AreOf options limits
+    → IfOk r (RunsChosen limits options.choice (chosen_tests options.choice suites) before after) → IfOk r (RunsTests gives options before after)
+runs_tests gives options suites limits before after (Ok status) are given runs = (suites, limits, are, given, runs)
+runs_tests gives options suites limits before after (Err stop) are given runs = tt
 
 pub hinders_files : (gives : Gives) (options : TestOptions) (suites : List Suite) (fault : Option Why) (why : Why) → AreSuites gives options.files suites fault → fault ≡ Some why → Hinders gives options why
 hinders_files gives options suites fault why are is = inl (suites, subst (λ (f : Option Why). AreSuites gives options.files suites f) is are)
@@ -45,16 +45,16 @@ same_told P a b same holds = let e : a ≡ b = cc in subst P e holds
 abbrev pub IsOver : Status → Type 0
 IsOver status = (status ≡ statuses.Passed) ⊎ (status ≡ statuses.Failed)
 
-printed_over : (charge : Charge) (choice : Choice) (tests : List Chosen) (printed : List ℕ) (status : Status) → IsPrinted charge choice tests printed status → IsOver status
-printed_over charge choices.All tests printed status (told, counts, tells, text, inl (is, failed, undecided)) = inl is
-printed_over charge choices.All tests printed status (told, counts, tells, text, inr (is, some)) = inr is
-printed_over charge (choices.Only part) tests printed status (told, counts, tells, text, inl (is, failed, undecided)) = inl is
-printed_over charge (choices.Only part) tests printed status (told, counts, tells, text, inr (is, some)) = inr is
-printed_over charge (choices.Script wanted) tests printed status is = inl is
+printed_over : (limits : Limits) (choice : Choice) (tests : List Chosen) (printed : List ℕ) (status : Status) → IsPrinted limits choice tests printed status → IsOver status
+printed_over limits choices.All tests printed status (told, counts, tells, text, inl (is, failed, undecided)) = inl is
+printed_over limits choices.All tests printed status (told, counts, tells, text, inr (is, some)) = inr is
+printed_over limits (choices.Only part) tests printed status (told, counts, tells, text, inl (is, failed, undecided)) = inl is
+printed_over limits (choices.Only part) tests printed status (told, counts, tells, text, inr (is, some)) = inr is
+printed_over limits (choices.Script wanted) tests printed status is = inl is
 
 runs_over : (gives : Gives) (options : TestOptions) (before after : Option (List ℕ)) (status : Status) → RunsTests gives options before after status → IsOver status
-runs_over gives options before after status (suites, charge, are, limit, price, (some, plain, (printed, is, took))) =
-    printed_over charge options.choice (chosen_tests options.choice suites) printed status is
+runs_over gives options before after status (suites, limits, are, given, (some, (printed, is, took))) =
+    printed_over limits options.choice (chosen_tests options.choice suites) printed status is
 
 -- the words that were taken, if they were
 module _ (gives : Gives) (taken : Option TestOptions) (before mid : Option (List ℕ)) (r : Result Status Stop) where

@@ -2,13 +2,11 @@
 use Rattle.std.specs.Prelude.{◌≢◌, ℕ, ◌==◌, ◌||◌, Bool, true, if◌then◌else◌, List, [], ◌∷◌, ◌++◌}
 use Rattle.std.specs.List.{starts_with}
 use Rattle.std.specs.Str.{bytes_eq}
-use Rattle.ct_check.specs.declared.checked.CheckedKind.{CheckedKind}
 use Rattle.ct_check.specs.declared.checked.CheckedStep.{CheckedStep}
-use Rattle.ct_check.specs.declared.checked.CheckedStep.TheVariants.{Statement, Interleave}
 use Rattle.ct_check.specs.declared.checked.CheckedTest.{CheckedTest}
 use Rattle.ct_words.specs.declared.Choice.{Choice}
 use Rattle.ct_words.specs.declared.Choice.TheVariants.{All, Only, Script}
-use Rattle.ct_run.specs.Runs.{without_interleaves}
+use Rattle.ct_orders.specs.Verdicts.{whole}
 use Rattle.ct_host.specs.Looking.{Suite}
 
 -- the text has this part
@@ -27,18 +25,9 @@ pub record Chosen : Type 0 where
   pub suite : Suite
   pub test : CheckedTest
 
--- its statements, those of the preamble first
-abbrev pub statements_of : Chosen → List CheckedKind
-statements_of chosen = chosen.suite.checked.preamble ++ without_interleaves chosen.test.steps
-
--- it has no interleave
-abbrev pub HasNone : List CheckedStep → Type 0
-HasNone [] = Unit {0}
-HasNone (Statement statement ∷ steps) = HasNone steps
-HasNone (Interleave moves ∷ steps) = ⊥
-
-abbrev pub IsPlain : Chosen → Type 0
-IsPlain chosen = HasNone chosen.test.steps
+-- its parts, with the statements of the preamble first
+abbrev pub parts_of : Chosen → List CheckedStep
+parts_of chosen = whole chosen.suite.checked.preamble chosen.test.steps
 
 -- those of a file that are meant, in order
 abbrev pub chosen_in : Choice → Suite → List CheckedTest → List Chosen

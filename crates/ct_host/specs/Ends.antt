@@ -1,14 +1,14 @@
 -- How the program ends, by its words and by what the disk gives.
-use Rattle.std.specs.Prelude.{◌≡◌, ◌⊎◌, ℕ, List, Option, Some, None, Result, Ok, Err, All, string_bytes}
-use Rattle.ic_behaviour.specs.declared.charge.Charge.{Charge}
+use Rattle.std.specs.Prelude.{◌≡◌, ◌⊎◌, ℕ, List, Option, Some, None, Result, Ok, Err, string_bytes}
 use Rattle.ic_outside.specs.Faults.{next_count}
 use Rattle.ct_words.specs.declared.Choice.{Choice}
 use Rattle.ct_words.specs.declared.TestOptions.{TestOptions}
 use Rattle.ct_words.specs.Options.{usage_text}
-use Rattle.ct_host.specs.Chosen.{AreSome, Chosen, IsPlain, chosen_tests}
+use Rattle.ct_host.specs.Chosen.{AreSome, Chosen, chosen_tests}
 use Rattle.ct_host.specs.Looking.{Gives, Suite, AreSuites}
 use Rattle.ct_host.specs.Reports.{Prints}
 use Rattle.ct_host.specs.Statuses.{status_of, status_after}
+use Rattle.ct_host.specs.declared.running.Limits.{Limits}
 use Rattle.ct_host.specs.declared.status.Status.{Status}
 use Rattle.ct_host.specs.declared.status.Status.TheVariants as statuses
 use Rattle.ct_host.specs.declared.stop.Broken.{Broken}
@@ -20,13 +20,11 @@ use Rattle.ct_host.specs.declared.stop.Why.TheVariants.{BadWords, Faulty, Unread
 
 -- ---- why no test runs
 
--- of tests that are there: none is meant, or one has an interleave, which is not run
+-- of tests that are there none is meant
 abbrev pub HindersTests : Choice → List Chosen → Why → Type 0
-HindersTests choice tests BadWords = AreSome choice tests → ⊥
-HindersTests choice tests Faulty = All IsPlain tests → ⊥
-HindersTests choice tests Unreadable = ⊥
+HindersTests choice tests why = (why ≡ BadWords) × (AreSome choice tests → ⊥)
 
--- not all holds that must of a file, of the first such; or of all files that holds, and tests cannot be run
+-- not all holds that must of a file, of the first such; or of all files that holds, and no test is meant
 abbrev pub Hinders : Gives → TestOptions → Why → Type 0
 Hinders gives options why =
     ((suites : List Suite) × AreSuites gives options.files suites (Some why))
@@ -34,15 +32,21 @@ Hinders gives options why =
 
 -- ---- what tests print
 
--- tests can be run, and this is printed where they are
-abbrev pub RunsChosen : Charge → Choice → List Chosen → (before after : Option (List ℕ)) → Status → Type 0
-RunsChosen charge choice tests before after status = AreSome choice tests × All IsPlain tests × Prints charge choice tests before after status
+-- there are tests, and this is printed where they are run
+abbrev pub RunsChosen : Limits → Choice → List Chosen → (before after : Option (List ℕ)) → Status → Type 0
+RunsChosen limits choice tests before after status = AreSome choice tests × Prints limits choice tests before after status
 
--- of all files all holds that must, and the tests that are meant are run with the limit and the price of the words
+-- tests are run with the limit, the price and the most states of the words
+pub record AreOf (options : TestOptions) (limits : Limits) : Type 0 where
+  pub limit : limits.charge.limit ≡ options.limit
+  pub price : limits.charge.price ≡ options.price
+  pub states : limits.states ≡ options.states
+
+-- of all files all holds that must, and the tests that are meant are run as the words say
 abbrev pub RunsTests : Gives → TestOptions → (before after : Option (List ℕ)) → Status → Type 0
 RunsTests gives options before after status =
-    (suites : List Suite) × (charge : Charge) × AreSuites gives options.files suites None × (charge.limit ≡ options.limit) × (charge.price ≡ options.price)
-    × RunsChosen charge options.choice (chosen_tests options.choice suites) before after status
+    (suites : List Suite) × (limits : Limits) × AreSuites gives options.files suites None × AreOf options limits
+    × RunsChosen limits options.choice (chosen_tests options.choice suites) before after status
 
 -- ---- what each status says
 
@@ -73,12 +77,6 @@ abbrev pub HoldsOr : {T : Type 0} → Type 0 → Why → Result T Stop → Type 
 HoldsOr P why (Ok done) = P
 HoldsOr P why (Err (stops.Told told)) = (told.why ≡ why) × (P → ⊥)
 HoldsOr P why (Err (stops.Broken broken)) = broken ≡ breaks.NoMemory
-
--- tests can be run, or why they cannot
-abbrev pub AreReady : {T : Type 0} → Choice → List Chosen → Result T Stop → Type 0
-AreReady choice tests (Ok done) = AreSome choice tests × All IsPlain tests
-AreReady choice tests (Err (stops.Told told)) = HindersTests choice tests told.why
-AreReady choice tests (Err (stops.Broken broken)) = broken ≡ breaks.NoMemory
 
 -- the faults of an output after a call: one more where the call says that it could not write
 abbrev pub faults_after : {T : Type 0} → ℕ → Result T Broken → ℕ

@@ -7,12 +7,15 @@ use Rattle.ct_outcomes.specs.declared.named.Named.{Named}
 use Rattle.ct_words.specs.declared.Choice.{Choice}
 use Rattle.ct_words.specs.declared.Choice.TheVariants.{All, Only, Script}
 use Rattle.ct_run.specs.Statements.{Setting}
-use Rattle.ct_run.specs.Runs.{Passes, Fails}
+use Rattle.ct_check.specs.Moving.{Moving}
+use Rattle.ct_check.specs.declared.checked.CheckedStep.{CheckedStep}
+use Rattle.ct_orders.specs.Verdicts.{FailsFirst, HasTooMany, Passes}
 use Rattle.ct_report.specs.declared.tap.Counts.{Counts}
-use Rattle.ct_report.specs.Texts.{block_text, counts_text, failed_text, next_number, passed_text, place_text, plan_text}
+use Rattle.ct_report.specs.Texts.{block_text, counts_text, failed_text, next_number, passed_text, place_text, plan_text, undecided_text}
 use Rattle.ct_report.specs.Told.{Tells}
-use Rattle.ct_host.specs.Chosen.{Chosen, statements_of}
+use Rattle.ct_host.specs.Chosen.{Chosen, parts_of}
 use Rattle.ct_host.specs.Looking.{SourcedFile}
+use Rattle.ct_host.specs.declared.running.Limits.{Limits}
 use Rattle.ct_host.specs.declared.status.Status.{Status}
 use Rattle.ct_host.specs.declared.status.Status.TheVariants.{Passed, Failed}
 
@@ -20,30 +23,43 @@ use Rattle.ct_host.specs.declared.status.Status.TheVariants.{Passed, Failed}
 abbrev pub setting_of : Charge → SourcedFile → Setting
 setting_of charge sourced = record { files = sourced.sources; charge = charge }
 
--- the block of a test that failed: where a statement of its file is, what was expected of it, and what came instead
+abbrev pub chosen_setting : Limits → Chosen → Setting
+chosen_setting limits chosen = setting_of limits.charge chosen.suite.sourced
+
+-- a place of the file of a test, as it is told
+abbrev pub place_in : SourcedFile → (place : ℕ) → List ℕ
+place_in sourced place = place_text sourced.name sourced.text place
+
+-- the block of a test that failed: where a statement of its file is, what was expected of it, what came instead, and the order of deliveries before
 abbrev pub IsBlock : SourcedFile → Came → List ℕ → Type 0
 IsBlock sourced came block =
-    (place : ℕ) × (expected : List ℕ) × (got : List ℕ) × Tells came got × (block ≡ block_text (place_text sourced.name sourced.text place) expected got)
+    (place : ℕ) × (expected : List ℕ) × (got : List ℕ) × (order : List (List ℕ)) × Tells came got × (block ≡ block_text (place_in sourced place) expected got order)
 
--- a test passed, and this is told; or it failed
-abbrev pub TellsPassed : Charge → Chosen → Counts → List ℕ → Counts → Type 0
-TellsPassed charge chosen counts told next =
-    Passes (setting_of charge chosen.suite.sourced) (statements_of chosen) × (told ≡ passed_text (next_number counts) chosen.test.name)
+-- a test passed on each way through it, and this is told; or it failed on one; or it has an interleave with too many cases
+abbrev pub TellsPassed : Limits → Chosen → Counts → List ℕ → Counts → Type 0
+TellsPassed limits chosen counts told next =
+    Passes (chosen_setting limits chosen) (parts_of chosen) × (told ≡ passed_text (next_number counts) chosen.test.name)
     × (next ≡ record counts { passed = counts.passed + 1 })
 
-abbrev pub TellsFailed : Charge → Chosen → Counts → List ℕ → Counts → Type 0
-TellsFailed charge chosen counts told next =
-    (place : ℕ) × (came : Came) × (names : List Named) × (block : List ℕ) × Fails (setting_of charge chosen.suite.sourced) (statements_of chosen) place came names
+abbrev pub TellsFailed : Limits → Chosen → Counts → List ℕ → Counts → Type 0
+TellsFailed limits chosen counts told next =
+    (place : ℕ) × (order : List ℕ) × (names : List Named) × (came : Came) × (block : List ℕ) × FailsFirst (chosen_setting limits chosen) limits.states (parts_of chosen) place order names came
     × IsBlock chosen.suite.sourced came block × (told ≡ failed_text (next_number counts) chosen.test.name ++ block) × (next ≡ record counts { failed = counts.failed + 1 })
 
-abbrev pub TellsTest : Charge → Chosen → Counts → List ℕ → Counts → Type 0
-TellsTest charge chosen counts told next = TellsPassed charge chosen counts told next ⊎ TellsFailed charge chosen counts told next
+abbrev pub TellsUndecided : Limits → Chosen → Counts → List ℕ → Counts → Type 0
+TellsUndecided limits chosen counts told next =
+    (place : ℕ) × (left : List CheckedStep) × (moves : List Moving) × HasTooMany (chosen_setting limits chosen) (parts_of chosen) left moves limits.states
+    × (told ≡ failed_text (next_number counts) chosen.test.name ++ undecided_text (place_in chosen.suite.sourced place) limits.states)
+    × (next ≡ record counts { undecided = counts.undecided + 1 })
+
+abbrev pub TellsTest : Limits → Chosen → Counts → List ℕ → Counts → Type 0
+TellsTest limits chosen counts told next = TellsPassed limits chosen counts told next ⊎ TellsFailed limits chosen counts told next ⊎ TellsUndecided limits chosen counts told next
 
 -- tests are told of, one after another
-abbrev pub TellsTests : Charge → List Chosen → Counts → List ℕ → Counts → Type 0
-TellsTests charge [] counts told last = (told ≡ []) × (last ≡ counts)
-TellsTests charge (chosen ∷ tests) counts told last =
-    (first : List ℕ) × (next : Counts) × (more : List ℕ) × TellsTest charge chosen counts first next × TellsTests charge tests next more last × (told ≡ first ++ more)
+abbrev pub TellsTests : Limits → List Chosen → Counts → List ℕ → Counts → Type 0
+TellsTests limits [] counts told last = (told ≡ []) × (last ≡ counts)
+TellsTests limits (chosen ∷ tests) counts told last =
+    (first : List ℕ) × (next : Counts) × (more : List ℕ) × TellsTest limits chosen counts first next × TellsTests limits tests next more last × (told ≡ first ++ more)
 
 abbrev pub no_counts : Counts
 no_counts = record { passed = 0; failed = 0; undecided = 0 }
@@ -55,17 +71,17 @@ IsVerdict counts status =
     ⊎ ((status ≡ Failed) × (((counts.failed ≡ 0) × (counts.undecided ≡ 0)) → ⊥))
 
 -- a whole report, and its status
-abbrev pub IsReport : Charge → List Chosen → List ℕ → Status → Type 0
-IsReport charge tests report status =
-    (told : List ℕ) × (counts : Counts) × TellsTests charge tests no_counts told counts
+abbrev pub IsReport : Limits → List Chosen → List ℕ → Status → Type 0
+IsReport limits tests report status =
+    (told : List ℕ) × (counts : Counts) × TellsTests limits tests no_counts told counts
     × (report ≡ plan_text (length tests) ++ told ++ counts_text counts) × IsVerdict counts status
 
 -- what is printed where tests are run: their report, or, where a script is wanted, that
-abbrev pub IsPrinted : Charge → Choice → List Chosen → List ℕ → Status → Type 0
-IsPrinted charge All tests printed status = IsReport charge tests printed status
-IsPrinted charge (Only part) tests printed status = IsReport charge tests printed status
-IsPrinted charge (Script wanted) tests printed status = status ≡ Passed
+abbrev pub IsPrinted : Limits → Choice → List Chosen → List ℕ → Status → Type 0
+IsPrinted limits All tests printed status = IsReport limits tests printed status
+IsPrinted limits (Only part) tests printed status = IsReport limits tests printed status
+IsPrinted limits (Script wanted) tests printed status = status ≡ Passed
 
 -- it was printed after what an output had taken before, where that tells it
-abbrev pub Prints : Charge → Choice → List Chosen → (before after : Option (List ℕ)) → Status → Type 0
-Prints charge choice tests before after status = (printed : List ℕ) × IsPrinted charge choice tests printed status × (after ≡ append_known before printed)
+abbrev pub Prints : Limits → Choice → List Chosen → (before after : Option (List ℕ)) → Status → Type 0
+Prints limits choice tests before after status = (printed : List ℕ) × IsPrinted limits choice tests printed status × (after ≡ append_known before printed)

@@ -1,11 +1,10 @@
-ghost use Rattle.std.specs.Prelude.{◌≡◌, ◌++◌, All, IfOk, OnOk, MatchOption};
-ghost use Rattle.ct_host.specs.Chosen.{AreSome, HasNone, IsPlain, chosen_in, chosen_tests, is_chosen};
-ghost use Rattle.ct_host.specs.Ends.{AreReady, HoldsOr};
+ghost use Rattle.std.specs.Prelude.{◌≡◌, ◌++◌, IfOk, OnOk};
+ghost use Rattle.ct_host.specs.Chosen.{AreSome, chosen_in, chosen_tests, is_chosen};
+ghost use Rattle.ct_host.specs.Ends.{HoldsOr};
 
 use crate::looking::Suite;
 use crate::stop::{Stop, Told, Why};
-use ct_check::{CheckedStep, CheckedTest};
-use ct_file::position_of;
+use ct_check::CheckedTest;
 use ct_words::Choice;
 use ic_base::NoMemory;
 use std::alloc::Global;
@@ -69,18 +68,6 @@ pub(crate) fn chosen_tests<'s, 'i, 'a>(
     Ok(chosen)
 }
 
-// The place of the first interleave.
-fn interleave_in(steps: &[CheckedStep<'_, '_, '_>]) -> Option<usize>
-    ensures { MatchOption result (HasNone steps.now) (λ _. HasNone steps.now → ⊥) }
-{
-    for step in steps {
-        if let CheckedStep::Interleave(interleave) = step {
-            return Some(interleave.place);
-        }
-    }
-    None
-}
-
 fn bad_words(alloc: Global, line: &str) -> Result<Told, NoMemory>
     ensures { IfOk result (λ told. told.why ≡ Why.BadWords) }
 {
@@ -90,34 +77,12 @@ fn bad_words(alloc: Global, line: &str) -> Result<Told, NoMemory>
     })
 }
 
-// Interleaves are not run.
-fn not_run(alloc: Global, chosen: &Chosen<'_, '_, '_>, place: usize) -> Result<Told, NoMemory>
-    ensures { IfOk result (λ told. told.why ≡ Why.Faulty) }
-{
-    let file = chosen.suite.test_file();
-    let name = file.name;
-    let at = position_of(file.text, place.min(file.text.len()));
-    Ok(Told {
-        why: Why::Faulty,
-        line: format!(in alloc; "{name}:{at}: an interleave is not run yet\n")?,
-    })
-}
-
-// Whether none of the tests has an interleave.
-fn are_plain(alloc: Global, chosen: &[Chosen<'_, '_, '_>]) -> Result<(), Stop>
-    ensures { HoldsOr (All IsPlain chosen.now) Why.Faulty result }
-{
-    for one in chosen {
-        let test = one.test;
-        if let Some(place) = interleave_in(&test.steps.items) {
-            return Err(Stop::Told(not_run(alloc, one, place)?));
-        }
-    }
-    Ok(())
-}
-
-// Whether there are tests, where some are asked for.
-fn are_some(alloc: Global, choice: &Choice, chosen: &[Chosen<'_, '_, '_>]) -> Result<(), Stop>
+/// Whether there are tests, where some are asked for.
+pub(crate) fn are_some(
+    alloc: Global,
+    choice: &Choice,
+    chosen: &[Chosen<'_, '_, '_>],
+) -> Result<(), Stop>
     ensures { HoldsOr (AreSome choice.now chosen.now) Why.BadWords result }
 {
     if !chosen.is_empty() {
@@ -134,16 +99,4 @@ fn are_some(alloc: Global, choice: &Choice, chosen: &[Chosen<'_, '_, '_>]) -> Re
             Err(Stop::Told(told))
         }
     }
-}
-
-/// Whether these tests can be run.
-pub(crate) fn are_ready(
-    alloc: Global,
-    choice: &Choice,
-    chosen: &[Chosen<'_, '_, '_>],
-) -> Result<(), Stop>
-    ensures { AreReady choice.now chosen.now result }
-{
-    are_some(alloc, choice, chosen)?;
-    are_plain(alloc, chosen)
 }

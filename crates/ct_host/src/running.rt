@@ -1,14 +1,15 @@
 ghost use Rattle.std.specs.Prelude.{◌≡◌, List, ℕ, IfOk, OnOk};
 ghost use Rattle.std.specs.Io.KnownBytes.{append_known};
 ghost use Rattle.ct_host.specs.Ends.{faults_after};
-ghost use Rattle.ct_host.specs.Reports.{IsReport, IsVerdict, Prints, TellsTest, TellsTests, setting_of};
+ghost use Rattle.ct_host.specs.Reports.{IsReport, IsVerdict, Prints, TellsTest, TellsTests, chosen_setting};
 
 use crate::choosing::Chosen;
 use crate::outputs::Outputs;
 use crate::status::Status;
 use crate::stop::Broken;
-use ct_report::{Counts, passed, plan};
-use ct_run::{Names, Runner};
+use ct_orders::{Ended, Retold, Tester, Verdict};
+use ct_report::{Counts, TestFile, delivery_text, passed, plan};
+use ct_run::Runner;
 use ct_script::Script;
 use ct_words::Choice;
 use ic_base::NoMemory;
@@ -18,13 +19,20 @@ use ic_state::Charge;
 use std::alloc::Global;
 use std::thread::Threads;
 
+/// The limit and the price of instructions, and the most states that an interleave may meet.
+#[derive(Clone, Copy)]
+pub(crate) struct Limits {
+    pub(crate) charge: Charge,
+    pub(crate) states: u32,
+}
+
 /// What tests are run with.
 #[derive(Drop)]
 pub(crate) struct Session<'i, R, G> {
     pub(crate) alloc: Global,
     pub(crate) rt: &'i R,
     pub(crate) gate: &'i G,
-    pub(crate) charge: Charge,
+    pub(crate) limits: Limits,
 }
 
 fn verdict(counts: &Counts) -> Status
@@ -38,41 +46,50 @@ fn verdict(counts: &Counts) -> Status
 }
 
 impl<'i, R: Threads + Sync, G: Gate + Sync> Session<'i, R, G> {
-    fn runner(&self, chosen: &Chosen<'_, 'i, '_>) -> Runner<'i, R, G>
-        ensures { result ≡ setting_of self.now.charge chosen.now.suite.sourced }
+    fn tester(&self, chosen: &Chosen<'_, 'i, '_>) -> Tester<'i, R, G>
+        ensures setting { result.setting ≡ chosen_setting self.now.limits chosen.now }
+        ensures most { result.most ≡ self.now.limits.states }
     {
         let file = chosen.suite.test_file();
-        Runner {
+        let runner = Runner {
             alloc: self.alloc,
             rt: self.rt,
             gate: self.gate,
-            charge: self.charge,
+            charge: self.limits.charge,
             sources: file.sources,
             text: file.text,
+        };
+        Tester {
+            runner,
+            most: self.limits.states as usize,
         }
     }
 
     // Runs a test, and says what is printed of it.
     fn test(&self, chosen: &Chosen<'_, 'i, '_>, counts: &mut Counts) -> Result<Bytes, NoMemory>
-        ensures { IfOk result (λ told. TellsTest self.now.charge chosen.now counts.old told counts.new) }
+        ensures { IfOk result (λ told. TellsTest self.now.limits chosen.now counts.old told counts.new) }
     {
         let alloc = self.alloc;
         let number = counts.next()?;
         let name = &chosen.test.name;
-        let mut names = Names::start(alloc)?;
-        let mut script = Script::unwanted(alloc);
         let suite = chosen.suite;
+        let file = suite.test_file();
         let preamble = &suite.checked.preamble;
-        let runner = self.runner(chosen);
-        match runner.test(preamble, chosen.test, &mut names, &mut script)? {
-            None => {
+        let tester = self.tester(chosen);
+        let Ended { verdict, way } = tester.test(preamble, chosen.test)?;
+        match verdict {
+            Verdict::Passed => {
                 counts.pass()?;
                 passed(alloc, number, name)
             }
-            Some(failure) => {
+            Verdict::Failed(not_met) => {
                 counts.fail()?;
-                let file = chosen.suite.test_file();
-                file.not_passed(alloc, number, name, &names.items, &failure)
+                let told = tester.deliveries(preamble, chosen.test, &way)?;
+                file.not_passed(alloc, number, name, &not_met, &told)
+            }
+            Verdict::Undecided(place) => {
+                counts.leave()?;
+                file.not_decided(alloc, number, name, place, self.limits.states)
             }
         }
     }
@@ -85,7 +102,7 @@ impl<'i, R: Threads + Sync, G: Gate + Sync> Session<'i, R, G> {
         counts: &mut Counts,
         outputs: &mut Outputs<K, E>,
     ) -> Result<(), Broken>
-        ensures printed { OnOk result ((told : List ℕ) × TellsTest self.now.charge chosen.now counts.old told counts.new
+        ensures printed { OnOk result ((told : List ℕ) × TellsTest self.now.limits chosen.now counts.old told counts.new
             × (K.taken outputs.new.out ≡ append_known (K.taken outputs.old.out) told)) }
         ensures counted { K.faults outputs.new.out ≡ faults_after (K.faults outputs.old.out) result }
     {
@@ -102,7 +119,7 @@ impl<'i, R: Threads + Sync, G: Gate + Sync> Session<'i, R, G> {
         counts: &mut Counts,
         outputs: &mut Outputs<K, E>,
     ) -> Result<(), Broken>
-        ensures printed { OnOk result ((told : List ℕ) × TellsTests self.now.charge tests.now counts.old told counts.new
+        ensures printed { OnOk result ((told : List ℕ) × TellsTests self.now.limits tests.now counts.old told counts.new
             × (K.taken outputs.new.out ≡ append_known (K.taken outputs.old.out) told)) }
         ensures counted { K.faults outputs.new.out ≡ faults_after (K.faults outputs.old.out) result }
     {
@@ -118,7 +135,7 @@ impl<'i, R: Threads + Sync, G: Gate + Sync> Session<'i, R, G> {
         tests: &[Chosen<'_, 'i, '_>],
         outputs: &mut Outputs<K, E>,
     ) -> Result<Status, Broken>
-        ensures printed { IfOk result (λ status. (report : List ℕ) × IsReport self.now.charge tests.now report status
+        ensures printed { IfOk result (λ status. (report : List ℕ) × IsReport self.now.limits tests.now report status
             × (K.taken outputs.new.out ≡ append_known (K.taken outputs.old.out) report)) }
         ensures counted { K.faults outputs.new.out ≡ faults_after (K.faults outputs.old.out) result }
     {
@@ -129,15 +146,37 @@ impl<'i, R: Threads + Sync, G: Gate + Sync> Session<'i, R, G> {
         Ok(verdict(&counts))
     }
 
+    // Adds the delivery at which a script ends, if no pick takes it.
+    fn push_cut(
+        &self,
+        file: &TestFile<'i>,
+        retold: &Retold<'i>,
+        script: &mut Script,
+    ) -> Result<(), NoMemory> {
+        if !retold.is_cut {
+            return Ok(());
+        }
+        if let Some(told) = retold.interleaves.last() {
+            if let Some(delivery) = told.deliveries.last() {
+                let names = &told.names.items;
+                let text = delivery_text(self.alloc, file.sources, names, delivery)?;
+                script.no_pick(&text)?;
+            }
+        }
+        Ok(())
+    }
+
     // What a test does, as a script.
     fn script_of(&self, chosen: &Chosen<'_, 'i, '_>) -> Result<Bytes, NoMemory> {
         let alloc = self.alloc;
-        let mut names = Names::start(alloc)?;
-        let mut script = Script::begin(alloc, self.charge.limit, self.charge.price)?;
+        let Charge { limit, price } = self.limits.charge;
+        let mut script = Script::begin(alloc, limit, price)?;
         let suite = chosen.suite;
         let preamble = &suite.checked.preamble;
-        let runner = self.runner(chosen);
-        runner.test(preamble, chosen.test, &mut names, &mut script)?;
+        let tester = self.tester(chosen);
+        let Ended { way, .. } = tester.test(preamble, chosen.test)?;
+        let retold = tester.retell(preamble, chosen.test, &way, &mut script)?;
+        self.push_cut(&suite.test_file(), &retold, &mut script)?;
         Ok(Bytes {
             items: script.into_lines().unwrap_or(Vec::new(alloc)),
         })
@@ -166,7 +205,7 @@ impl<'i, R: Threads + Sync, G: Gate + Sync> Session<'i, R, G> {
         tests: &[Chosen<'_, 'i, '_>],
         outputs: &mut Outputs<K, E>,
     ) -> Result<Status, Broken>
-        ensures printed { IfOk result (Prints self.now.charge choice.now tests.now (K.taken outputs.old.out) (K.taken outputs.new.out)) }
+        ensures printed { IfOk result (Prints self.now.limits choice.now tests.now (K.taken outputs.old.out) (K.taken outputs.new.out)) }
         ensures counted { K.faults outputs.new.out ≡ faults_after (K.faults outputs.old.out) result }
     {
         match choice {

@@ -7,15 +7,15 @@ ghost use Rattle.ct_host.specs.declared.stop.Stop.TheVariants as stops;
 ghost use Rattle.ct_host.specs.declared.stop.Told.{Told as ATold};
 ghost use Rattle.ct_host.specs.declared.stop.Why.{Why as AWhy};
 ghost use Rattle.ct_host.specs.Chosen.{chosen_tests};
-ghost use Rattle.ct_host.specs.Ends.{EndsRefused, EndsWell, Hinders, HindersTests, Refuses, RunsChosen, RunsTests, faults_then};
+ghost use Rattle.ct_host.specs.Ends.{AreOf, EndsRefused, EndsWell, Hinders, HindersTests, Refuses, RunsChosen, RunsTests, faults_then};
 ghost use Rattle.ct_host.specs.Looking.{first_of, why_of};
 ghost use Rattle.ct_host.specs.Statuses.{status_of};
 
-use crate::choosing::{Chosen, are_ready, chosen_tests};
+use crate::choosing::{Chosen, are_some, chosen_tests};
 use crate::disk::Disk;
 use crate::looking::{Looked, Suite, check_all, load, source};
 use crate::outputs::Outputs;
-use crate::running::Session;
+use crate::running::{Limits, Session};
 use crate::status::Status;
 use crate::stop::{Stop, Told, Why};
 use ct_words::{Choice, TestOptions, usage};
@@ -25,15 +25,17 @@ use ic_state::Charge;
 use std::alloc::Global;
 use std::thread::Threads;
 
-// The limit and the price of the words.
-fn charge_of(options: &TestOptions) -> Charge
+// What the words say of how tests are run.
+fn limits_of(options: &TestOptions) -> Limits
     requires { HasBounds options.now }
-    ensures limit { result.limit ≡ options.now.limit }
-    ensures price { result.price ≡ options.now.price }
+    ensures { AreOf options.now result }
 {
-    Charge {
-        limit: options.limit,
-        price: options.price,
+    Limits {
+        charge: Charge {
+            limit: options.limit,
+            price: options.price,
+        },
+        states: options.states,
     }
 }
 
@@ -54,12 +56,12 @@ fn run_chosen<'i, R: Threads + Sync, K: Sink + Drop, E: Sink + Drop, G: Gate + S
     tests: &[Chosen<'_, 'i, '_>],
     outputs: &mut Outputs<K, E>,
 ) -> Result<Status, Stop>
-    ensures ended { IfOk result (RunsChosen session.now.charge choice.now tests.now (K.taken outputs.old.out) (K.taken outputs.new.out)) }
+    ensures ended { IfOk result (RunsChosen session.now.limits choice.now tests.now (K.taken outputs.old.out) (K.taken outputs.new.out)) }
     ensures told { (told : ATold) → result ≡ Err (stops.Told told)
         → (outputs.new ≡ outputs.old) × HindersTests choice.now tests.now told.why }
     ensures counted { K.faults outputs.new.out ≡ faults_then (K.faults outputs.old.out) result }
 {
-    are_ready(session.alloc, choice, tests)?;
+    are_some(session.alloc, choice, tests)?;
     match session.perform(choice, tests, outputs) {
         Ok(status) => Ok(status),
         Err(broken) => Err(Stop::Broken(broken)),
@@ -73,7 +75,7 @@ fn run_suites<'i, R: Threads + Sync, K: Sink + Drop, E: Sink + Drop, G: Gate + S
     suites: &[Suite<'i, '_>],
     outputs: &mut Outputs<K, E>,
 ) -> Result<Status, Stop>
-    ensures ended { IfOk result (RunsChosen session.now.charge choice.now (chosen_tests choice.now suites.now)
+    ensures ended { IfOk result (RunsChosen session.now.limits choice.now (chosen_tests choice.now suites.now)
         (K.taken outputs.old.out) (K.taken outputs.new.out)) }
     ensures told { (told : ATold) → result ≡ Err (stops.Told told)
         → (outputs.new ≡ outputs.old) × HindersTests choice.now (chosen_tests choice.now suites.now) told.why }
@@ -113,12 +115,12 @@ fn run_options<R: Threads + Sync, D: Disk, K: Sink + Drop, E: Sink + Drop, G: Ga
     match first_of(unsound, first_of(unparsed, unread)) {
         Some(told) => Err(Stop::Told(told)),
         None => {
-            let charge = charge_of(options);
+            let limits = limits_of(options);
             let session = Session {
                 alloc,
                 rt,
                 gate,
-                charge,
+                limits,
             };
             run_suites(&session, &options.choice, &suites, outputs)
         }

@@ -23,9 +23,9 @@ returns-clause-ended g c =
     let are = looked gives c.args.options.now.files _ _ _ _ _ c.in_ok-suites.field-0.items.items _ _ _ _ _ (c.deref.ensures.value ∙ ap (λ (o : TestOptions). o.files) c.options.view_is)
     c.deref-2.ensures.value c.deref-3.ensures.value c.first_of.ensures c.first_of-2.ensures c.in_ok-loaded.ensures c.in_ok-sourced.ensures c.in_ok-suites.ensures in
     let none = subst (λ (f : Option Why). AreSuites gives c.args.options.now.files c.in_ok-suites.field-0.items.items f) (ap why_of c.in-None.is) are in
-    runs_tests gives c.args.options.now c.deref-in-None.result.now c.charge_of-charge.result _ _ c.run_suites.result
-    (subst (λ (s : List Suite). AreSuites gives c.args.options.now.files s None) (sym c.deref-in-None.ensures.value) none) c.charge_of-charge.ensures.limit c.charge_of-charge.ensures.price
-    (subst (λ (choice : Choice). IfOk c.run_suites.result (RunsChosen c.charge_of-charge.result choice (chosen_tests choice c.deref-in-None.result.now) (g.K.Sink.taken c.args.outputs.now.out) (g.K.Sink.taken c.run_suites.new.outputs.out)))
+    runs_tests gives c.args.options.now c.deref-in-None.result.now c.limits_of-limits.result _ _ c.run_suites.result
+    (subst (λ (s : List Suite). AreSuites gives c.args.options.now.files s None) (sym c.deref-in-None.ensures.value) none) c.limits_of-limits.ensures
+    (subst (λ (choice : Choice). IfOk c.run_suites.result (RunsChosen c.limits_of-limits.result choice (chosen_tests choice c.deref-in-None.result.now) (g.K.Sink.taken c.args.outputs.now.out) (g.K.Sink.taken c.run_suites.new.outputs.out)))
     (ap (λ (o : TestOptions). o.choice) c.options.view_is) c.run_suites.ensures.ended)
 
 pub returns-clause-told : goal.returns-clause-told

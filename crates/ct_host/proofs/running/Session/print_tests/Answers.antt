@@ -12,7 +12,7 @@ loop-chosen-preserved g c =
     let one = c.in_ok-print_test.ensures.printed in (
       (
         before.0 ++ one.0,
-        tell_more c.args.self.now.charge all c.args.counts.now before.0 c.loop-chosen.counts (drop i all) c.chosen-item.result (drop (i + 1) all) one.0 c.print_test.new.counts
+        tell_more c.args.self.now.limits all c.args.counts.now before.0 c.loop-chosen.counts (drop i all) c.chosen-item.result (drop (i + 1) all) one.0 c.print_test.new.counts
             (there all i c.chosen-item.result c.loop-chosen-test.true c.chosen-item.is) one.1 before.1,
         one.2 ∙ ap (λ (t : Option (List ℕ)). append_known t one.0) before.2 ∙ known_more (g.K.Sink.taken c.args.outputs.now.out) before.0 one.0,
       ),
@@ -24,4 +24,4 @@ returns-clause-printed g c =
     let all = c.args.tests.now in
     let i = c.loop-chosen.chosen-index in
     let done = c.loop-chosen.invariant.0 in
-    (done.0, tell_end c.args.self.now.charge all c.args.counts.now done.0 c.loop-chosen.counts (drop i all) (past all i (omega (arith, c.loop-chosen-test.false))) done.1, done.2)
+    (done.0, tell_end c.args.self.now.limits all c.args.counts.now done.0 c.loop-chosen.counts (drop i all) (past all i (omega (arith, c.loop-chosen-test.false))) done.1, done.2)

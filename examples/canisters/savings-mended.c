@@ -1,0 +1,3 @@
+// savings.c, mended.
+#define MENDED
+#include "savings.c"

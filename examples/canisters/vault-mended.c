@@ -1,0 +1,3 @@
+// vault.c, mended.
+#define MENDED
+#include "vault.c"

@@ -1,0 +1,3 @@
+// worker.c, mended.
+#define MENDED
+#include "worker.c"
