@@ -7,6 +7,8 @@ mod asking;
 #[cfg(test)]
 mod canisters;
 #[cfg(test)]
+mod digest;
+#[cfg(test)]
 mod picks;
 #[cfg(test)]
 mod queues;

@@ -2,6 +2,7 @@
 
 mod keeping;
 mod managing;
+mod orders;
 mod searching;
 mod tests;
 mod worlds;

@@ -2,7 +2,6 @@
 
 mod asks;
 mod dice;
-mod digest;
 mod module;
 mod tests;
 mod worlds;

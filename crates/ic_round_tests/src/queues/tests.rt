@@ -1,6 +1,6 @@
+use crate::digest::digest_with;
 use crate::queues::asks::{fanning, managing, some_canister, to_canister, to_management};
 use crate::queues::dice::Dice;
-use crate::queues::digest::digest_with;
 use crate::queues::worlds::{Body, asked, begun, rounds};
 use ic_principal::Principal;
 use ic_state::World;
