@@ -30,7 +30,7 @@ use Rattle.ct_orders.specs.Reached.{Reached}
 use Rattle.ct_orders.specs.Verdicts.{IsAt, FailsFirst, Passes, HasTooMany, whole}
 use Rattle.ct_orders.specs.Cases.{AreHeld, AreAfter, IsUnmetIn, reached, all_reached, first_case}
 use Rattle.ct_orders.specs.Answers.{GoesOn, IsInterleaved}
-use Rattle.ct_orders.specs.Course.{first_undecided, is_interleave, ended_with, IsDecided, IsSoFar, IsNext, IsVerdict}
+use Rattle.ct_orders.specs.Course.{first_undecided, is_interleave, ended_with, IsDecided, IsWhole, IsSoFar, IsNext, IsVerdict}
 use Rattle.ct_orders.proofs.Courses.{statement_goes_on, statement_fails, interleave_goes_on, none_goes_on, stuck_fails, refuted_fails, walks_on, stops_at, at_start, passes, one}
 
 module _ (setting : Setting) (most : ℕ) (steps left : List CheckedStep) where
@@ -116,18 +116,39 @@ placed setting most all parts cases undecided so_far = (length so_far.done, ap l
 
 -- ---- the end
 
+kind : Verdict → ℕ
+kind Passed = 0
+kind (Failed f) = 1
+kind (Undecided place) = 2
+
+not_passed : (f : NotMet) → Failed f ≡ Passed → ⊥
+not_passed f same = let e : 1 ≡ 0 = ap kind same in omega (arith, e)
+
+not_undecided : (place : ℕ) → Undecided place ≡ Passed → ⊥
+not_undecided place same = let e : 2 ≡ 0 = ap kind same in omega (arith, e)
+
+not_both : (f : NotMet) (place : ℕ) → Failed f ≡ Undecided place → ⊥
+not_both f place same = let e : 1 ≡ 2 = ap kind same in omega (arith, e)
+
 module _ (setting : Setting) (most : ℕ) (steps : List CheckedStep) where
+  passed_so : (cases : List Reached) (ended : Ended) → IsWhole setting steps [] cases → ended.verdict ≡ Passed → IsVerdict setting most steps ended
+  passed_so cases ended whole is = record {
+    passed = λ same. passes setting most steps cases whole;
+    failed = λ unmet same. absurd (not_passed unmet (sym same ∙ is));
+    undecided = λ place same. absurd (not_undecided place (sym same ∙ is));
+  }
+
+  undecided_so : (first : ℕ) (ended : Ended) → (left : List CheckedStep) × (moves : List Moving) × HasTooMany setting steps left moves most → ended.verdict ≡ Undecided first
+      → IsVerdict setting most steps ended
+  undecided_so first ended more is = record {
+    passed = λ same. absurd (not_undecided first (sym is ∙ same));
+    failed = λ unmet same. absurd (not_both unmet first (sym same ∙ is));
+    undecided = λ place same. more;
+  }
+
   ended_by : (undecided : Option ℕ) (cases : List Reached) (ended : Ended) → IsDecided setting most steps [] cases undecided → ended.verdict ≡ ended_with undecided → IsVerdict setting most steps ended
-  ended_by None cases ended decided is = record {
-    passed = λ same. passes setting most steps cases decided;
-    failed = λ unmet same. (let both : Failed unmet ≡ Passed = sym same ∙ is in cc);
-    undecided = λ place same. (let both : Undecided place ≡ Passed = sym same ∙ is in cc);
-  }
-  ended_by (Some first) cases ended decided is = record {
-    passed = λ same. (let both : Passed ≡ Undecided first = sym same ∙ is in cc);
-    failed = λ unmet same. (let both : Failed unmet ≡ Undecided first = sym same ∙ is in cc);
-    undecided = λ place same. decided;
-  }
+  ended_by None cases ended decided is = passed_so cases ended decided is
+  ended_by (Some first) cases ended decided is = undecided_so first ended decided is
 
   pub ended_so : (left : List CheckedStep) (cases : List Reached) (undecided : Option ℕ) (ended : Ended) → left ≡ [] → IsSoFar setting most steps left cases undecided
       → ended.verdict ≡ ended_with undecided → IsVerdict setting most steps ended
@@ -136,12 +157,12 @@ module _ (setting : Setting) (most : ℕ) (steps : List CheckedStep) where
 
   pub failed_so : (place : ℕ) (f : NotMet) (ended : Ended) → ended.verdict ≡ Failed f → FailsFirst setting most steps f.failure.place ended.way.order.items f.names f.failure.unmet.came → IsVerdict setting most steps ended
   failed_so place f ended is fails = record {
-    passed = λ same. (let both : Passed ≡ Failed f = sym same ∙ is in cc);
+    passed = λ same. absurd (not_passed f (sym is ∙ same));
     failed = λ unmet same.
         let both : Failed f ≡ Failed unmet = sym is ∙ same in
         let one : f ≡ unmet = cc in
         subst (λ (x : NotMet). FailsFirst setting most steps x.failure.place ended.way.order.items x.names x.failure.unmet.came) one fails;
-    undecided = λ place same. (let both : Undecided place ≡ Failed f = sym same ∙ is in cc);
+    undecided = λ place same. absurd (not_both f place (sym is ∙ same));
   }
 
 pub all_ended : {E : Type 0} (setting : Setting) (most : ℕ) (parts left : List CheckedStep) (start : List Reached) (t : Tables) (course : Course) (before : ℕ) (r : Result Ended E) → left ≡ []
