@@ -116,7 +116,7 @@ placed setting most all parts cases undecided so_far = (length so_far.done, ap l
 
 -- ---- the end
 
-kind : Verdict → ℕ
+abbrev kind : Verdict → ℕ
 kind Passed = 0
 kind (Failed f) = 1
 kind (Undecided place) = 2
