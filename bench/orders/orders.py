@@ -1,5 +1,5 @@
 #!/usr/bin/env python3
-"""Measures TEST on interleaves that it writes to FOLDER, each of about a thousand and about ten thousand cases.
+"""Measures TEST on interleaves that it writes to FOLDER, each of some thousand and of ten thousand and more cases.
 `bench/orders` calls it."""
 import subprocess
 import sys
@@ -34,9 +34,11 @@ def passes(path, states):
 
 def cases_of(path):
     """The fewest states with which the test is decided: how many cases there are."""
-    few, many = 1, 1_000_000
+    few, many = 1, 1
+    while not passes(path, many):
+        few, many = many + 1, 2 * many
     while few < many:
-        middle = min((few + many) // 2, 2 * few)
+        middle = (few + many) // 2
         if passes(path, middle):
             many = middle
         else:
@@ -51,7 +53,7 @@ for name, write, counts in (("two canisters in C", vault, (4, 5)), ("a canister 
         with open(path, "w", encoding="utf8") as file:
             file.write(write(calls))
         cases = cases_of(path)
-        seconds, peak = measured([test, path], "/dev/null", runs=3)
+        seconds, peak = measured([test, "--states", str(cases), path], "/dev/null", runs=3)
         rows.append(1_000_000 * seconds / cases)
         print(f"{name}, {calls} calls: {cases:,} cases in {seconds:.2f} s, {rows[-1]:.0f} us a case; peak memory {peak // 1024} MiB")
     print(f"{name}: a case of the larger takes {rows[1] / rows[0]:.2f} times as long")
