@@ -283,10 +283,6 @@ fault_only expected bytes NoMemory decided reads h = absurd h
 
 -- ---- what the steps of reading a message answer
 
--- the fault is that of the header, whatever is expected
-pub no_header_answers : (bytes : List ℕ) → (BeginsWithHeader true bytes → ⊥) → (expected : Expected) → decoded expected bytes ≡ err NotHeader
-no_header_answers bytes fails expected = decoded_not_header expected bytes fails
-
 -- what the header is read as
 pub header_answers : (bytes : List ℕ) (table : List Entry) (types : List TyRef) (size : ℕ) → IsHeader false table types (take size bytes) → header_at false bytes ≡ Some ((table, types), drop size bytes)
 header_answers bytes table types size header =

@@ -46,12 +46,6 @@ seq_items c bytes vs t u w x lower upper = rw (← lower, ← upper) refl
 pub no_lower : (c : Setting) (bytes : Option (List ℕ)) (vs : List Coercions) (t u : TyRef) → None ≡ seq_of (shape c.wire t) → seq_at c bytes vs t u ≡ None
 no_lower c bytes vs t u e = rw (← e) refl
 
-pub no_upper : (c : Setting) (bytes : Option (List ℕ)) (vs : List Coercions) (t u w : TyRef) → Some w ≡ seq_of (shape c.wire t) → None ≡ seq_of (shape c.expected u) → seq_at c bytes vs t u ≡ None
-no_upper c bytes vs t u w e f = rw (← e, ← f) refl
-
-pub blob_bytes : (c : Setting) (s : List ℕ) (t u w x : TyRef) → Some w ≡ seq_of (shape c.wire t) → Some x ≡ seq_of (shape c.expected u) → true ≡ is_nat8 x → parts_at c (blob s) t u ≡ Some (blob s)
-blob_bytes c s t u w x lower upper byte = seq_items c (Some s) (map (coercions_of_byte c) s) t u w x lower upper ∙ ap (items_at c (Some s) (map (coercions_of_byte c) s) w x) (sym byte)
-
 pub blob_items : (c : Setting) (s : List ℕ) (t u w x : TyRef) → Some w ≡ seq_of (shape c.wire t) → Some x ≡ seq_of (shape c.expected u) → false ≡ is_nat8 x
     → parts_at c (blob s) t u ≡ (each_by (λ b. coerced c (byte_value b) w x) s >>= λ rs. Some (list (contents_of rs)))
 blob_items c s t u w x lower upper other =
@@ -78,12 +72,6 @@ list_items c values t u w x lower upper other =
     let rds = map (λ (v : Value). coercions c (view v)) values in
     list_at c values t u ∙ seq_items c (bytes_of rds) rds t u w x lower upper ∙ ap (items_at c (bytes_of rds) rds w x) (sym other)
     ∙ ap (λ (o : Option (List Content)). o >>= λ rs. Some (list (contents_of rs))) (all_each c w x view values)
-
-pub no_list : (c : Setting) (values : List Value) (t u : TyRef) → None ≡ seq_of (shape c.wire t) → parts_at c (list (contents_of (views values))) t u ≡ None
-no_list c values t u e = list_at c values t u ∙ no_lower c _ _ t u e
-
-pub no_list_to : (c : Setting) (values : List Value) (t u w : TyRef) → Some w ≡ seq_of (shape c.wire t) → None ≡ seq_of (shape c.expected u) → parts_at c (list (contents_of (views values))) t u ≡ None
-no_list_to c values t u w e f = list_at c values t u ∙ no_upper c _ _ t u w e f
 
 -- what is under an id stands at the place of that id
 found_at : {A : Type 0} → ℕ → List A → Option (ℕ × TyRef) → Option (TyRef × A)
@@ -157,12 +145,6 @@ pub record_fields : (c : Setting) (ps : List (ℕ × Content)) (t u : TyRef) (fs
 record_fields c ps t u fs gs lower upper =
     let shapes : record_at c (map (coercions c) (seconds ps)) t u ≡ (fields_at c (with_fields fs (map (coercions c) (seconds ps))) gs >>= λ rs. Some (record_of (parts_of rs))) = rw (lower, upper) refl in
     record_at_parts c ps t u ∙ shapes ∙ ap (λ (o : Option (List (ℕ × Content))). o >>= λ rs. Some (record_of (parts_of rs))) (fields_each c fs (seconds ps) gs)
-
-pub no_record : (c : Setting) (ps : List (ℕ × Content)) (t u : TyRef) → fields_of (shape c.wire t) ≡ None → parts_at c (record_of (parts_of ps)) t u ≡ None
-no_record c ps t u e = record_at_parts c ps t u ∙ rw e refl
-
-pub no_record_to : (c : Setting) (ps : List (ℕ × Content)) (t u : TyRef) (fs : List (ℕ × TyRef)) → fields_of (shape c.wire t) ≡ Some fs → fields_of (shape c.expected u) ≡ None → parts_at c (record_of (parts_of ps)) t u ≡ None
-no_record_to c ps t u fs e f = record_at_parts c ps t u ∙ rw (e, f) refl
 
 -- a variant is read by the target of its case
 abbrev on_target : Setting → Content → TyRef × ℕ × TyRef → Option Content

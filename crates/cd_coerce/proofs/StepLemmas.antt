@@ -1,5 +1,5 @@
 -- what is settled without the parts of a value
-use Rattle.std.proofs.Common.{◌≡◌, Bool, true, false, ◌&&◌, not, List, Option, Some, None, refl, sym, ◌∙◌, ap, subst}
+use Rattle.std.proofs.Common.{◌≡◌, Bool, true, false, List, Option, Some, None, refl, sym, ◌∙◌, ap, subst}
 use Rattle.std.specs.Prelude.{Result}
 use Rattle.ic_base.specs.Gives.{Gives}
 use Rattle.ic_base.specs.declared.read_error.ReadError.{ReadError}
@@ -8,16 +8,12 @@ use Rattle.cd_codec.specs.declared.value.Value.{Value}
 use Rattle.cd_codec.specs.View.{view}
 use Rattle.cd_coerce.specs.declared.step.Step.{Step}
 use Rattle.cd_coerce.specs.declared.step.Step.TheVariants.{Inner as InnerStep, Parts as PartsStep}
-use Rattle.ic_base.specs.Reader.{◌>>=◌}
 use Rattle.cd_types.specs.declared.entry.TyRef.{TyRef}
 use Rattle.cd_types.specs.Shape.{shape}
-use Rattle.cd_sub.specs.MayMiss.{may_miss}
-use Rattle.cd_codec.specs.Content.{Content, null, reserved, plain, blob, none, some, list, record_of, variant}
-use Rattle.cd_coerce.specs.declared.plain.OptRule.TheVariants.{ToNone, Inner, Constituent}
-use Rattle.cd_coerce.specs.Parts.{is_constituent}
-use Rattle.cd_coerce.specs.Read.{Setting, AtTypes, plain_at, some_if, opt_of, plain_coercion, coercions, coerced}
-use Rattle.cd_coerce.specs.Step.{setting, opt_rule, answer_of_plain, plain_part, inner_at, parts_at, lifted, coerced_by}
-use Rattle.cd_coerce.proofs.Only.{plain_own, constituent_is}
+use Rattle.cd_codec.specs.Content.{Content, plain, blob, none, some, list, record_of, variant}
+use Rattle.cd_coerce.specs.Read.{Setting, AtTypes, plain_at, some_if, plain_coercion, coercions, coerced}
+use Rattle.cd_coerce.specs.Step.{setting, answer_of_plain, plain_part, inner_at, parts_at, lifted, coerced_by}
+use Rattle.cd_coerce.proofs.Only.{plain_own}
 
 -- what is read without parts, if the value has none
 abbrev pub or_parts : Option (Option Content) → Option Content → Option Content
@@ -37,28 +33,6 @@ own_is c (some v) t u = refl
 own_is c (list vs) t u = refl
 own_is c (record_of ps) t u = refl
 own_is c (variant i v) t u = refl
-
-opt_rule_constituent : (v : Content) → opt_rule v ≡ Constituent → is_constituent v ≡ true
-opt_rule_constituent (plain null) e = absurd cc
-opt_rule_constituent (plain reserved) e = absurd cc
-opt_rule_constituent none e = absurd cc
-opt_rule_constituent (some v) e = absurd cc
-opt_rule_constituent _ e = refl
-
-pub opt_null : (c : Setting) (v : Content) (t w : TyRef) → opt_rule v ≡ ToNone → (coercions c v).opt t w ≡ Some none
-opt_null c (plain null) t w e = refl
-opt_null c (plain reserved) t w e = refl
-opt_null c none t w e = refl
-opt_null c _ t w e = absurd cc
-
-pub opt_inner : (c : Setting) (v : Content) (t w : TyRef) → opt_rule v ≡ Inner → (coercions c v).opt t w ≡ (opt_of (shape c.wire t) >>= λ x. some_if (c.below x w) (inner_at c v x w))
-opt_inner c (some v) t w e = refl
-opt_inner c (plain null) t w e = absurd cc
-opt_inner c (plain reserved) t w e = absurd cc
-opt_inner c _ t w e = absurd cc
-
-pub opt_constituent : (c : Setting) (v : Content) (t w : TyRef) → opt_rule v ≡ Constituent → (coercions c v).opt t w ≡ some_if (not (may_miss (shape c.expected w)) && c.below t w) ((coercions c v).own t w)
-opt_constituent c v t w e = ap (λ (read : AtTypes). read t w) (constituent_is c v (opt_rule_constituent v e))
 
 -- the tables of the message and of the expected types
 abbrev pub Tables : Type 0

@@ -1,16 +1,16 @@
 -- the search for a pair that fails
 use Rattle.std.proofs.Common.{◌≡◌, ◌↔◌, inl, inr, ⊎_elim, ℕ, zero, suc, ◌+◌, ◌-◌, ◌*◌, ◌<◌, ◌≤◌, Bool, true, false, cond, ◌||◌, List, [], ◌∷◌, ◌++◌, Some, None, Result, Ok, Err, OnOk, IfOk, length, get_or, set, take, refl, sym, ◌∙◌, ap, subst, arith}
 use Rattle.std.proofs.lemmas.Bool.{cases_eq}
-use Rattle.std.proofs.lemmas.List.{append_assoc, append-nil, get_or-set_same, get_or-set_other, length-append, length_push, take_more, take-append-le}
+use Rattle.std.proofs.lemmas.List.{append_assoc, get_or-set_same, get_or-set_other, length-append, length_push, take_more, take-append-le}
 use Rattle.std.proofs.lemmas.List.Sums.{sum_by-set}
-use Rattle.std.proofs.lemmas.List.Elements.{All-contains, All-from_recursion, Contains-append_left, Contains-append_right, Contains-push, Contains-push_cases, Contains-get_or}
+use Rattle.std.proofs.lemmas.List.Elements.{All-contains, All-from_recursion, Contains-append_left, Contains-append_right, Contains-push, Contains-get_or}
 use Rattle.std.specs.List.{AllByRecursion, Contains, count_by, list_any}
 use Rattle.cd_types.specs.declared.entry.Entry.{Entry}
 use Rattle.cd_sub.specs.declared.search.Mark.{Mark}
 use Rattle.cd_sub.specs.declared.search.Mark.TheVariants.{Unknown, Holds, Fails}
 use Rattle.cd_sub.specs.Parts.{verdict}
 use Rattle.cd_sub.specs.Pairs.{parts_at, PlaceSub, PlaceSubAt, is_straight}
-use Rattle.cd_sub.specs.Marks.{mark_at, is_unknown, is_failed, IsRight, IsRightBut, Notes, Noted, Searched, Settled, Tried}
+use Rattle.cd_sub.specs.Marks.{mark_at, is_unknown, is_failed, IsRight, IsRightBut, Notes, Noted, Searched, Tried}
 use Rattle.cd_sub.proofs.OrderLemmas.{all_map}
 use Rattle.cd_sub.proofs.RuleLemmas.{Found, some_same}
 use Rattle.cd_sub.proofs.KeepLemmas.{all_push}
@@ -27,14 +27,8 @@ all_left : (P : ℕ → Type 0) (xs ys : List ℕ) → AllByRecursion P (xs ++ y
 all_left P [] ys all = tt
 all_left P (x ∷ xs) ys all = (all.0, all_left P xs ys all.1)
 
-unknown_holds : {G : Type 0} → Unknown ≡ Holds → G
-unknown_holds e = cc
-
 holds_fails : {G : Type 0} → Holds ≡ Fails → G
 holds_fails e = cc
-
-unknown_fails : {G : Type 0} → Unknown ≡ Fails → G
-unknown_fails e = cc
 
 -- a mark that is written, and the others
 written : (marks : List Mark) (place : ℕ) (mark : Mark) → place < length marks → mark_at (set marks place mark) place ≡ mark
@@ -42,17 +36,6 @@ written marks place mark inside = get_or-set_same marks place mark Unknown insid
 
 kept : (marks : List Mark) (place other : ℕ) (mark : Mark) → (other ≡ place → ⊥) → mark_at (set marks place mark) other ≡ mark_at marks other
 kept marks place other mark differ = get_or-set_other marks place other mark Unknown differ
-
--- nothing is noted yet
-pub notes_none : (marks : List Mark) (met parts : List ℕ) → Notes marks marks met met parts
-notes_none marks met parts =
-    record {
-      kept = λ place holds. holds;
-      fails = λ place fails. fails;
-      holds = λ place holds. inr holds;
-      added = ([], sym (append-nil met), tt);
-      fewer = refl;
-    }
 
 -- one more part is noted
 pub notes_more : (old marks : List Mark) (before met parts : List ℕ) (part : ℕ) → Notes old marks before met parts → Contains parts part
@@ -235,48 +218,6 @@ search_step first second old new start before after next place inside is within 
           needed_noted first second old new before after parts place true notes within (sym tried.1) (subst (Contains before) (sym is) (Contains-get_or before next 0 inside)) (needed all);
       more = (more.0 ++ notes.added.0, notes.added.1 ∙ ap (λ xs. xs ++ notes.added.0) more.1 ∙ append_assoc start more.0 notes.added.0);
       smaller = omega (arith, notes.fewer);
-    }
-
-settled_holds : (first second : List Entry) (place : ℕ) (mark : Mark) → Settled mark first second place → mark ≡ Holds → ⊥
-settled_holds first second place Unknown settled e = cc
-settled_holds first second place Holds settled e = settled
-settled_holds first second place Fails settled e = cc
-
-settled_fails : (first second : List Entry) (place : ℕ) (mark : Mark) → Settled mark first second place → mark ≡ Fails → PlaceSub first second place → ⊥
-settled_fails first second place Unknown settled e = cc
-settled_fails first second place Holds settled e = cc
-settled_fails first second place Fails settled e = settled
-
--- the pair met last is marked anew
-pub right_settled : (first second : List Entry) (marks : List Mark) (met : List ℕ) (place : ℕ) (mark : Mark) → IsRightBut (met ++ place ∷ []) first second marks → place < length marks
-    → Settled mark first second place → IsRightBut met first second (set marks place mark)
-right_settled first second marks met place mark right inside settled =
-    record {
-      holds = λ other holds.
-          ⊎_elim (λ same. absurd (settled_holds first second place mark settled (sym (ap (mark_at (set marks place mark)) same ∙ written marks place mark inside) ∙ holds)))
-          (λ differ.
-          ⊎_elim (λ there. ⊎_elim (λ there. inl there) (λ same. absurd (differ (sym same))) (Contains-push_cases met place other there)) (λ sub. inr sub)
-          (right.holds other (sym (kept marks place other mark differ) ∙ holds)))
-          (cases_eq other place);
-      fails = λ other failed.
-          ⊎_elim (λ same. λ sub. settled_fails first second place mark settled (sym (ap (mark_at (set marks place mark)) same ∙ written marks place mark inside) ∙ failed) (subst (PlaceSub first second) same sub))
-          (λ differ. right.fails other (sym (kept marks place other mark differ) ∙ failed))
-          (cases_eq other place);
-    }
-
--- nothing is left to be settled
-pub right_none : (first second : List Entry) (marks : List Mark) → IsRightBut [] first second marks → IsRight first second marks
-right_none first second marks right =
-    record { holds = λ place holds. ⊎_elim (λ there. absurd (omega (arith, there.1))) (λ sub. sub) (right.holds place holds); fails = right.fails }
-
--- a search begins at an unknown pair
-pub right_begun : (first second : List Entry) (marks : List Mark) (root : ℕ) → IsRight first second marks → root < length marks → IsRightBut (root ∷ []) first second (set marks root Holds)
-right_begun first second marks root right inside =
-    record {
-      holds = λ place holds.
-          ⊎_elim (λ same. inl (subst (Contains (root ∷ [])) (sym same) (Contains-push [] root))) (λ differ. inr (right.holds place (sym (kept marks root place Holds differ) ∙ holds))) (cases_eq place root);
-      fails = λ place fails.
-          ⊎_elim (λ same. holds_fails (sym (ap (mark_at (set marks root Holds)) same ∙ written marks root Holds inside) ∙ fails)) (λ differ. right.fails place (sym (kept marks root place Holds differ) ∙ fails)) (cases_eq place root);
     }
 
 -- a part that has failed

@@ -5,3 +5,4 @@ pub mod Records
 pub mod Lists
 pub mod Rows
 pub mod Hosts
+pub mod Listening

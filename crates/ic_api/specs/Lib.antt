@@ -13,6 +13,7 @@ pub mod IsRecord
 pub mod Running
 pub mod Effects
 pub mod System
+pub mod Hearing
 pub mod Kept
 pub mod Executed
 pub mod Laws

@@ -21,7 +21,7 @@ use Rattle.ic_state.specs.Seen.{code_of, seen, entry_of, state_of}
 use Rattle.ic_state.specs.IsCanister.{IsContext, IsCanister, FitsCode, no_lists}
 use Rattle.ic_state.specs.IsWorld.{HasCounts, IsWorld}
 use Rattle.ic_keep.specs.declared.parts.KeptCanister.{KeptCanister}
-use Rattle.ic_keep.specs.Kept.{Tables, KeptState, declared_maximum, canister_at, entry_at, state_at}
+use Rattle.ic_keep.specs.Kept.{Tables, KeptState, canister_at, entry_at, state_at}
 use Rattle.ic_keep.specs.IsKept.{IsStored, IsCanisterAt, HasCountsAt, IsKept}
 
 -- ---- a canister keeps what canisters keep by what is seen of it
@@ -70,11 +70,6 @@ alike a b same idle is = record {
   fits = fits_code b.code b.store.lists (subst (λ (x : CountedCanister). FitsSeen x.code x.store) (sym same) (fits_seen a.code a.store.lists is.fits));
   idle = idle;
 }
-
--- the maximum is the one that the code declares
-pub maximum_fits : (code : Option StoredCode) (s : Lists) → FitsCode code s → declared_maximum (option_map code_of code) ≡ s.maximum
-maximum_fits None s is = ap (λ (l : Lists). l.maximum) (sym is)
-maximum_fits (Some code) s is = sym is.maximum
 
 -- ---- what is kept of a world
 

@@ -1,21 +1,17 @@
 -- A world's canisters are kept, one after another.
-use Rattle.std.proofs.Common.{◌≡◌, ℕ, ◌<◌, ◌≤◌, Bool, List, [], ◌∷◌, ◌++◌, map, length, take, drop, Option, Some, None, IfSome, option_map, refl, sym, ap, ap₂, subst, ◌∙◌, append_assoc, arith}
+use Rattle.std.proofs.Common.{◌≡◌, ℕ, Bool, List, [], ◌∷◌, ◌++◌, map, drop, Option, option_map, refl, sym, ap, ap₂, subst, ◌∙◌, append_assoc}
 use Rattle.std.specs.Bool.{IsTrue}
 use Rattle.std.specs.List.{AllByRecursion}
-use Rattle.wm_store.specs.Lists.{Lists, pages_of, page_limit}
 use Rattle.ic_behaviour.specs.State.{Code, Canister, State}
 use Rattle.ic_behaviour.specs.Counted.{CountedCanister}
 use Rattle.ic_state.specs.declared.canister.Canister.{Canister as StoredCanister}
-use Rattle.ic_state.specs.declared.canister.Code.{Code as StoredCode}
 use Rattle.ic_state.specs.declared.world.Parts.{Parts}
 use Rattle.ic_state.specs.Seen.{code_of, seen, entry_of, state_of}
 use Rattle.ic_state.specs.IsCanister.{IsCanister, FitsCode}
-use Rattle.ic_exact.specs.Ranges.{AreNumbers, bytes_of}
 use Rattle.ic_keep.specs.declared.parts.KeptCanister.{KeptCanister}
-use Rattle.ic_keep.specs.Kept.{Tables, KeptState, code_at, declared_maximum, canister_at}
-use Rattle.ic_keep.specs.IsKept.{ArePages, Grows, HasCodes, IsStored}
+use Rattle.ic_keep.specs.Kept.{Tables, KeptState, code_at, canister_at}
+use Rattle.ic_keep.specs.IsKept.{Grows, HasCodes, IsStored}
 use Rattle.ic_keep.proofs.Stays.{grows_again, all_stored, canisters_stay, codes_stay}
-use Rattle.ic_keep.proofs.Alike.{maximum_fits}
 
 abbrev pub Entries : Type 0
 Entries = List (List ℕ × StoredCanister)
@@ -48,11 +44,6 @@ codes_known t k p s view are = are.same ∙ ap (λ (x : State). map (λ (e : Lis
 
 abbrev Known : Tables → List KeptCanister → Entries → Type 0
 Known t near es = AllByRecursion (IsStored t) near × (near_codes t near ≡ all_codes es)
-
-pub first_code : (t : Tables) (near : List KeptCanister) (e : List ℕ × StoredCanister) (es : Entries) → near_codes t near ≡ all_codes (e ∷ es)
-    → AllByRecursion (λ (c : KeptCanister). code_at t.codes c.code ≡ option_map code_of e.1.code) (take 1 near)
-first_code t [] e es same = tt
-first_code t (c ∷ near) e es same = (cc, tt)
 
 others_known : (t u : Tables) → Grows t u → (near : List KeptCanister) (e : List ℕ × StoredCanister) (es : Entries) → Known t near (e ∷ es) → Known u (drop 1 near) es
 others_known t u grows [] e es known = let same : [] ≡ all_codes (e ∷ es) = known.1 in cc
@@ -93,41 +84,3 @@ one_more_entered first t u kept now near others e rest all same_codes c so_far g
 }
 
 -- ---- a canister
-
-pages_fit : (code : Option StoredCode) (s : Lists) → FitsCode code s → ArePages (page_limit s.maximum) s.memory
-pages_fit None s is = subst (λ (l : Lists). ArePages (page_limit l.maximum) l.memory) (sym is) (record { whole = refl; few = omega arith })
-pages_fit (Some code) s is = record { whole = is.whole; few = below s.maximum is.declared } where
-  below : (m : Option ℕ) → IfSome m (λ most. pages_of s.memory ≤ most) → pages_of s.memory ≤ page_limit m
-  below None h = is.most
-  below (Some most) h = omega (arith, h, is.most)
-
-pub canister_kept : (t : Tables) (c : KeptCanister) (w : StoredCanister) → FitsCode w.code w.store.lists
-    → IfSome c.code (λ n. n < length t.codes) → code_at t.codes c.code ≡ option_map code_of w.code
-    → AreNumbers t.ranges c.store.memory × (bytes_of t.ranges c.store.memory ≡ w.store.lists.memory)
-    → AreNumbers t.ranges c.store.stable × (bytes_of t.ranges c.store.stable ≡ w.store.lists.stable)
-    → ArePages 256 w.store.lists.stable → c.store.globals ≡ w.store.lists.globals → c.store.table ≡ w.store.lists.table
-    → c ≡ record c { id = w.id; controllers = w.controllers; balance = w.balance; certified = w.certified; contexts = w.contexts; phase = w.phase; next_call = w.next_call; outstanding = w.outstanding }
-    → IsStored t c × (canister_at t c ≡ seen w)
-canister_kept t c w fits number code memory stable pages globals table rest =
-    let maximum : declared_maximum (code_at t.codes c.code) ≡ w.store.lists.maximum = ap declared_maximum code ∙ maximum_fits w.code w.store.lists fits in (
-      record {
-        memory = memory.0;
-        stable = stable.0;
-        code = number;
-        pages = subst (λ (m : Option ℕ). ArePages (page_limit m) (bytes_of t.ranges c.store.memory)) (sym maximum)
-            (subst (ArePages (page_limit w.store.lists.maximum)) (sym memory.1) (pages_fit w.code w.store.lists fits));
-        stable_pages = subst (ArePages 256) (sym stable.1) pages;
-      },
-      λ i. record {
-        id = (rest i).id;
-        controllers = (rest i).controllers;
-        balance = (rest i).balance;
-        code = code i;
-        store = record { memory = memory.1 i; maximum = maximum i; globals = globals i; table = table i; stable = stable.1 i };
-        certified = (rest i).certified;
-        contexts = (rest i).contexts;
-        phase = (rest i).phase;
-        next_call = (rest i).next_call;
-        outstanding = (rest i).outstanding;
-      },
-    )

@@ -132,8 +132,3 @@ codes_end (d ∷ cs) c once none = (ends cs once.0, codes_end cs c once.1 (λ k 
 pub code_at_end : (cs : List StoredCode) (c : StoredCode) → slice_get (cs ++ c ∷ []) (length cs) ≡ Some c
 code_at_end [] c = refl
 code_at_end (d ∷ cs) c = code_at_end cs c
-
-pub number_within : (cs : List StoredCode) (n : ℕ) (c : Code) → option_map code_of (slice_get cs n) ≡ Some c → n < length cs
-number_within [] n c is = cc
-number_within (d ∷ cs) zero c is = omega arith
-number_within (d ∷ cs) (suc n) c is = omega (arith, number_within cs n c is)

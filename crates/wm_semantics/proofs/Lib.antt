@@ -1,6 +1,7 @@
 pub mod Unique
 mod Measure
 pub mod ByFuel
+pub mod Through
 pub mod Total
 mod Rows
 pub mod Operands

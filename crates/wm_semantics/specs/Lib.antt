@@ -10,6 +10,7 @@ pub mod Charges
 pub mod Steps
 pub mod Begin
 pub mod Fuel
+pub mod Through
 pub mod Entry
 pub mod Keeps
 pub mod Sound

@@ -21,6 +21,8 @@ pub use host::{Host, HostAnswer};
 pub use keeps::Keeps;
 pub use laws::{never_stuck, run_keeps, store_fits};
 pub use meter::Meter;
-pub use outcome_laws::{by_fuel, entry_is, entry_runs, fuel_reaches, one_outcome, some_outcome};
+pub use outcome_laws::{
+    by_fuel, entry_is, entry_runs, fuel_reaches, one_outcome, seen_through, some_outcome,
+};
 pub use target::{Ended, Target};
 pub use trap::Trap;

@@ -1,13 +1,14 @@
 //! What holds of the outcomes of runs and targets: each function does nothing, and its contract is
 //! the law.
 
-ghost use Rattle.std.specs.Prelude.{◌≡◌, ℕ, suc, Some};
+ghost use Rattle.std.specs.Prelude.{◌≡◌, ℕ, suc, Some, option_map};
 ghost use Rattle.wm_tree.specs.declared.parts.Module.{Module};
 ghost use Rattle.wm_store.specs.Lists.{Lists};
 ghost use Rattle.wm_semantics.specs.declared.target.Target.{Target};
 ghost use Rattle.wm_semantics.specs.Steps.{State, Outcome, Reaches, NeverStuck};
 ghost use Rattle.wm_semantics.specs.Begin.{Invokes, InvokesOn};
 ghost use Rattle.wm_semantics.specs.Entry.{Entered, Entry, entry};
+ghost use Rattle.wm_semantics.specs.Through.{IsSeenAs, outcome_through};
 ghost use Rattle.wm_semantics.specs.Fuel.{HostOf, answers_of, IsFunctional, AgreesWith, Rises, run_for, measure, invoked};
 
 use crate::host::Host;
@@ -44,4 +45,11 @@ pub fn entry_is<H: Host>()
 /// What the function gives is the outcome of an entry that never gets stuck.
 pub fn entry_runs<H>()
     ensures { (reply : HostOf H) → Rises reply → (m : Module) (s : Lists) (target : Target) (h : H) (limit spent : ℕ) → InvokesOn (answers_of reply) m limit h s spent target → Entry (answers_of reply) m s target h limit spent (entry reply m s target h limit spent) }
+{}
+
+/// Where one host, looked at through a function, answers as another does, what comes of it, looked at so, is what comes of
+/// the other: what is not looked at changes no run.
+pub fn seen_through<H, G>()
+    ensures { (see : H → G) (reply : HostOf H) (seen : HostOf G) → IsSeenAs see reply seen → (m : Module) (limit : ℕ) (h : H) (s : Lists) (used : ℕ) (target : Target)
+        → invoked seen m limit (see h) s used target ≡ option_map (outcome_through see) (invoked reply m limit h s used target) }
 {}

@@ -10,6 +10,7 @@ mod class;
 mod data;
 mod instr;
 mod laws;
+mod listing;
 mod opcode;
 mod parts;
 pub mod samples;
@@ -19,6 +20,7 @@ pub use class::{Class, Shape, Signature, class_of};
 pub use data::{Data, Indices, Name};
 pub use instr::{Instr, Instrs};
 pub use laws::{place_behind, tree_of_words, words_of_tree};
+pub use listing::Listing;
 pub use opcode::opcode_of;
 pub use parts::{
     Element, Elements, Export, ExportKind, Exports, FuncCode, FuncCodes, GlobalDef, GlobalDefs,

@@ -4,7 +4,7 @@ use crate::entry::EntryName;
 use crate::methods::Entries;
 use crate::system_api::SystemCall;
 use std::marker::Model;
-use wm_tree::Module;
+use wm_tree::{Listing, Module};
 use wm_typing::FlatCode;
 
 /// A module that is valid, with what validation found out.
@@ -14,6 +14,9 @@ pub struct Valid {
     calls: Vec<SystemCall>,
     codes: Vec<FlatCode>,
     entries: Entries,
+    /// How its code is written, where that is kept. Contracts do not see it, so nothing that is said of a module or of
+    /// what it does depends on it.
+    listing: Option<Listing>,
 }
 
 // Not derived, so that it is proved here and not in each crate that drops one.
@@ -24,6 +27,7 @@ impl Drop for Valid {
             calls: _calls,
             codes: _codes,
             entries: _entries,
+            listing: _listing,
         } = self;
     }
 }
@@ -64,7 +68,34 @@ impl Valid {
             calls,
             codes,
             entries,
+            listing: None,
         }
+    }
+
+    /// The same with how its code is written kept beside it, so that where it traps can be told as a place in the
+    /// module's bytes.
+    pub fn listed(self, listing: Listing) -> Valid
+        ensures { result ≡ self }
+    {
+        let Valid {
+            module,
+            calls,
+            codes,
+            entries,
+            listing: _before,
+        } = self;
+        Valid {
+            module,
+            calls,
+            codes,
+            entries,
+            listing: Some(listing),
+        }
+    }
+
+    /// How its code is written, where that is kept. It is what was handed to `listed`.
+    pub fn listing(&self) -> Option<&Listing> {
+        self.listing.as_ref()
     }
 
     /// The module.
