@@ -16,7 +16,7 @@ use Rattle.ct_outcomes.specs.Types.{Types}
 use Rattle.ct_outcomes.specs.Standings.{standing_at}
 use Rattle.ct_outcomes.specs.Meets.{Reads, Meets}
 
--- what is answered is so, and nothing is where nothing is answered, unless memory ran out
+-- P holds of what is found, and of nothing where nothing is found; unless memory ran out
 abbrev pub Finds : {A B E : Type 0} → (A → B) → (B → Type 0) → Result (Option A) E → Type 0
 Finds {A} {B} see P result = IfOk result (λ found. MatchOption found ((x : B) → P x → ⊥) (λ a. P (see a)))
 

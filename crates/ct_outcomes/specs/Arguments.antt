@@ -16,7 +16,7 @@ use Rattle.ct_outcomes.specs.Standings.{IsFilledIn}
 abbrev pub in_parentheses : List Token → List Token
 in_parentheses tokens = opening ∷ (tokens ++ closing ∷ [])
 
--- the part has the entries alone that the types need. A message has a well-formed table, types inside it, and at most 10,000 values, a limit of this replica
+-- the part has the entries alone that the types need. A message has a well-formed table, types inside it, and at most 10,000 types of arguments, a limit of this replica
 pub record IsNeeded (types part : Types) : Type 0 where
   pub entries : IsPart types.0 types.1 part
   pub well_formed : IsTrue (is_table types.0)

@@ -61,6 +61,6 @@ MeetsFirst types names [] came bound = ⊥
 MeetsFirst types names (outcome ∷ others) came bound =
     Meets types names outcome came bound ⊎ (((any : List Named) → Meets types names outcome came any → ⊥) × MeetsFirst types names others came bound)
 
--- what came meets one of the outcomes that are expected, the first of these binds the names
+-- what came meets one of the outcomes that are expected; the first that is met binds the names
 abbrev pub MeetsOne : Types → List Named → List CheckedOutcome → Came → List Named → Type 0
 MeetsOne types names expected came bound = MeetsFirst types names (wanted expected) came bound

@@ -23,7 +23,7 @@ answer_by limit price s ask (Some c) =
 unfoldable pub answer_now : (limit price : ℕ) → State → Ask → Response
 answer_now limit price s ask = answer_by limit price s ask (lookup (at ask.callee) s.canisters)
 
--- whether the callee accepts a call before it is submitted; what is no canister looks at no call
+-- whether the callee accepts a call before it is submitted; where there is no canister every call is accepted
 abbrev pub accepts : (limit price : ℕ) → State → Ask → Option Canister → Bool
 accepts limit price s ask None = true
 accepts limit price s ask (Some c) =
