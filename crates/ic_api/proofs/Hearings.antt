@@ -1,6 +1,6 @@
 -- The host to which somebody listens, by that of the System API.
 use Rattle.std.proofs.Common.{◌≡◌, ℕ, ◌≤◌, List, Option, Some, None, option_map, slice_get, refl, sym, ap, ◌∙◌}
-use Rattle.ic_heard.specs.declared.heard.Heard.{Heard}
+use Rattle.ic_heard.specs.Hears.{Speech}
 use Rattle.wm_valid.specs.SystemApi.{calls}
 use Rattle.wm_store.specs.Lists.{Lists}
 use Rattle.wm_semantics.specs.declared.host.HostAnswer.{HostAnswer}
@@ -24,7 +24,7 @@ use Rattle.ic_api.specs.Hearing.{Listening, Hears, with_heard, hearing_reply, li
 -- ---- the function
 
 -- a reply with what was heard in the place of what comes of it
-abbrev reply_with : HostAnswer → Running → Lists → ℕ → Heard → Reply Listening
+abbrev reply_with : HostAnswer → Running → Lists → ℕ → Speech → Reply Listening
 reply_with a h t used heard = record { answer = a; host = record { run = h; heard = heard }; store = t; used = used }
 
 pub agrees : AgreesWith hearing_reply Hears
@@ -50,17 +50,17 @@ is_seen : IsSeenAs run_of hearing_reply api_reply
 unfolding hearing_reply
 is_seen h import args s limit used = refl
 
-ends_so : (before : Heard) (ended : Ended) (h : Listening) (t : Lists) (used : ℕ)
+ends_so : (before : Speech) (ended : Ended) (h : Listening) (t : Lists) (used : ℕ)
     → outcome_of (hearing_api before) (entered_by ended h t used) ≡ outcome_of system_api (entered_by ended (run_of h) t used)
 ends_so before Returned h t used = refl
 ends_so before (Trapped cause) h t used = refl
 
-comes_so : (before : Heard) (spent : ℕ) (o : Option (Outcome Listening))
+comes_so : (before : Speech) (spent : ℕ) (o : Option (Outcome Listening))
     → outcome_of (hearing_api before) (entered_or spent o) ≡ outcome_of system_api (entered_or spent (option_map (outcome_through run_of) o))
 comes_so before spent None = refl
 comes_so before spent (Some o) = ends_so before o.ended o.host o.store o.used
 
-pub changes_nothing : (before : Heard) (code : Code) (s : Lists) (target : Target) (kind : EntryKind) (view : View) (limit spent : ℕ)
+pub changes_nothing : (before : Speech) (code : Code) (s : Lists) (target : Target) (kind : EntryKind) (view : View) (limit spent : ℕ)
     → enters_after (hearing_api before) code s target kind view limit spent ≡ enters_after system_api code s target kind view limit spent
 unfolding enters_after entry
 changes_nothing before code s target kind view limit spent =

@@ -2,8 +2,7 @@
 -- what `debug_print` is given is kept beside what the execution does.
 use Rattle.std.specs.Prelude.{◌≡◌, ℕ, Bool, true, false, ◌&&◌, cond, List, [], ◌∷◌, Option, Some, None, slice_get}
 use Rattle.std.specs.Option.{unwrap_or}
-use Rattle.ic_heard.specs.declared.heard.Heard.{Heard}
-use Rattle.ic_heard.specs.Hears.{hears}
+use Rattle.ic_heard.specs.Hears.{Speech, hears}
 use Rattle.wm_valid.specs.declared.system_api.SystemCall.{SystemCall}
 use Rattle.wm_valid.specs.declared.system_api.SystemCall.TheVariants as call
 use Rattle.wm_valid.specs.SystemApi.{calls}
@@ -23,7 +22,7 @@ use Rattle.ic_api.specs.Effects.{effects_of}
 -- what contracts see of a `Hearing`
 pub record Listening : Type 0 where
   pub run : Running
-  pub heard : Heard
+  pub heard : Speech
 
 -- ---- what a call says
 
@@ -46,12 +45,12 @@ says None told = false
 says (Some call) told = is_debug_print call && is_nothing told
 
 -- what was heard, after a call; the store is that after the call, which is that before it where it says a text
-abbrev pub hears_call : Option SystemCall → HostAnswer → List ℕ → Lists → Heard → Heard
+abbrev pub hears_call : Option SystemCall → HostAnswer → List ℕ → Lists → Speech → Speech
 hears_call asked told args lists heard = cond (says asked told) (hears (text_at args lists) heard) heard
 
 -- ---- the host
 
-abbrev pub with_heard : Heard → Option SystemCall → List ℕ → Reply Running → Reply Listening
+abbrev pub with_heard : Speech → Option SystemCall → List ℕ → Reply Running → Reply Listening
 with_heard heard asked args r = record {
   answer = r.answer;
   host = record { run = r.host; heard = hears_call asked r.answer args r.store heard };
@@ -71,17 +70,17 @@ pub record Hears (old : Listening) (import : ℕ) (args : List ℕ) (s : Lists) 
 -- ---- executions
 
 -- an execution that begins, after this was heard
-abbrev pub listening : Heard → EntryKind → View → Listening
+abbrev pub listening : Speech → EntryKind → View → Listening
 listening heard kind view = record { run = starting kind view; heard = heard }
 
-abbrev pub hearing_api : Heard → SystemApi Listening
+abbrev pub hearing_api : Speech → SystemApi Listening
 hearing_api heard = record { reply = hearing_reply; begin = listening heard; effects = λ h. effects_of h.run }
 
-abbrev pub heard_in : Heard → Option (Outcome Listening) → Heard
+abbrev pub heard_in : Speech → Option (Outcome Listening) → Speech
 heard_in before None = before
 heard_in before (Some o) = o.host.heard
 
 -- What was heard after code was entered, also where it trapped: what was heard before, and what it said.
-unfoldable pub heard_after : Heard → Code → Lists → Target → EntryKind → View → (limit spent : ℕ) → Heard
+unfoldable pub heard_after : Speech → Code → Lists → Target → EntryKind → View → (limit spent : ℕ) → Speech
 heard_after before code s target kind view limit spent =
     heard_in before (invoked hearing_reply code.«module» limit (listening before kind view) s spent target)

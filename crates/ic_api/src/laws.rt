@@ -17,7 +17,7 @@ ghost use Rattle.ic_api.specs.Effects.{effects_of};
 ghost use Rattle.ic_api.specs.Kept.{RunKept};
 ghost use Rattle.ic_api.specs.Executed.{Executed};
 ghost use Rattle.ic_api.specs.System.{system_api};
-ghost use Rattle.ic_heard.specs.declared.heard.Heard.{Heard as AHeard};
+ghost use Rattle.ic_heard.specs.Hears.{Speech};
 ghost use Rattle.ic_api.specs.Hearing.{Listening, Hears, hearing_reply, hearing_api};
 
 /// The host is the function `api_reply`.
@@ -64,6 +64,6 @@ pub fn hearing_is_function()
 /// Whatever was heard before, code that is entered leaves the same store, has the same effects and uses the same as where
 /// nobody listens, and traps where it does there.
 pub fn hearing_changes_nothing()
-    ensures { (before : AHeard) (code : SomeCode) (s : Lists) (target : ATarget) (kind : AKind) (view : AView) (limit spent : ℕ)
+    ensures { (before : Speech) (code : SomeCode) (s : Lists) (target : ATarget) (kind : AKind) (view : AView) (limit spent : ℕ)
         → enters_after (hearing_api before) code s target kind view limit spent ≡ enters_after system_api code s target kind view limit spent }
 {}

@@ -1,6 +1,7 @@
 ghost use Rattle.std.specs.Prelude.{◌≡◌, IfOk, OnOk};
 ghost use Rattle.ic_heard.specs.Hears.{silence, kept, hears};
 
+use crate::trapped::Trapped;
 use ic_base::NoMemory;
 use ic_principal::Bytes;
 use std::alloc::Global;
@@ -10,7 +11,10 @@ const LONGEST: usize = 4_096;
 
 const MOST: usize = 100;
 
-/// A text that a canister said, as far as it is kept.
+// A callback and its cleanup are two.
+const MOST_TRAPPED: usize = 4;
+
+/// A text, as far as it is kept.
 #[derive(Debug, Drop)]
 pub struct Said {
     pub text: Bytes,
@@ -33,25 +37,37 @@ impl Model for Texts {
     ghost view = { λ l. l.items.items };
 }
 
-/// What was heard: the last texts.
+/// What was heard: the last texts, where executions trapped, and how many instructions they used. Contracts see the texts.
 pub struct Heard {
-    pub texts: Texts,
-    /// How many texts came before these.
-    pub earlier: u64,
+    texts: Texts,
+    earlier: u64,
+    trapped: Vec<Trapped>,
+    used: u64,
 }
 
+// Not derived, so that it is proved here and not in each crate that drops one.
 impl Drop for Heard {
     fn drop(self) {
         let Heard {
             texts: _texts,
             earlier: _,
+            trapped: _trapped,
+            used: _,
         } = self;
     }
 }
 
+impl Model for Heard {
+    ghost use Rattle.ic_heard.specs.Hears.{Speech};
+
+    ghost Value = { Speech };
+
+    ghost view = { λ h. record { texts = h.texts; earlier = h.earlier } };
+}
+
 // The part of a text that is kept.
 #[tactic(auto, using(std::proofs::lemmas::List::take_min))]
-fn kept(alloc: Global, text: &[u8]) -> Result<Said, NoMemory>
+pub(crate) fn kept(alloc: Global, text: &[u8]) -> Result<Said, NoMemory>
     ensures { IfOk result (λ s. s ≡ kept text.now) }
 {
     let count = LONGEST.min(text.len());
@@ -72,6 +88,8 @@ impl Heard {
                 items: Vec::new(alloc),
             },
             earlier: 0,
+            trapped: Vec::new(alloc),
+            used: 0,
         }
     }
 
@@ -86,5 +104,47 @@ impl Heard {
         }
         self.texts.items.push(said)?;
         Ok(())
+    }
+
+    /// An execution trapped there. What was said stays.
+    pub fn trap(&mut self, trapped: Trapped) -> Result<(), NoMemory>
+        ensures { self.new ≡ self.old }
+    {
+        if self.trapped.len() >= MOST_TRAPPED {
+            self.trapped.remove(0);
+        }
+        self.trapped.push(trapped)?;
+        Ok(())
+    }
+
+    /// An execution used so many instructions. What was said stays.
+    pub fn spend(&mut self, used: u64)
+        ensures { self.new ≡ self.old }
+    {
+        self.used = self.used.saturating_add(used);
+    }
+
+    /// The last texts.
+    pub fn texts(&self) -> &Texts
+        ensures { result.now ≡ self.now.texts }
+    {
+        &self.texts
+    }
+
+    /// How many texts came before these.
+    pub fn earlier(&self) -> u64
+        ensures { result ≡ self.now.earlier }
+    {
+        self.earlier
+    }
+
+    /// Where the last executions trapped that did, at most four.
+    pub fn trapped(&self) -> &[Trapped] {
+        &self.trapped
+    }
+
+    /// How many instructions were used, of executions that ended.
+    pub fn used(&self) -> u64 {
+        self.used
     }
 }
