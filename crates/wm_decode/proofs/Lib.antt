@@ -6,4 +6,5 @@ pub mod ExactParts
 pub mod ExactModule
 pub mod CodeSteps
 pub mod LoopSteps
+pub mod ListingSteps
 pub mod Answered

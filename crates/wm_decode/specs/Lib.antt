@@ -7,3 +7,4 @@ pub mod Readers
 pub mod Types
 pub mod Values
 pub mod Turn
+pub mod Listing

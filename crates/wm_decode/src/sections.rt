@@ -37,7 +37,7 @@ pub(crate) fn after_magic(bytes: &[u8]) -> Result<&[u8], ReadError>
 
 /// Reads a section.
 #[tactic(auto, unfolding(crate::specs::Readers::section_at))]
-fn read_section(bytes: &[u8]) -> Result<(Section, &[u8]), ReadError>
+pub(crate) fn read_section(bytes: &[u8]) -> Result<(Section, &[u8]), ReadError>
     ensures { Gives (λ x. (x.0, x.1.now)) result (section_at bytes.now) }
 {
     let (id, rest) = byte(bytes)?;
