@@ -13,9 +13,11 @@ ghost use Rattle.ic_state.specs.IsCanister.{IsCanister, created};
 use crate::lists::Contexts;
 use ic_base::NoMemory;
 use ic_behaviour::{Controllers, Phase};
+use ic_heard::{Ear, Heard};
 use ic_principal::{Bytes, Principal};
 use std::alloc::Global;
 use std::marker::Model;
+use std::mem::replace;
 use std::sync::Arc;
 use wm_store::Store;
 use wm_valid::Valid;
@@ -83,14 +85,19 @@ impl CodePlace {
     }
 }
 
-/// The store of a canister in a box, as its code. Contracts see the store.
+/// The store of a canister in a box, as its code, and the ear of whoever listens to what the canister says. Contracts see the
+/// store: what is heard is no part of a state.
 pub struct StorePlace {
     inner: Box<Store>,
+    ear: Ear,
 }
 
 impl Drop for StorePlace {
     fn drop(self) {
-        let StorePlace { inner: _inner } = self;
+        let StorePlace {
+            inner: _inner,
+            ear: _ear,
+        } = self;
     }
 }
 
@@ -108,7 +115,8 @@ impl StorePlace {
         ensures { IfOk result (λ p. p ≡ store) }
     {
         let inner = Box::new(alloc, store)?;
-        Ok(StorePlace { inner })
+        let ear = Ear::closed();
+        Ok(StorePlace { inner, ear })
     }
 
     /// The store.
@@ -126,11 +134,50 @@ impl StorePlace {
         &mut self.inner
     }
 
-    /// Another store takes the place.
+    /// Another store takes the place. Whoever listens goes on.
     pub fn put(&mut self, store: Store)
         ensures { self.new ≡ store }
     {
         *self.inner = store;
+    }
+
+    /// The store of another place takes the place. Whoever listens goes on.
+    pub fn move_from(&mut self, other: StorePlace)
+        ensures { self.new ≡ other }
+    {
+        let StorePlace { inner, ear: _ear } = other;
+        self.inner = inner;
+    }
+
+    /// From now on somebody listens.
+    pub fn listen(&mut self, alloc: Global) -> Result<(), NoMemory>
+        ensures { self.new ≡ self.old }
+    {
+        if !self.ear.is_open() {
+            self.ear = Ear::open(alloc)?;
+        }
+        Ok(())
+    }
+
+    /// Takes the ear. From now on nobody listens.
+    pub fn take_ear(&mut self) -> Ear
+        ensures { self.new ≡ self.old }
+    {
+        replace(&mut self.ear, Ear::closed())
+    }
+
+    /// Gives an ear.
+    pub fn put_ear(&mut self, ear: Ear)
+        ensures { self.new ≡ self.old }
+    {
+        self.ear = ear;
+    }
+
+    /// Takes what was heard; whoever listens goes on.
+    pub fn take_heard(&mut self, alloc: Global) -> Heard
+        ensures { self.new ≡ self.old }
+    {
+        self.ear.drain(alloc)
     }
 }
 

@@ -15,6 +15,7 @@ use crate::canister::{Canister, CanisterPlace};
 use crate::lists::{Messages, Requests};
 use ic_base::NoMemory;
 use ic_behaviour::{Message, Origin, Phase, Request, Response};
+use ic_heard::Heard;
 use ic_principal::{Bytes, Principal, Text};
 use std::alloc::Global;
 use std::collections::BTreeMap;
@@ -80,6 +81,34 @@ impl Model for World {
     ghost invariant = { λ w. IsWorld w.parts };
 }
 
+// Somebody listens to the canister, if it is there.
+fn listen_in(
+    alloc: Global,
+    canisters: &mut BTreeMap<Principal, CanisterPlace>,
+    id: &Principal,
+) -> Result<(), NoMemory>
+    ensures { canisters.new.entries ≡ canisters.old.entries }
+{
+    match canisters.get_mut(id) {
+        Some(place) => place.get_mut().store.listen(alloc),
+        None => Ok(()),
+    }
+}
+
+// What was heard of the canister, if it is there.
+fn take_heard_in(
+    alloc: Global,
+    canisters: &mut BTreeMap<Principal, CanisterPlace>,
+    id: &Principal,
+) -> Heard
+    ensures { canisters.new.entries ≡ canisters.old.entries }
+{
+    match canisters.get_mut(id) {
+        Some(place) => place.get_mut().store.take_heard(alloc),
+        None => Heard::new(alloc),
+    }
+}
+
 impl World {
     /// The empty world, at time 0. It takes no memory; the allocator serves the later calls.
     pub fn new(alloc: Global) -> World
@@ -100,6 +129,20 @@ impl World {
                 next_canister: 0,
             },
         }
+    }
+
+    /// From now on somebody listens to the canister, if it is there. The state stays.
+    pub fn listen_to(&mut self, alloc: Global, id: &Principal) -> Result<(), NoMemory>
+        ensures { self.new ≡ self.old }
+    {
+        listen_in(alloc, &mut self.parts.canisters, id)
+    }
+
+    /// Takes what was heard of the canister. The state stays, and whoever listens goes on.
+    pub fn take_heard(&mut self, alloc: Global, id: &Principal) -> Heard
+        ensures { self.new ≡ self.old }
+    {
+        take_heard_in(alloc, &mut self.parts.canisters, id)
     }
 
     /// Lends the fields.
