@@ -1,6 +1,7 @@
 -- A test goes on, part after part.
-use Rattle.std.proofs.Common.{◌≡◌, ℕ, zero, suc, ◌+◌, ◌<◌, ◌≤◌, Bool, true, false, List, [], ◌∷◌, ◌++◌, length, map, Option, Some, None, refl, sym, ap, ◌∙◌, subst, append_assoc, inl, inr, arith}
+use Rattle.std.proofs.Common.{◌≡◌, ℕ, zero, suc, ◌+◌, ◌<◌, ◌≤◌, Bool, true, false, List, [], ◌∷◌, ◌++◌, length, take, map, Option, Some, None, refl, sym, ap, ◌∙◌, subst, append_assoc, inl, inr, arith}
 use Rattle.std.specs.Prelude.{All}
+use Rattle.std.specs.Bool.{OnTrue, OnFalse}
 use Rattle.std.specs.List.{Any}
 use Rattle.std.proofs.lemmas.Bool.{cases_lt}
 use Rattle.std.proofs.lemmas.List.{length-append}
@@ -21,11 +22,11 @@ use Rattle.ct_orders.specs.Interleaves.{IsOnWay, IsEnd, CallsAreMet}
 use Rattle.ct_orders.specs.Meanings.{Meaning}
 use Rattle.ct_orders.specs.Reached.{Reached, IsBegun}
 use Rattle.ct_orders.specs.Ways.{Comes, begins, states, leaves}
-use Rattle.ct_orders.specs.Verdicts.{EndsWithin, AllHolds, Holds, HoldsBefore, IsAt, Passes, Fails, FailsFirst, IsStart, HasTooMany}
+use Rattle.ct_orders.specs.Verdicts.{CanBegin, EndsWithin, HoldsTo, OnEachWayTo, AllHolds, Holds, HoldsBefore, IsAt, Passes, Fails, FailsFirst, IsStart, HasTooMany}
 use Rattle.ct_orders.specs.Verdicts as fails
-use Rattle.ct_orders.specs.Cases.{first_case, IsAfter, AreAfter, IsUnmetIn, AreBegun, IsStuckIn, IsRefutedFrom, IsBehind, HasCase, HoldsFrom, HasMore, Leads}
-use Rattle.ct_orders.specs.Course.{first_undecided, IsWhole, IsDecided, IsSoFar}
-use Rattle.ct_orders.proofs.Lists.{any_first, any_later, any_split, any_as, all_as, all_first, all_later, all_none, all_cons, none_of, found}
+use Rattle.ct_orders.specs.Cases.{first_case, IsAfter, AreAfter, IsUnmetIn, AreBegun, Begins, IsStuckIn, IsRefutedFrom, HoldsToFrom, IsBehind, HasCase, HoldsFrom, HasMore, Leads}
+use Rattle.ct_orders.specs.Course.{first_undecided, HadTooMany, IsWhole, IsDecided, IsSoFar}
+use Rattle.ct_orders.proofs.Lists.{any_first, any_later, any_split, any_as, all_as, all_first, all_later, all_none, all_cons, front_is, none_of, found}
 use Rattle.ct_orders.proofs.Parts.{Came, at_first, by_statement, by_interleave, came, one_left, few_left}
 
 module _ (setting : Setting) (most : ℕ) (steps : List CheckedStep) where
@@ -85,10 +86,10 @@ module _ (setting : Setting) (most : ℕ) (steps : List CheckedStep) where
     held_before : (undecided : Option ℕ) → IsDecided setting most steps left cs undecided → HoldsBefore setting most steps place
     held_before None whole =
         inl (whole.longest, λ s names rest order comes more. whole.before s names rest order comes (omega (arith, at, more)))
-    held_before (Some first) decided = inr decided
+    held_before (Some first) (rest, moves, more, within) = inr (rest, moves, more, omega (arith, at, within))
 
     pub fails_first : (undecided : Option ℕ) (order : List ℕ) (names : List Named) (came : What) → IsSoFar setting most steps left cs undecided
-        → Fails setting steps place order names came → FailsFirst setting most steps place order names came
+        → Fails setting most steps place order names came → FailsFirst setting most steps place order names came
     fails_first undecided order names came so_far fails = record { fails = fails; before = held_before undecided so_far.decided }
 
   -- ---- a statement
@@ -174,7 +175,7 @@ module _ (setting : Setting) (most : ℕ) (steps : List CheckedStep) where
     decided_after : MeetsOnce → (done : List CheckedStep) → steps ≡ done ++ Statement statement ∷ left → (cs ds : List Reached) → AreAfter setting statement cs ds
         → (undecided : Option ℕ) → IsDecided setting most steps (Statement statement ∷ left) cs undecided → IsDecided setting most steps left ds undecided
     decided_after meeting_once done parts cs ds after None decided = whole_after meeting_once done parts cs ds after decided
-    decided_after meeting_once done parts cs ds after (Some place) decided = decided
+    decided_after meeting_once done parts cs ds after (Some place) (rest, moves, more, within) = (rest, moves, more, omega (arith, within))
 
     pub statement_goes_on : MeetsOnce → (cs ds : List Reached) (undecided : Option ℕ) → IsSoFar setting most steps (Statement statement ∷ left) cs undecided → AreAfter setting statement cs ds
         → IsSoFar setting most steps left ds undecided
@@ -191,8 +192,8 @@ module _ (setting : Setting) (most : ℕ) (steps : List CheckedStep) where
         fails_first (Statement statement ∷ left) cs place at undecided order names came so_far
         (let it = found (Reaches (Statement statement ∷ left)) (IsUnmetIn setting statement order names came) cs so_far.sound some in
         let c = it.0 in let unmet = it.2 in
-        subst (λ (o : List ℕ). Fails setting steps place o names came) (sym unmet.same_order)
-        (subst (λ (ns : List Named). Fails setting steps place c.order ns came) (sym unmet.same_names)
+        subst (λ (o : List ℕ). Fails setting most steps place o names came) (sym unmet.same_order)
+        (subst (λ (ns : List Named). Fails setting most steps place c.order ns came) (sym unmet.same_names)
         (fails.statement c.state c.names statement left place c.order came it.1 at unmet.unmet)))
 
   -- ---- an interleave
@@ -217,6 +218,31 @@ module _ (setting : Setting) (most : ℕ) (steps : List CheckedStep) where
         (starts_begun meanings cs starts (all_later R c cs sound) begun.1)
     starts_begun meanings [] (start ∷ starts) sound begun = absurd begun
     starts_begun meanings (c ∷ cs) [] sound begun = absurd begun
+
+    -- more cases than that can be met in it
+    too_many : (cs : List Reached) → All (Reaches (Interleave moves ∷ left)) cs → HasMore setting moves most cs
+        → HadTooMany setting most steps left
+    too_many cs sound more = (
+      left,
+      moves,
+      record {
+        meanings = more.meanings;
+        apart = more.apart;
+        starts = more.starts;
+        begun = starts_begun more.meanings cs more.starts sound more.begun;
+        more = more.more;
+      },
+      omega arith,
+    )
+
+    -- what holds from each case holds on each way that comes here
+    each_way : (P : List Named → State → Type 0) (cs : List Reached) (place count : ℕ) → IsAt steps place (Interleave moves ∷ left) → place ≤ count → All (λ (c : Reached). P c.names c.state) cs
+        → (undecided : Option ℕ) → IsDecided setting most steps (Interleave moves ∷ left) cs undecided → OnEachWayTo setting most steps moves left count P
+    each_way P cs place count at few hold None whole =
+        inl (λ s names order comes.
+        let it = found (λ (c : Reached). P c.names c.state) (λ (c : Reached). (c.state ≡ s) × (c.names ≡ names)) cs hold (whole.comes s names order comes) in
+        subst (λ (x : State). P names x) it.2.0 (subst (λ (ns : List Named). P ns it.0.state) it.2.1 it.1))
+    each_way P cs place count at few hold (Some first) (rest, others, more, within) = inr (rest, others, more, omega (arith, at, few, within))
 
     module _ (done : List CheckedStep) (parts : steps ≡ done ++ Interleave moves ∷ left) (cs ends : List Reached) (longest : ℕ) (hold : All (HoldsFrom setting moves longest ends) cs)
         (so_far : IsWhole setting steps (Interleave moves ∷ left) cs) where
@@ -272,22 +298,11 @@ module _ (setting : Setting) (most : ℕ) (steps : List CheckedStep) where
     decided_behind : (done : List CheckedStep) → steps ≡ done ++ Interleave moves ∷ left → (cs ends : List Reached) → All (Reaches (Interleave moves ∷ left)) cs
         → (undecided : Option ℕ) (all : Bool) (place : ℕ) → IsDecided setting most steps (Interleave moves ∷ left) cs undecided → Leads setting moves most cs ends all
         → IsDecided setting most steps left ends (first_undecided undecided all place)
-    decided_behind done parts cs ends sound (Some first) all place decided leads = decided
+    decided_behind done parts cs ends sound (Some first) all place (rest, others, more, within) leads = (rest, others, more, omega (arith, within))
     decided_behind done parts cs ends sound None true place decided leads =
         let complete = leads.complete in
         whole_behind done parts cs ends complete.0 complete.1 decided
-    decided_behind done parts cs ends sound None false place decided leads =
-        let more = leads.more in (
-          left,
-          moves,
-          record {
-            meanings = more.meanings;
-            apart = more.apart;
-            starts = more.starts;
-            begun = starts_begun more.meanings cs more.starts sound more.begun;
-            more = more.more;
-          },
-        )
+    decided_behind done parts cs ends sound None false place decided leads = too_many cs sound leads.more
 
     pub interleave_goes_on : (cs ends : List Reached) (undecided : Option ℕ) (all : Bool) (place : ℕ) → IsSoFar setting most steps (Interleave moves ∷ left) cs undecided → Leads setting moves most cs ends all
         → IsSoFar setting most steps left ends (first_undecided undecided all place)
@@ -315,23 +330,38 @@ module _ (setting : Setting) (most : ℕ) (steps : List CheckedStep) where
 
     module _ (cs : List Reached) (undecided : Option ℕ) (place : ℕ) (order : List ℕ) (names : List Named) (came : What)
         (so_far : IsSoFar setting most steps (Interleave moves ∷ left) cs undecided) (at : IsAt steps place (Interleave moves ∷ left)) where
-      pub stuck_fails : Any (IsStuckIn setting moves order names came) cs → FailsFirst setting most steps place order names came
-      stuck_fails some =
+      pub stuck_fails : (count : ℕ) → Any (IsStuckIn setting moves count order names came) cs → All (Begins setting moves count) cs → FailsFirst setting most steps place order names came
+      stuck_fails count some begin =
           fails_first (Interleave moves ∷ left) cs place at undecided order names came so_far
-          (let it = found (Reaches (Interleave moves ∷ left)) (IsStuckIn setting moves order names came) cs so_far.sound some in
-          let c = it.0 in let stuck = it.2 in
-          subst (λ (o : List ℕ). Fails setting steps place o names came) (sym stuck.same_order)
-          (subst (λ (ns : List Named). Fails setting steps place c.order ns came) (sym stuck.same_names)
-          (fails.unsent c.state c.names moves left place c.order came it.1 at stuck.stuck)))
-
-      pub refuted_fails : Any (IsRefutedFrom setting moves order names came) cs → FailsFirst setting most steps place order names came
-      refuted_fails some =
-          fails_first (Interleave moves ∷ left) cs place at undecided order names came so_far
-          (let it = found (Reaches (Interleave moves ∷ left)) (IsRefutedFrom setting moves order names came) cs so_far.sound some in
+          (let it = found (Reaches (Interleave moves ∷ left)) (IsStuckIn setting moves count order names came) cs so_far.sound some in
           let c = it.0 in let is = it.2 in
-          subst (λ (o : List ℕ). Fails setting steps place o names came) (sym is.same_order)
-          (subst (λ (ns : List Named). Fails setting steps place (c.order ++ is.more) ns came) (sym is.same_names)
-          (fails.move c.state is.state c.names moves is.numbers left place c.order is.more came it.1 at is.way is.refuted)))
+          let front = front_is is.stuck.before (is.stuck.moving ∷ is.stuck.after) moves count is.stuck.parts is.at in
+          let each =
+          subst (λ (ms : List Moving). OnEachWayTo setting most steps moves left place (λ known u. CanBegin setting known u ms)) (sym front)
+          (each_way (λ known u. CanBegin setting known u (take count moves)) cs place place at (omega arith) begin undecided so_far.decided) in
+          subst (λ (o : List ℕ). Fails setting most steps place o names came) (sym is.same_order)
+          (subst (λ (ns : List Named). Fails setting most steps place c.order ns came) (sym is.same_names)
+          (fails.unsent c.state c.names moves left place c.order came it.1 at is.stuck each)))
+
+      -- those before it are met, where all orders were looked at
+      each_or : (all : Bool) (count : ℕ) → OnTrue all (All (HoldsToFrom setting moves count) cs) → OnFalse all (HasMore setting moves most cs)
+          → OnEachWayTo setting most steps moves left (place + 1) (λ known u. HoldsTo setting known u moves count)
+      each_or true count complete more = each_way (λ known u. HoldsTo setting known u moves count) cs place (place + 1) at (omega arith) complete undecided so_far.decided
+      each_or false count complete more =
+          let here = too_many cs so_far.sound more in
+          inr (here.0, here.1, here.2, omega (arith, at, here.3))
+
+      pub refuted_fails : (all : Bool) (count : ℕ) → Any (IsRefutedFrom setting moves count order names came) cs
+          → OnTrue all (All (HoldsToFrom setting moves count) cs) → OnFalse all (HasMore setting moves most cs) → FailsFirst setting most steps place order names came
+      refuted_fails all count some complete more =
+          fails_first (Interleave moves ∷ left) cs place at undecided order names came so_far
+          (let it = found (Reaches (Interleave moves ∷ left)) (IsRefutedFrom setting moves count order names came) cs so_far.sound some in
+          let c = it.0 in let is = it.2 in
+          let each =
+          subst (λ (n : ℕ). OnEachWayTo setting most steps moves left (place + 1) (λ known u. HoldsTo setting known u moves n)) (sym is.at) (each_or all count complete more) in
+          subst (λ (o : List ℕ). Fails setting most steps place o names came) (sym is.same_order)
+          (subst (λ (ns : List Named). Fails setting most steps place (c.order ++ is.more) ns came) (sym is.same_names)
+          (fails.move c.state is.state c.names moves is.numbers left place c.order is.more came it.1 at is.way is.refuted each)))
 
   -- ---- the statements before the first interleave
 

@@ -2,7 +2,7 @@
 use Rattle.std.proofs.Common.{◌≡◌, ℕ, ◌+◌, ◌<◌, ◌≤◌, List, [], ◌∷◌, ◌++◌, length, take, drop, map, Option, Some, None, refl, sym, ap, ap₂, ◌∙◌, subst, arith}
 use Rattle.std.specs.Prelude.{All}
 use Rattle.std.specs.List.{Any}
-use Rattle.std.proofs.lemmas.List.{map-append, length-take, take_all, take-append-drop}
+use Rattle.std.proofs.lemmas.List.{map-append, length-take, length-take-le, take_all, take-append-drop}
 use Rattle.std.proofs.lemmas.List.Quantifiers.{Any-push}
 use Rattle.std.proofs.lemmas.List.Elements.{All-push}
 use Rattle.ct_check.specs.Moving.{Moving}
@@ -12,14 +12,16 @@ use Rattle.ct_search.proofs.Lists.{any_longer}
 use Rattle.ct_worlds.specs.declared.worlds.NamedWorld.{NamedWorld}
 use Rattle.ct_orders.specs.declared.case.Case.{Case}
 use Rattle.ct_orders.specs.declared.case.Tables.{Tables}
-use Rattle.ct_orders.specs.declared.judging.Found.{Found}
+use Rattle.ct_orders.specs.declared.judging.Found.{Found as WhatIsFound}
 use Rattle.ct_orders.specs.declared.judging.Found.TheVariants.{Passed, End, Unmet}
 use Rattle.ct_orders.specs.declared.verdict.Failing.{Failing}
 use Rattle.ct_orders.specs.Reached.{Reached}
+use Rattle.ct_orders.specs.Interleaves.{QueriesAreMet, CallsAreMet}
 use Rattle.ct_orders.specs.Verdicts.{IsRefuted}
-use Rattle.ct_orders.specs.Cases.{Grows, IsHeld, AreHeld, reached, all_reached, Stage, stage, all_stages, IsMetBehind, IsEndOf, HoldsIn, IsRefutedIn, AreJudged}
-use Rattle.ct_orders.specs.Answers.{IsFound, AddsFound, AreFound}
-use Rattle.ct_orders.proofs.Lists.{all_as, all_none, rec_push}
+use Rattle.ct_orders.specs.Cases.{Grows, IsHeld, AreHeld, reached, all_reached, Stage, stage, all_stages, IsMetBehind, IsEndOf, HoldsIn, FrontHolds, IsRefutedIn, AreJudged}
+use Rattle.ct_orders.specs.Answers.{IsFound, AddsFound, AreFoundTo, AreFound}
+use Rattle.ct_orders.proofs.Lists.{all_as, all_none, rec_push, take_front}
+use Rattle.ct_orders.proofs.Moves.{queries_front, calls_front}
 use Rattle.ct_orders.proofs.Stays.{grows_not, grows_further, all_held_stay, all_reached_stay, stage_stays}
 use Rattle.ct_orders.proofs.Going.{refuted_of_more}
 
@@ -49,6 +51,40 @@ module _ (setting : Setting) (moves : List Moving) where
         (all_as {P = HoldsIn setting moves ends} {Q = HoldsIn setting moves (ends ++ e ∷ [])} (holds_longer ends (e ∷ [])) stages so_far.holds) is;
   }
 
+  -- ---- the first moves
+
+  front_of_all : (ends : List Reached) (k : ℕ) → k ≤ length moves → (g : Stage) → HoldsIn setting moves ends g → FrontHolds setting moves k g
+  front_of_all ends k le g is = record {
+    queries = queries_front setting g.meaning.0 g.state moves k is.queries;
+    calls = λ ended.
+        let end = (is.calls ended).4 in
+        let first = calls_front setting g.meaning.0 g.state moves (take (length moves) g.meaning.1) end.bound k end.met in (
+          first.0,
+          subst (λ (ns : List (Option ℕ)). CallsAreMet setting g.meaning.0 g.state (take k moves) ns first.0) (take_front k (length moves) g.meaning.1 le) first.1,
+        );
+  }
+
+  front_of_front : (count k : ℕ) → k ≤ count → (g : Stage) → FrontHolds setting moves count g → FrontHolds setting moves k g
+  front_of_front count k le g is = record {
+    queries = subst (QueriesAreMet setting g.meaning.0 g.state) (take_front k count moves le) (queries_front setting g.meaning.0 g.state (take count moves) k is.queries);
+    calls = λ ended.
+        let met = is.calls ended in
+        let first = calls_front setting g.meaning.0 g.state (take count moves) (take count g.meaning.1) met.0 k met.1 in (
+          first.0,
+          subst (λ (ms : List Moving). CallsAreMet setting g.meaning.0 g.state ms (take k g.meaning.1) first.0) (take_front k count moves le)
+              (subst (λ (ns : List (Option ℕ)). CallsAreMet setting g.meaning.0 g.state (take k (take count moves)) ns first.0) (take_front k count g.meaning.1 le) first.1),
+        );
+  }
+
+  -- what is met of the first of the first moves
+  front_within : (count k : ℕ) → k ≤ count → (g : Stage) → FrontHolds setting (take count moves) k g → FrontHolds setting moves k g
+  front_within count k le g is = record {
+    queries = subst (QueriesAreMet setting g.meaning.0 g.state) (take_front k count moves le) is.queries;
+    calls = λ ended.
+        let met = is.calls ended in
+        (met.0, subst (λ (ms : List Moving). CallsAreMet setting g.meaning.0 g.state ms (take k g.meaning.1) met.0) (take_front k count moves le) met.1);
+  }
+
   module _ (old mid new : Tables) (cases : List Case) (met : List (Met NamedWorld)) (m : Met NamedWorld) (ends : List Case) (count : ℕ)
       (first : Grows old mid) (then : Grows mid new) (behind : IsMetBehind old moves m) where
     same_stage : stage mid cases m ≡ stage old cases m
@@ -64,8 +100,14 @@ module _ (setting : Setting) (moves : List Moving) where
     of_all : (failing : Option Failing) → (failing ≡ None → count ≡ length moves) → failing ≡ None → take count moves ≡ moves
     of_all failing all none = take_all count moves (let e = all none in omega (arith, e))
 
-    pub found_passed : (failing : Option Failing) → (failing ≡ None → count ≡ length moves) → AreFound setting moves mid (all_stages old cases met) ends failing
-        → IsFound setting (take count moves) new (stage mid cases m) Passed → AreFound setting moves new (all_stages old cases (met ++ m ∷ [])) ends failing
+    -- one stage more at which the first moves are met
+    fronts_more : (k : ℕ) → All (FrontHolds setting moves k) (all_stages old cases met) → FrontHolds setting moves k (stage mid cases m) → All (FrontHolds setting moves k) (all_stages old cases (met ++ m ∷ []))
+    fronts_more k all is =
+        subst (All (FrontHolds setting moves k)) (sym one_more)
+        (All-push (FrontHolds setting moves k) (all_stages old cases met) (stage old cases m) all (subst (FrontHolds setting moves k) same_stage is))
+
+    pub found_passed : (failing : Option Failing) → (failing ≡ None → count ≡ length moves) → AreFoundTo setting moves mid (all_stages old cases met) ends count failing
+        → IsFound setting (take count moves) new (stage mid cases m) Passed → AreFoundTo setting moves new (all_stages old cases (met ++ m ∷ [])) ends count failing
     found_passed None all so_far is =
         let here = subst (λ (ms : List Moving). IsFound setting ms new (stage mid cases m) Passed) (of_all None all refl) is in
         let there = subst (λ (g : Stage). IsFound setting moves new g Passed) same_stage here in (
@@ -75,11 +117,14 @@ module _ (setting : Setting) (moves : List Moving) where
               (judged_passed (all_stages old cases met) (all_reached mid ends) (stage old cases m) so_far.1
               (record { queries = there.0; calls = λ ended. absurd (there.1 ended) }))),
         )
-    found_passed (Some f) all so_far is = still {P = IsRefutedIn setting moves f.order.items f.names f.unmet.came} so_far
+    found_passed (Some f) all so_far is = (
+      still {P = IsRefutedIn setting moves count f.order.items f.names f.unmet.came} so_far.0,
+      fronts_more count so_far.1 (record { queries = is.0; calls = λ ended. absurd (is.1 ended) }),
+    )
 
-    pub found_end : (failing : Option Failing) (e : Case) → (failing ≡ None → count ≡ length moves) → AreFound setting moves mid (all_stages old cases met) ends failing
-        → IsFound setting (take count moves) new (stage mid cases m) (End e) → AreFound setting moves new (all_stages old cases (met ++ m ∷ [])) (ends ++ e ∷ []) failing
-    found_end None e all so_far is =
+    pub found_end : (failing : Option Failing) (e : Case) → (failing ≡ None → count ≡ length moves) → count ≤ length moves → AreFoundTo setting moves mid (all_stages old cases met) ends count failing
+        → IsFound setting (take count moves) new (stage mid cases m) (End e) → AreFoundTo setting moves new (all_stages old cases (met ++ m ∷ [])) (ends ++ e ∷ []) count failing
+    found_end None e all few so_far is =
         let here = subst (λ (ms : List Moving). IsFound setting ms new (stage mid cases m) (End e)) (of_all None all refl) is in
         let there = subst (λ (g : Stage). IsFound setting moves new g (End e)) same_stage here in (
           rec_push (IsHeld new) ends e (all_held_stay mid new then ends so_far.0) there.0,
@@ -89,20 +134,39 @@ module _ (setting : Setting) (moves : List Moving) where
               (judged_end (all_stages old cases met) (all_reached mid ends) (stage old cases m) (reached new e) so_far.1
               (record { queries = there.1; calls = λ ended. Any-push (IsEndOf setting moves (stage old cases m)) (all_reached mid ends) (reached new e) there.2 }) there.2))),
         )
-    found_end (Some f) e all so_far is = still {P = IsRefutedIn setting moves f.order.items f.names f.unmet.came} so_far
-
-    pub found_unmet : (place : ℕ) (f : Failing) → IsFound setting (take count moves) new (stage mid cases m) (Unmet place f) → AreFound setting moves new (all_stages old cases (met ++ m ∷ [])) ends (Some f)
-    found_unmet place f is =
+    found_end (Some f) e all few so_far is =
         let g = stage mid cases m in
+        let many : length (take count moves) ≡ count = length-take-le count moves few in (
+          still {P = IsRefutedIn setting moves count f.order.items f.names f.unmet.came} so_far.0,
+          fronts_more count so_far.1 (record {
+            queries = is.1;
+            calls = λ ended. (is.2.bound, subst (λ (n : ℕ). CallsAreMet setting g.meaning.0 g.state (take count moves) (take n g.meaning.1) is.2.bound) many is.2.met);
+          }),
+        )
+
+    -- fewer moves are met at the stages before
+    fronts : (failing : Option Failing) (k : ℕ) → k ≤ count → count ≤ length moves → AreFoundTo setting moves mid (all_stages old cases met) ends count failing
+        → All (FrontHolds setting moves k) (all_stages old cases met)
+    fronts None k le few so_far =
+        all_as {P = HoldsIn setting moves (all_reached mid ends)} {Q = FrontHolds setting moves k} (front_of_all (all_reached mid ends) k (omega (arith, le, few))) (all_stages old cases met) so_far.1.holds
+    fronts (Some f) k le few so_far = all_as {P = FrontHolds setting moves count} {Q = FrontHolds setting moves k} (front_of_front count k le) (all_stages old cases met) so_far.1
+
+    pub found_unmet : (failing : Option Failing) → count ≤ length moves → AreFoundTo setting moves mid (all_stages old cases met) ends count failing → (place : ℕ) (f : Failing)
+        → IsFound setting (take count moves) new (stage mid cases m) (Unmet place f) → AreFoundTo setting moves new (all_stages old cases (met ++ m ∷ [])) ends place (Some f)
+    found_unmet failing few so_far place f is =
+        let g = stage mid cases m in
+        let within : place < length (take count moves) = is.0 in
+        let le : place ≤ count = omega (arith, within, length-take-le count moves few) in
         let more = refuted_of_more setting g.meaning.0 g.state (take count moves) (drop count moves) g.meaning.1 f.unmet.came is.1.refuted in
-        let whole : IsRefutedIn setting moves f.order.items f.names f.unmet.came g = record {
-          refuted = subst (λ (ms : List Moving). IsRefuted setting g.meaning.0 g.state ms g.meaning.1 f.unmet.came) (take-append-drop count moves) more;
-          same_order = is.1.same_order;
-          same_names = is.1.same_names;
-        } in
-        subst (Any (IsRefutedIn setting moves f.order.items f.names f.unmet.came)) (sym one_more)
-        (Any-push (IsRefutedIn setting moves f.order.items f.names f.unmet.came) (all_stages old cases met) (stage old cases m)
-        (subst (IsRefutedIn setting moves f.order.items f.names f.unmet.came) same_stage whole))
+        let told =
+        subst (λ (ms : List Moving). (refuted : IsRefuted setting g.meaning.0 g.state ms g.meaning.1 f.unmet.came) × (refuted.place ≡ place)) (take-append-drop count moves) (more.0, more.1 ∙ is.1.at) in
+        let whole : IsRefutedIn setting moves place f.order.items f.names f.unmet.came g =
+        record { refuted = told.0; at = told.1; same_order = is.1.same_order; same_names = is.1.same_names } in (
+          subst (Any (IsRefutedIn setting moves place f.order.items f.names f.unmet.came)) (sym one_more)
+              (Any-push (IsRefutedIn setting moves place f.order.items f.names f.unmet.came) (all_stages old cases met) (stage old cases m)
+              (subst (IsRefutedIn setting moves place f.order.items f.names f.unmet.came) same_stage whole)),
+          fronts_more place (fronts failing place le few so_far) (front_within count place le g is.2),
+        )
 
   -- ---- the cases so far
 
@@ -110,7 +174,7 @@ module _ (setting : Setting) (moves : List Moving) where
     pub grows : Grows old now
     pub few : count ≤ length moves
     pub all : failing ≡ None → count ≡ length moves
-    pub found : AreFound setting moves now (all_stages old cases met) ends failing
+    pub found : AreFoundTo setting moves now (all_stages old cases met) ends count failing
 
   pub found_none : (t : Tables) (cases : List Case) → FoundSoFar t t cases [] [] None (length moves)
   found_none t cases = record {
@@ -126,35 +190,43 @@ module _ (setting : Setting) (moves : List Moving) where
     );
   }
 
+  -- where no case is left
+  pub found_of : (t : Tables) (stages : List Stage) (ends : List Case) (place : ℕ) (failing : Option Failing) → AreFoundTo setting moves t stages ends place failing → AreFound setting moves t stages ends failing
+  found_of t stages ends place None is = is
+  found_of t stages ends place (Some f) is = (place, is)
+
   -- a case that is met tells this of the first moves
   pub behind_front : (t : Tables) (m : Met NamedWorld) (k : ℕ) → IsMetBehind t moves m → IsMetBehind t (take k moves) m
   behind_front t m k is = record { kept = is.kept; known = is.known; accepted = omega (arith, is.accepted, length-take k moves) }
 
   module _ (old mid new : Tables) (cases : List Case) (met : List (Met NamedWorld)) (m : Met NamedWorld) (ends after : List Case) (failing last : Option Failing) (count left : ℕ)
       (so_far : FoundSoFar old mid cases met ends failing count) (then : Grows mid new) (behind : IsMetBehind old moves m) where
-    as_found : (found : Found) → IsFound setting (take count moves) new (stage mid cases m) found → AddsFound found ends after failing last count left
-        → AreFound setting moves new (all_stages old cases (met ++ m ∷ [])) after last × (left ≤ length moves) × (last ≡ None → left ≡ length moves)
+    abbrev Found : List Case → (place : ℕ) → Option Failing → Type 0
+    Found es place last = AreFoundTo setting moves new (all_stages old cases (met ++ m ∷ [])) es place last
+
+    as_found : (found : WhatIsFound) → IsFound setting (take count moves) new (stage mid cases m) found → AddsFound found ends after failing last count left
+        → AreFoundTo setting moves new (all_stages old cases (met ++ m ∷ [])) after left last × (left ≤ length moves) × (last ≡ None → left ≡ length moves)
     as_found Passed is (more, none, same) = (
-      subst (λ (es : List Case). AreFound setting moves new (all_stages old cases (met ++ m ∷ [])) es last) (sym more)
-          (subst (AreFound setting moves new (all_stages old cases (met ++ m ∷ [])) ends) (sym none) (found_passed old mid new cases met m ends count so_far.grows then behind failing so_far.all so_far.found is)),
+      subst (λ (es : List Case). Found es left last) (sym more) (subst (λ (n : ℕ). Found ends n last) (sym same)
+          (subst (Found ends count) (sym none) (found_passed old mid new cases met m ends count so_far.grows then behind failing so_far.all so_far.found is))),
       subst (λ (n : ℕ). n ≤ length moves) (sym same) so_far.few,
       λ empty. same ∙ so_far.all (sym none ∙ empty),
     )
     as_found (End e) is (more, none, same) = (
-      subst (λ (es : List Case). AreFound setting moves new (all_stages old cases (met ++ m ∷ [])) es last) (sym more)
-          (subst (AreFound setting moves new (all_stages old cases (met ++ m ∷ [])) (ends ++ e ∷ [])) (sym none) (found_end old mid new cases met m ends count so_far.grows then behind failing e so_far.all so_far.found is)),
+      subst (λ (es : List Case). Found es left last) (sym more) (subst (λ (n : ℕ). Found (ends ++ e ∷ []) n last) (sym same)
+          (subst (Found (ends ++ e ∷ []) count) (sym none) (found_end old mid new cases met m ends count so_far.grows then behind failing e so_far.all so_far.few so_far.found is))),
       subst (λ (n : ℕ). n ≤ length moves) (sym same) so_far.few,
       λ empty. same ∙ so_far.all (sym none ∙ empty),
     )
     as_found (Unmet place f) is (more, some, same) =
         let within : place < length (take count moves) = is.0 in (
-          subst (λ (es : List Case). AreFound setting moves new (all_stages old cases (met ++ m ∷ [])) es last) (sym more)
-              (subst (AreFound setting moves new (all_stages old cases (met ++ m ∷ [])) ends) (sym some) (found_unmet old mid new cases met m ends count so_far.grows then behind place f is)),
+          subst (λ (es : List Case). Found es left last) (sym more) (subst (λ (n : ℕ). Found ends n last) (sym same)
+              (subst (Found ends place) (sym some) (found_unmet old mid new cases met m ends count so_far.grows then behind failing so_far.few so_far.found place f is))),
           subst (λ (n : ℕ). n ≤ length moves) (sym same) (omega (arith, within, length-take count moves)),
           λ empty. (let both : Some f ≡ None = sym some ∙ empty in cc),
         )
 
-    pub found_more : (found : Found) → IsFound setting (take count moves) new (stage mid cases m) found → AddsFound found ends after failing last count left
+    pub found_more : (found : WhatIsFound) → IsFound setting (take count moves) new (stage mid cases m) found → AddsFound found ends after failing last count left
         → FoundSoFar old new cases (met ++ m ∷ []) after last left
     found_more found is adds =
         let next = as_found found is adds in

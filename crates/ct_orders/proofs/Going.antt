@@ -72,12 +72,15 @@ get_longer (y ∷ xs) more (suc i) x is = get_longer xs more i x is
 
 -- nor is what is not met of the first moves
 pub refuted_of_more : (setting : Setting) (names : List Named) (t : State) (moves more : List Moving) (numbers : List (Option ℕ)) (came : Came)
-    → IsRefuted setting names t moves numbers came → IsRefuted setting names t (moves ++ more) numbers came
-refuted_of_more setting names t moves more numbers came is = record {
-  place = is.place;
-  moving = is.moving;
-  number = is.number;
-  move = get_longer moves more is.place is.moving is.move;
-  accepted = is.accepted;
-  unmet = is.unmet;
-}
+    → (is : IsRefuted setting names t moves numbers came) → (all : IsRefuted setting names t (moves ++ more) numbers came) × (all.place ≡ is.place)
+refuted_of_more setting names t moves more numbers came is = (
+  record {
+    place = is.place;
+    moving = is.moving;
+    number = is.number;
+    move = get_longer moves more is.place is.moving is.move;
+    accepted = is.accepted;
+    unmet = is.unmet;
+  },
+  refl,
+)

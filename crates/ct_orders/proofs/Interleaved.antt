@@ -25,7 +25,7 @@ use Rattle.ct_orders.specs.Interleaves.{AreSubmitted, Deliver, IsOnWay, IsEnd, Q
 use Rattle.ct_orders.specs.Meanings.{Meaning, AreApart, meaning_at}
 use Rattle.ct_orders.specs.Reached.{Reached, IsBegun}
 use Rattle.ct_orders.specs.Verdicts.{IsRefuted}
-use Rattle.ct_orders.specs.Cases.{AreBegun, IsRefutedFrom, IsBehind, HasCase, HoldsFrom, HasMore, Leads, Stage, stage, all_stages, order_at, order_of, reached, all_reached, IsEndOf, HoldsIn, IsRefutedIn, AreJudged, AreMetBehind}
+use Rattle.ct_orders.specs.Cases.{AreBegun, IsRefutedFrom, HoldsToFrom, IsBehind, HasCase, HoldsFrom, HasMore, Leads, Stage, stage, all_stages, order_at, order_of, reached, all_reached, IsEndOf, HoldsIn, FrontHolds, IsRefutedIn, AreJudged, AreMetBehind}
 use Rattle.ct_orders.proofs.Asking.{queries_alike}
 use Rattle.ct_orders.proofs.Deliveries.{delivered, delivers}
 use Rattle.ct_orders.proofs.Lists.{any_first, any_later, any_split, any_as, all_as, all_first, all_later, all_none, all_cons, none_of, found}
@@ -146,17 +146,20 @@ module _ (setting : Setting) (moves : List Moving) where
         let it = found (ComesFrom setting moves cases) (λ (g : Stage). IsEndOf setting moves g e) stages come some in
         among_as {P = λ (c : Reached). IsBehind setting moves c e} it.1.case it.1.among (behind it.0 e it.1 it.2)) ends sound
 
-    pub refuted_from : (stages : List Stage) (order : List ℕ) (names : List Name) (came : Came) → All (ComesFrom setting moves cases) stages
-        → Any (IsRefutedIn setting moves order names came) stages → Any (IsRefutedFrom setting moves order names came) cases
-    refuted_from stages order names came come some =
-        let it = found (ComesFrom setting moves cases) (IsRefutedIn setting moves order names came) stages come some in
+    pub refuted_from : (stages : List Stage) (place : ℕ) (order : List ℕ) (names : List Name) (came : Came) → All (ComesFrom setting moves cases) stages
+        → Any (IsRefutedIn setting moves place order names came) stages → Any (IsRefutedFrom setting moves place order names came) cases
+    refuted_from stages place order names came come some =
+        let it = found (ComesFrom setting moves cases) (IsRefutedIn setting moves place order names came) stages come some in
         let g = it.0 in let from = it.1 in let refuted = it.2 in
-        among_as {P = IsRefutedFrom setting moves order names came} from.case from.among (record {
+        let told =
+        subst (λ (ns : List Name). (r : IsRefuted setting ns g.state moves g.meaning.1 came) × (r.place ≡ place)) from.names (refuted.refuted, refuted.at) in
+        among_as {P = IsRefutedFrom setting moves place order names came} from.case from.among (record {
           state = g.state;
           numbers = g.meaning.1;
           more = from.more;
           way = from.way;
-          refuted = subst (λ (ns : List Name). IsRefuted setting ns g.state moves g.meaning.1 came) from.names refuted.refuted;
+          refuted = told.0;
+          at = told.1;
           same_order = refuted.same_order ∙ from.order;
           same_names = refuted.same_names ∙ from.names;
         })
@@ -179,36 +182,35 @@ module _ (setting : Setting) (moves : List Moving) where
             (all_as {P = λ (x : Met NamedWorld). length x.order.items ≤ rest.0} {Q = λ (x : Met NamedWorld). length x.order.items ≤ rest.0 + length m.order.items} (λ x le. omega (arith, le)) met rest.1),
       )
 
-  module _ (t : Tables) (cases : List Case) (ends : List Reached) (longest : ℕ) where
-    -- a stage at which all holds, and that is the same as this
+  module _ (t : Tables) (cases : List Case) (H : Stage → Type 0) (longest : ℕ) where
+    -- a stage at which this holds, and that is the same as this one
     record Holding (y : Named) (count : ℕ) : Type 0 where
       g : Stage
-      holds : HoldsIn setting moves ends g
+      holds : H g
       meaning : g.meaning ≡ meaning_at t.meanings y.0
       same : SameState y.1 g.state
       few : count ≤ longest
 
     holding : (y : Named) (count : ℕ) (met : List (Met NamedWorld)) → HasSame (worlds setting.charge.limit setting.charge.price) y count (all_seen named_at t.keeper met)
-        → All (HoldsIn setting moves ends) (all_stages t cases met) → All (λ (m : Met NamedWorld). length m.order.items ≤ longest) met → Holding y count
+        → All H (all_stages t cases met) → All (λ (m : Met NamedWorld). length m.order.items ≤ longest) met → Holding y count
     holding y count [] has hold few = absurd (none_of (λ (x : Met Named). (length x.order.items ≡ count) × SameNamed y x.kept) has)
     holding y count (m ∷ met) has hold few =
         any_split (λ (x : Met Named). (length x.order.items ≡ count) × SameNamed y x.kept) {C = Holding y count} (seen named_at t.keeper m) (all_seen named_at t.keeper met) has
         (λ here. record {
           g = stage t cases m;
-          holds = all_first (HoldsIn setting moves ends) (stage t cases m) (all_stages t cases met) hold;
+          holds = all_first H (stage t cases m) (all_stages t cases met) hold;
           meaning = ap (meaning_at t.meanings) (sym here.1.0);
           same = here.1.1;
           few = (let le = all_first (λ (x : Met NamedWorld). length x.order.items ≤ longest) m met few in omega (arith, le, here.0));
         })
-        (λ there. holding y count met there (all_later (HoldsIn setting moves ends) (stage t cases m) (all_stages t cases met) hold)
+        (λ there. holding y count met there (all_later H (stage t cases m) (all_stages t cases met) hold)
         (all_later (λ (x : Met NamedWorld). length x.order.items ≤ longest) m met few))
 
-    module _ (met : List (Met NamedWorld)) (hold : All (HoldsIn setting moves ends) (all_stages t cases met))
-        (few : All (λ (m : Met NamedWorld). length m.order.items ≤ longest) met) (meeting_once : MeetsOnce) where
+    module _ (met : List (Met NamedWorld)) (hold : All H (all_stages t cases met)) (few : All (λ (m : Met NamedWorld). length m.order.items ≤ longest) met) where
       -- the stage that a way comes to
       record Arrived (c : Reached) (numbers : List (Option ℕ)) (order : List ℕ) (end : State) : Type 0 where
         g : Stage
-        holds : HoldsIn setting moves ends g
+        holds : H g
         names : g.meaning.0 ≡ c.names
         accepted : g.meaning.1 ≡ numbers
         same : SameState end g.state
@@ -234,13 +236,55 @@ module _ (setting : Setting) (moves : List Moving) where
             within = h.few;
           }
 
+  -- the moves before a place are met on each way, where they are at each stage
+  module _ (t : Tables) (cases : List Case) (place longest : ℕ) (met : List (Met NamedWorld)) (hold : All (FrontHolds setting moves place) (all_stages t cases met))
+      (few : All (λ (m : Met NamedWorld). length m.order.items ≤ longest) met) where
+    arrives_front : (c : Reached) (start : ℕ × State) → IsBegun setting moves t.meanings c start → Reaches t met start
+        → (numbers : List (Option ℕ)) (order : List ℕ) (end : State) → IsOnWay setting c.names c.state moves numbers order end
+        → Arrived t cases (FrontHolds setting moves place) longest met hold few c numbers order end
+    arrives_front = arrives t cases (FrontHolds setting moves place) longest met hold few
+
+    holds_to : (c : Reached) (start : ℕ × State) → IsBegun setting moves t.meanings c start → Reaches t met start → HoldsToFrom setting moves place c
+    holds_to c start begun reaches = record {
+      begins = ((meaning_at t.meanings start.0).1, start.1, begun.submitted);
+      queries = λ numbers order end way.
+          let a = arrives_front c start begun reaches numbers order end way in
+          queries_alike a.g.state end (symmetric end a.g.state a.same) setting c.names (take place moves)
+          (subst (λ (ns : List Name). QueriesAreMet setting ns a.g.state (take place moves)) a.names a.holds.queries);
+      calls = λ numbers order end way ended.
+          let a = arrives_front c start begun reaches numbers order end way in
+          let same : end ≡ a.g.state = equal end a.g.state a.same ended in
+          let own = a.holds.calls (subst IsEnd same ended) in
+          let under = subst (λ (ns : List (Option ℕ)). CallsAreMet setting a.g.meaning.0 a.g.state (take place moves) (take place ns) own.0) a.accepted own.1 in
+          let named = subst (λ (ns : List Name). CallsAreMet setting ns a.g.state (take place moves) (take place numbers) own.0) a.names under in
+          (own.0, subst (λ (s : State). CallsAreMet setting c.names s (take place moves) (take place numbers) own.0) (sym same) named);
+    }
+
+    all_hold_to : (cs : List Reached) (starts : List (ℕ × State)) → AreBegun setting moves t.meanings cs starts
+        → ((k : ℕ) (start : Named) → slice_get starts k ≡ Some start → Reaches t met start) → All (HoldsToFrom setting moves place) cs
+    all_hold_to [] [] begun reach = all_none (HoldsToFrom setting moves place)
+    all_hold_to (c ∷ cs) (start ∷ starts) begun reach =
+        all_cons (HoldsToFrom setting moves place) c cs (holds_to c start begun.0 (reach 0 start refl)) (all_hold_to cs starts begun.1 (λ k s is. reach (suc k) s is))
+    all_hold_to [] (start ∷ starts) begun reach = absurd begun
+    all_hold_to (c ∷ cs) [] begun reach = absurd begun
+
+  module _ (t : Tables) (cases : List Case) (ends : List Reached) (longest : ℕ) where
+    module _ (met : List (Met NamedWorld)) (hold : All (HoldsIn setting moves ends) (all_stages t cases met))
+        (few : All (λ (m : Met NamedWorld). length m.order.items ≤ longest) met) (meeting_once : MeetsOnce) where
+      abbrev Arriving : Reached → List (Option ℕ) → List ℕ → State → Type 0
+      Arriving c numbers order end = Arrived t cases (HoldsIn setting moves ends) longest met hold few c numbers order end
+
+      arriving : (c : Reached) (start : ℕ × State) → IsBegun setting moves t.meanings c start → Reaches t met start
+          → (numbers : List (Option ℕ)) (order : List ℕ) (end : State) → IsOnWay setting c.names c.state moves numbers order end → Arriving c numbers order end
+      arriving = arrives t cases (HoldsIn setting moves ends) longest met hold few
+
       -- what is met at an end that a way comes to
       record Ended (c : Reached) (numbers : List (Option ℕ)) (end : State) : Type 0 where
         bound : List Name
         calls : CallsAreMet setting c.names end moves numbers bound
         among : HasCase ends end (c.names ++ bound)
 
-      ends_so : (c : Reached) (numbers : List (Option ℕ)) (order : List ℕ) (end : State) → length numbers ≡ length moves → Arrived c numbers order end → IsEnd end → Ended c numbers end
+      ends_so : (c : Reached) (numbers : List (Option ℕ)) (order : List ℕ) (end : State) → length numbers ≡ length moves → Arriving c numbers order end → IsEnd end → Ended c numbers end
       ends_so c numbers order end many a ended =
           let same : end ≡ a.g.state = equal end a.g.state a.same ended in
           let some = a.holds.calls (subst IsEnd same ended) in
@@ -259,16 +303,16 @@ module _ (setting : Setting) (moves : List Moving) where
       holds_from c start begun reaches = record {
         begins = ((meaning_at t.meanings start.0).1, start.1, begun.submitted);
         queries = λ numbers order end way.
-            let a = arrives c start begun reaches numbers order end way in
+            let a = arriving c start begun reaches numbers order end way in
             queries_alike a.g.state end (symmetric end a.g.state a.same) setting c.names moves (subst (λ (ns : List Name). QueriesAreMet setting ns a.g.state moves) a.names a.holds.queries);
         calls = λ numbers order end way ended.
             let many = submitted_length setting c.names c.state way.start moves numbers way.submitted in
-            let e = ends_so c numbers order end many (arrives c start begun reaches numbers order end way) ended in
+            let e = ends_so c numbers order end many (arriving c start begun reaches numbers order end way) ended in
             (e.bound, e.calls);
-        within = λ numbers order end way. (arrives c start begun reaches numbers order end way).within;
+        within = λ numbers order end way. (arriving c start begun reaches numbers order end way).within;
         met = λ numbers order end bound way ended met.
             let many = submitted_length setting c.names c.state way.start moves numbers way.submitted in
-            let e = ends_so c numbers order end many (arrives c start begun reaches numbers order end way) ended in
+            let e = ends_so c numbers order end many (arriving c start begun reaches numbers order end way) ended in
             let same : e.bound ≡ bound = calls_once setting c.names end meeting_once moves numbers e.bound bound e.calls met in
             subst (λ (b : List Name). HasCase ends end (c.names ++ b)) same e.among;
       }
@@ -283,6 +327,19 @@ module _ (setting : Setting) (moves : List Moving) where
 
   -- ---- the whole
 
+  module _ (most : ℕ) (old t : Tables) (cases : List Case) (starts : List (ℕ × State)) (begun : AreBegun setting moves t.meanings (all_reached old cases) starts) where
+    pub has_more : (all : Bool) → AreApart t.meanings → OnFalse all (IsMore (worlds setting.charge.limit setting.charge.price) starts most) → OnFalse all (HasMore setting moves most (all_reached old cases))
+    has_more true apart more = tt
+    has_more false apart more = record { meanings = t.meanings; apart = apart; starts = starts; begun = begun; more = more }
+
+    pub front_holds : (place : ℕ) (met : List (Met NamedWorld)) → All (FrontHolds setting moves place) (all_stages t cases met) → (all : Bool)
+        → OnTrue all (IsComplete (worlds setting.charge.limit setting.charge.price) starts (all_seen named_at t.keeper met))
+        → OnTrue all (All (HoldsToFrom setting moves place) (all_reached old cases))
+    front_holds place met hold false complete = tt
+    front_holds place met hold true complete =
+        let longest = longest_of met in
+        all_hold_to t cases place longest.0 met hold longest.1 (all_reached old cases) starts begun (λ k start is order allowed. complete k start is order allowed)
+
   module _ (most : ℕ) (meeting_once : MeetsOnce) (old t : Tables) (cases : List Case) (starts : List (ℕ × State)) (met : List (Met NamedWorld)) (ends : List Reached)
       (begun : AreBegun setting moves t.meanings (all_reached old cases) starts)
       (visits : All (IsVisit (worlds setting.charge.limit setting.charge.price) starts) (all_seen named_at t.keeper met))
@@ -294,16 +351,12 @@ module _ (setting : Setting) (moves : List Moving) where
         let longest = longest_of met in
         (longest.0, all_hold_from t cases ends longest.0 met judged.holds longest.1 meeting_once (all_reached old cases) starts begun (λ k start is order allowed. complete k start is order allowed))
 
-    more_so : (all : Bool) → AreApart t.meanings → OnFalse all (IsMore (worlds setting.charge.limit setting.charge.price) starts most) → OnFalse all (HasMore setting moves most (all_reached old cases))
-    more_so true apart more = tt
-    more_so false apart more = record { meanings = t.meanings; apart = apart; starts = starts; begun = begun; more = more }
-
     pub leads : (all : Bool) → AreApart t.meanings → OnTrue all (IsComplete (worlds setting.charge.limit setting.charge.price) starts (all_seen named_at t.keeper met))
         → OnFalse all (IsMore (worlds setting.charge.limit setting.charge.price) starts most) → Leads setting moves most (all_reached old cases) ends all
     leads all apart complete more = record {
       sound = all_behind (all_reached old cases) (all_stages t cases met) ends (all_come old t cases starts begun met visits) judged.sound;
       complete = complete_so all complete;
-      more = more_so all apart more;
+      more = has_more most old t cases starts begun all apart more;
     }
 
   -- what is kept of the cases that are met

@@ -32,7 +32,7 @@ use Rattle.ct_orders.specs.Reached.{Reached}
 use Rattle.ct_orders.specs.Cases.{Grows, Stage, stage, IsMetBehind}
 use Rattle.ct_orders.specs.Interleaves.{is_query, Choose, IsAnswered, IsEnd, QueryIsMet, CallIsMet, QueriesAreMet, CallsAreMet, came_under}
 use Rattle.ct_orders.specs.Verdicts.{IsQueryUnmet, IsCallUnmet, IsMoveUnmet, IsRefuted}
-use Rattle.ct_orders.specs.Answers.{IsQueryJudged, IsCallJudged, IsMoveJudged, AreMovesJudged, IsStageJudged, IsLeft, IsFound}
+use Rattle.ct_orders.specs.Answers.{IsQueryJudged, IsCallJudged, IsMoveJudged, FrontIsMet, AreMovesJudged, IsStageJudged, IsLeft, IsFound}
 use Rattle.ct_orders.proofs.Asking.{chosen_true, chosen_false, no_call}
 use Rattle.ct_orders.proofs.Lists.{take_one, take_some, get_some}
 use Rattle.ct_orders.proofs.Moves.{queries_more, calls_more, no_queries}
@@ -167,17 +167,21 @@ module _ (setting : Setting) (names : List Named) (t : State) (moves : List Movi
         }
 
     pub moves_refuted : (same : State) (more : List Named) (came : Came) → IsMoveJudged setting known world moving number same bound more (Some came)
-        → (i < length moves) × IsRefuted setting names t moves numbers came
+        → (i < length moves) × ((refuted : IsRefuted setting names t moves numbers came) × (refuted.place ≡ i)) × FrontIsMet setting names t moves numbers i
     moves_refuted same more came is = (
       lt,
-      record {
-        place = i;
-        moving = moving;
-        number = number;
-        move = get_some moves i moving lt ∙ ap (λ (m : Moving). Some m) (sym at);
-        accepted = accepted;
-        unmet = here same more (Some came) is;
-      },
+      (
+        record {
+          place = i;
+          moving = moving;
+          number = number;
+          move = get_some moves i moving lt ∙ ap (λ (m : Moving). Some m) (sym at);
+          accepted = accepted;
+          unmet = here same more (Some came) is;
+        },
+        refl,
+      ),
+      (so_far.queries, λ ended. (bound, so_far.calls ended)),
     )
 
   pub moves_done : (count : ℕ) (world : State) (known bound after : List Named) → MovesSoFar setting names t moves numbers count world known bound → length moves ≤ count → after ≡ known ++ bound
@@ -217,14 +221,10 @@ module _ (setting : Setting) (moves : List Moving) (old mid new : Tables) (cases
   pub unmet_found : (names : List Named) (r : Refuted) (f : Failing) → IsStageJudged setting moves (stage old cases m).state (stage old cases m).meaning names (Some r)
       → f.unmet.came ≡ r.unmet.came → f.names ≡ (stage old cases m).meaning.0 → f.order.items ≡ (stage old cases m).order
       → IsFound setting moves new (stage old cases m) (Unmet r.place f)
-  unmet_found names r f is came known order = (
-    is.0,
-    record {
-      refuted = subst (IsRefuted setting (stage old cases m).meaning.0 (stage old cases m).state moves (stage old cases m).meaning.1) (sym came) is.1;
-      same_order = order;
-      same_names = known;
-    },
-  )
+  unmet_found names r f (within, (refuted, at), (queries, calls)) came known order =
+      let g = stage old cases m in
+      let told = subst (λ (x : Came). (refuted : IsRefuted setting g.meaning.0 g.state moves g.meaning.1 x) × (refuted.place ≡ r.place)) (sym came) (refuted, at) in
+      (within, record { refuted = told.0; at = told.1; same_order = order; same_names = known }, record { queries = queries; calls = calls })
 
   pub left_found : Grows old mid → IsMetBehind old moves m → (names : List Named) (found : Found) → IsStageJudged setting moves (stage old cases m).state (stage old cases m).meaning names None
       → IsLeft mid new cases m names found → IsFound setting moves new (stage old cases m) found

@@ -2,7 +2,7 @@
 use Rattle.std.proofs.Common.{◌≡◌, ℕ, ◌<◌, ◌≤◌, zero, suc, ◌+◌, List, [], ◌∷◌, ◌++◌, length, take, drop, get_or, map, Option, Some, None, refl, sym, ap, ◌∙◌, subst, drop-cons, arith}
 use Rattle.std.specs.Prelude.{All, slice_get}
 use Rattle.std.specs.List.{Any, AllByRecursion}
-use Rattle.std.proofs.Math.Seq.{take-suc}
+use Rattle.std.proofs.Math.Seq.{take-suc, take-append_seam}
 use Rattle.ct_search.proofs.Lists.{any_at, any_longer}
 
 module _ {X : Type 0} (P : X → Type 0) where
@@ -74,6 +74,16 @@ take_some {X} xs i x is = ap (λ n. take n xs) (let next : i + 1 ≡ suc i = ome
     more [] (suc j) is = cc
     more (y ∷ ys) zero is = let same : y ≡ x = cc in ap (λ z. z ∷ []) same
     more (y ∷ ys) (suc j) is = ap (λ l. y ∷ l) (more ys j is)
+
+-- the first of the first elements
+pub take_front : {X : Type 0} (k n : ℕ) (xs : List X) → k ≤ n → take k (take n xs) ≡ take k xs
+take_front zero n xs le = refl
+take_front (suc k) zero xs le = absurd (omega (arith, le))
+take_front (suc k) (suc n) [] le = refl
+take_front (suc k) (suc n) (x ∷ xs) le = ap (λ l. x ∷ l) (take_front k n xs (omega (arith, le)))
+
+pub front_is : {X : Type 0} (front rest xs : List X) (k : ℕ) → xs ≡ front ++ rest → length front ≡ k → front ≡ take k xs
+front_is front rest xs k parts many = sym (ap (take k) parts ∙ ap (λ n. take n (front ++ rest)) (sym many) ∙ take-append_seam front rest)
 
 -- an element, and those after it
 pub drop_there : {X : Type 0} (xs : List X) (i : ℕ) (x : X) → i < length xs → x ≡ get_or xs i x → drop i xs ≡ x ∷ drop (i + 1) xs

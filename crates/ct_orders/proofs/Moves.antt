@@ -1,5 +1,5 @@
 -- Moves of an interleave, one after another: what is submitted and what is met, with one move more; and that it is so in one way.
-use Rattle.std.proofs.Common.{◌≡◌, ◌||◌, ℕ, suc, Bool, true, false, List, [], ◌∷◌, ◌++◌, length, take, Option, Some, None, refl, sym, ap, ap₂, ◌∙◌, subst, append_assoc, arith}
+use Rattle.std.proofs.Common.{◌≡◌, ◌||◌, ℕ, zero, suc, Bool, true, false, List, [], ◌∷◌, ◌++◌, length, take, Option, Some, None, refl, sym, ap, ap₂, ◌∙◌, subst, append_assoc, arith}
 use Rattle.std.specs.List.{list_any}
 use Rattle.std.proofs.lemmas.Bool.{true≢false}
 use Rattle.std.proofs.lemmas.List.{append-nil}
@@ -17,6 +17,7 @@ use Rattle.ct_run.specs.Called.{if_accepted}
 use Rattle.ct_run.specs.Statements.{Setting, IsMoveMet, MeetsAt, expected_of, reply_types}
 use Rattle.ct_run.proofs.One.{MeetsOnce}
 use Rattle.ct_orders.specs.Interleaves.{is_query, Choose, IsCallSubmitted, IsSubmitted, AreSubmitted, QueryIsMet, QueriesAreMet, CallIsMet, CallsAreMet, IsAnswered, came_under}
+use Rattle.ct_orders.specs.Verdicts.{CanBegin}
 
 -- what came meets outcomes in one way
 met_at_once : MeetsOnce → (types : Option Types) (names : List Named) (expected : List CheckedOutcome) (came : Came) (bound other : List Named)
@@ -40,6 +41,15 @@ module _ (setting : Setting) (names : List Named) where
   submitted_length s t (m ∷ moves) (n ∷ numbers) (next, first, rest) = ap suc (submitted_length next t moves numbers rest)
   submitted_length s t [] (n ∷ numbers) none = absurd none
   submitted_length s t (m ∷ moves) [] none = absurd none
+
+  -- the first of them are submitted too
+  pub begins_front : (s t : State) (moves : List Moving) (numbers : List (Option ℕ)) (k : ℕ) → AreSubmitted setting names s moves numbers t → CanBegin setting names s (take k moves)
+  begins_front s t moves numbers zero are = ([], s, refl)
+  begins_front s t [] [] (suc k) are = ([], s, refl)
+  begins_front s t (m ∷ moves) (n ∷ numbers) (suc k) (next, first, rest) =
+      let more = begins_front next t moves numbers k rest in (n ∷ more.0, more.1, (next, first, more.2))
+  begins_front s t [] (n ∷ numbers) (suc k) none = absurd none
+  begins_front s t (m ∷ moves) [] (suc k) none = absurd none
 
   one_call : (s t u : State) (moving : Moving) (n m : Option ℕ) → IsCallSubmitted setting names s moving n t → IsCallSubmitted setting names s moving m u → (n ≡ m) × (t ≡ u)
   one_call s t u moving n m is are =
@@ -71,6 +81,11 @@ module _ (setting : Setting) (names : List Named) where
     queries_more [] moving met is = (is, tt)
     queries_more (m ∷ moves) moving met is = (met.0, queries_more moves moving met.1 is)
 
+    pub queries_front : (moves : List Moving) (k : ℕ) → QueriesAreMet setting names t moves → QueriesAreMet setting names t (take k moves)
+    queries_front moves zero met = tt
+    queries_front [] (suc k) met = tt
+    queries_front (m ∷ moves) (suc k) met = (met.0, queries_front moves k met.1)
+
     no_queries_by : (b rest : Bool) (moving : Moving) → (b || rest) ≡ false → Choose b (IsAnswered setting names t moving) (Unit {0}) × (rest ≡ false)
     no_queries_by true true moving is = absurd (true≢false is)
     no_queries_by true false moving is = absurd (true≢false is)
@@ -98,6 +113,15 @@ module _ (setting : Setting) (names : List Named) where
     )
     calls_more [] (n ∷ numbers) moving number bound own none is = absurd none
     calls_more (m ∷ moves) [] moving number bound own none is = absurd none
+
+    pub calls_front : (moves : List Moving) (numbers : List (Option ℕ)) (bound : List Named) (k : ℕ) → CallsAreMet setting names t moves numbers bound
+        → (first : List Named) × CallsAreMet setting names t (take k moves) (take k numbers) first
+    calls_front moves numbers bound zero met = ([], refl)
+    calls_front [] [] bound (suc k) met = ([], refl)
+    calls_front (m ∷ moves) (n ∷ numbers) bound (suc k) (own, others, met, rest, all) =
+        let more = calls_front moves numbers others k rest in (own ++ more.0, (own, more.0, met, more.1, refl))
+    calls_front [] (n ∷ numbers) bound (suc k) none = absurd none
+    calls_front (m ∷ moves) [] bound (suc k) none = absurd none
 
     module _ (meeting_once : MeetsOnce) where
       one_bound : (b : Bool) (moving : Moving) (number : Option ℕ) (own other : List Named)

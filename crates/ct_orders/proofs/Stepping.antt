@@ -45,8 +45,10 @@ module _ (setting : Setting) (most : ℕ) (steps left : List CheckedStep) where
 
     stuck_or_refuted : (f : Failing) (place : ℕ) → IsInterleaved setting most old new cases moves ends (Some f) all → IsAt steps place (Interleave moves ∷ left)
         → FailsFirst setting most steps place f.order.items f.names f.unmet.came
-    stuck_or_refuted f place (inl some) at = stuck_fails setting most steps moves left (all_reached old cases) undecided place f.order.items f.names f.unmet.came so_far at some
-    stuck_or_refuted f place (inr some) at = refuted_fails setting most steps moves left (all_reached old cases) undecided place f.order.items f.names f.unmet.came so_far at some
+    stuck_or_refuted f place (inl (count, some, begin)) at =
+        stuck_fails setting most steps moves left (all_reached old cases) undecided place f.order.items f.names f.unmet.came so_far at count some begin
+    stuck_or_refuted f place (inr (count, some, complete, more)) at =
+        refuted_fails setting most steps moves left (all_reached old cases) undecided place f.order.items f.names f.unmet.came so_far at all count some complete more
 
     pub interleave_fails : (failing : Option Failing) (f : Failing) → failing ≡ Some f → IsInterleaved setting most old new cases moves ends failing all → (place : ℕ)
         → IsAt steps place (Interleave moves ∷ left) → FailsFirst setting most steps place f.order.items f.names f.unmet.came
@@ -148,7 +150,7 @@ module _ (setting : Setting) (most : ℕ) (steps : List CheckedStep) where
 
   ended_by : (undecided : Option ℕ) (cases : List Reached) (ended : Ended) → IsDecided setting most steps [] cases undecided → ended.verdict ≡ ended_with undecided → IsVerdict setting most steps ended
   ended_by None cases ended decided is = passed_so cases ended decided is
-  ended_by (Some first) cases ended decided is = undecided_so first ended decided is
+  ended_by (Some first) cases ended (left, moves, more, within) is = undecided_so first ended (left, moves, more) is
 
   pub ended_so : (left : List CheckedStep) (cases : List Reached) (undecided : Option ℕ) (ended : Ended) → left ≡ [] → IsSoFar setting most steps left cases undecided
       → ended.verdict ≡ ended_with undecided → IsVerdict setting most steps ended

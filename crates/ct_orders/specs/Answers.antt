@@ -1,5 +1,6 @@
 -- What the functions answer: rows for the kinds of their answers. No standard has this.
-use Rattle.std.specs.Prelude.{◌≡◌, ◌⊎◌, ◌<◌, ◌++◌, ℕ, Bool, List, [], ◌∷◌, length, map, take, Option, Some, None}
+use Rattle.std.specs.Prelude.{◌≡◌, ◌⊎◌, ◌<◌, ◌++◌, ℕ, Bool, List, [], ◌∷◌, length, map, take, All, Option, Some, None}
+use Rattle.std.specs.Bool.{OnTrue, OnFalse}
 use Rattle.std.specs.List.{Any, AllByRecursion}
 use Rattle.ic_behaviour.specs.State.{State}
 use Rattle.ic_behaviour.specs.declared.charge.Charge.{Charge}
@@ -38,7 +39,7 @@ use Rattle.ct_orders.specs.Interleaves.{IsSubmitted, AreSubmitted, IsUnsent, IsE
 use Rattle.ct_orders.specs.Meanings.{Meaning}
 use Rattle.ct_orders.specs.Reached.{Reached, IsBegun}
 use Rattle.ct_orders.specs.Verdicts.{IsStuck, IsQueryUnmet, IsCallUnmet, IsMoveUnmet, IsRefuted}
-use Rattle.ct_orders.specs.Cases.{IsHeld, AreHeld, reached, all_reached, IsAfter, AreAfter, IsUnmetIn, AreBegun, IsStuckIn, IsRefutedFrom, Leads, order_at, Stage, IsEndOf, IsRefutedIn, AreJudged}
+use Rattle.ct_orders.specs.Cases.{IsHeld, AreHeld, reached, all_reached, IsAfter, AreAfter, IsUnmetIn, AreBegun, Begins, IsStuckIn, IsRefutedFrom, HoldsToFrom, HasMore, Leads, order_at, Stage, IsEndOf, FrontHolds, IsRefutedIn, AreJudged}
 
 -- ---- statements
 
@@ -72,10 +73,16 @@ IsStarted setting old new case moves start None = IsBegun setting moves new.mean
 IsStarted setting old new case moves start (Some u) =
     (stuck : IsStuck setting (reached old case).names (reached old case).state moves u.came) × (length stuck.before ≡ u.place)
 
-abbrev pub AreStarted : Setting → Tables → Tables → List Case → List Moving → List NamedWorld → Option Failing → Type 0
-AreStarted setting old new cases moves starts None =
+-- each case has a start, or the move at a place is stuck in one, and those before it are stuck in none
+abbrev pub AreStartedTo : Setting → Tables → Tables → List Case → List Moving → List NamedWorld → (place : ℕ) → Option Failing → Type 0
+AreStartedTo setting old new cases moves starts place None =
     AllByRecursion (IsKeptNamed new.keeper) starts × AreBegun setting moves new.meanings (all_reached old cases) (map (named_at new.keeper) starts)
-AreStarted setting old new cases moves starts (Some f) = Any (IsStuckIn setting moves f.order.items f.names f.unmet.came) (all_reached old cases)
+AreStartedTo setting old new cases moves starts place (Some f) =
+    Any (IsStuckIn setting moves place f.order.items f.names f.unmet.came) (all_reached old cases) × All (Begins setting moves place) (all_reached old cases)
+
+abbrev pub AreStarted : Setting → Tables → Tables → List Case → List Moving → List NamedWorld → Option Failing → Type 0
+AreStarted setting old new cases moves starts None = AreStartedTo setting old new cases moves starts 0 None
+AreStarted setting old new cases moves starts (Some f) = (place : ℕ) × AreStartedTo setting old new cases moves starts place (Some f)
 
 -- ---- judgements
 
@@ -96,19 +103,26 @@ IsMoveJudged setting names t moving number same bound more None =
     (own : List Named) × (more ≡ bound ++ own) × (same ≡ t) × QueryIsMet setting names t moving × (IsEnd t → CallIsMet setting names t moving number own)
 IsMoveJudged setting names t moving number same bound more (Some came) = IsMoveUnmet setting names t moving number came
 
--- the same of moves, of which one that is not met has a place
+-- the moves before a place are met in a state
+abbrev pub FrontIsMet : Setting → List Named → State → List Moving → List (Option ℕ) → (place : ℕ) → Type 0
+FrontIsMet setting names t moves numbers place =
+    QueriesAreMet setting names t (take place moves) × (IsEnd t → (bound : List Named) × CallsAreMet setting names t (take place moves) (take place numbers) bound)
+
+-- the same of moves, of which the first that is not met has a place
 abbrev pub AreMovesJudged : Setting → List Named → State → List Moving → List (Option ℕ) → State → List Named → Option Refuted → Type 0
 AreMovesJudged setting names t moves numbers same next None =
     (same ≡ t) × QueriesAreMet setting names t moves
     × (IsEnd t → (bound : List Named) × CallsAreMet setting names t moves (take (length moves) numbers) bound × (next ≡ names ++ bound))
-AreMovesJudged setting names t moves numbers same next (Some r) = (r.place < length moves) × IsRefuted setting names t moves numbers r.unmet.came
+AreMovesJudged setting names t moves numbers same next (Some r) =
+    (r.place < length moves) × ((refuted : IsRefuted setting names t moves numbers r.unmet.came) × (refuted.place ≡ r.place)) × FrontIsMet setting names t moves numbers r.place
 
 -- the same at a stage
 abbrev pub IsStageJudged : Setting → List Moving → State → Meaning → List Named → Option Refuted → Type 0
 IsStageJudged setting moves t meaning next None =
     QueriesAreMet setting meaning.0 t moves
     × (IsEnd t → (bound : List Named) × CallsAreMet setting meaning.0 t moves (take (length moves) meaning.1) bound × (next ≡ meaning.0 ++ bound))
-IsStageJudged setting moves t meaning next (Some r) = (r.place < length moves) × IsRefuted setting meaning.0 t moves meaning.1 r.unmet.came
+IsStageJudged setting moves t meaning next (Some r) =
+    (r.place < length moves) × ((refuted : IsRefuted setting meaning.0 t moves meaning.1 r.unmet.came) × (refuted.place ≡ r.place)) × FrontIsMet setting meaning.0 t moves meaning.1 r.place
 
 -- a case in which all is met: it is a case after the interleave, where no message is left
 abbrev pub IsLeft : Tables → Tables → List Case → Met NamedWorld → List Named → Found → Type 0
@@ -121,7 +135,7 @@ IsLeft old new cases m names (NotMet place f) = ⊥
 abbrev pub IsFound : Setting → List Moving → Tables → Stage → Found → Type 0
 IsFound setting moves new g Passed = QueriesAreMet setting g.meaning.0 g.state moves × (IsEnd g.state → ⊥)
 IsFound setting moves new g (End e) = IsHeld new e × QueriesAreMet setting g.meaning.0 g.state moves × IsEndOf setting moves g (reached new e)
-IsFound setting moves new g (NotMet place f) = (place < length moves) × IsRefutedIn setting moves f.order.items f.names f.unmet.came g
+IsFound setting moves new g (NotMet place f) = (place < length moves) × IsRefutedIn setting moves place f.order.items f.names f.unmet.came g × FrontHolds setting moves place g
 
 -- an end comes last; what is not met takes the place of what was not before
 abbrev pub AddsFound : Found → (ends after : List Case) → (failing last : Option Failing) → (count left : ℕ) → Type 0
@@ -129,14 +143,21 @@ AddsFound Passed ends after failing last count left = (after ≡ ends) × (last 
 AddsFound (End e) ends after failing last count left = (after ≡ ends ++ e ∷ []) × (last ≡ failing) × (left ≡ count)
 AddsFound (NotMet place f) ends after failing last count left = (after ≡ ends) × (last ≡ Some f) × (left ≡ place)
 
+-- all is met, or the move at a place is not met in one, and those before it are met in all
+abbrev pub AreFoundTo : Setting → List Moving → Tables → List Stage → List Case → (place : ℕ) → Option Failing → Type 0
+AreFoundTo setting moves new stages ends place None = AreHeld new ends × AreJudged setting moves stages (all_reached new ends)
+AreFoundTo setting moves new stages ends place (Some f) =
+    Any (IsRefutedIn setting moves place f.order.items f.names f.unmet.came) stages × All (FrontHolds setting moves place) stages
+
 abbrev pub AreFound : Setting → List Moving → Tables → List Stage → List Case → Option Failing → Type 0
-AreFound setting moves new stages ends None = AreHeld new ends × AreJudged setting moves stages (all_reached new ends)
-AreFound setting moves new stages ends (Some f) = Any (IsRefutedIn setting moves f.order.items f.names f.unmet.came) stages
+AreFound setting moves new stages ends None = AreFoundTo setting moves new stages ends 0 None
+AreFound setting moves new stages ends (Some f) = (place : ℕ) × AreFoundTo setting moves new stages ends place (Some f)
 
 -- ---- interleaves
 
 abbrev pub IsInterleaved : Setting → ℕ → Tables → Tables → List Case → List Moving → List Case → Option Failing → Bool → Type 0
 IsInterleaved setting most old new cases moves ends None all = AreHeld new ends × Leads setting moves most (all_reached old cases) (all_reached new ends) all
 IsInterleaved setting most old new cases moves ends (Some f) all =
-    Any (IsStuckIn setting moves f.order.items f.names f.unmet.came) (all_reached old cases)
-    ⊎ Any (IsRefutedFrom setting moves f.order.items f.names f.unmet.came) (all_reached old cases)
+    ((place : ℕ) × Any (IsStuckIn setting moves place f.order.items f.names f.unmet.came) (all_reached old cases) × All (Begins setting moves place) (all_reached old cases))
+    ⊎ ((place : ℕ) × Any (IsRefutedFrom setting moves place f.order.items f.names f.unmet.came) (all_reached old cases)
+    × OnTrue all (All (HoldsToFrom setting moves place) (all_reached old cases)) × OnFalse all (HasMore setting moves most (all_reached old cases)))

@@ -21,7 +21,7 @@ use Rattle.ct_orders.specs.declared.case.Tables.{Tables}
 use Rattle.ct_orders.specs.Interleaves.{IsOnWay, IsEnd, QueriesAreMet, CallsAreMet}
 use Rattle.ct_orders.specs.Meanings.{Meaning, AreApart, Extends, meaning_at}
 use Rattle.ct_orders.specs.Reached.{Reached, IsBegun}
-use Rattle.ct_orders.specs.Verdicts.{CanBegin, QueriesHold, CallsHold, EndsWithin, IsStuck, IsRefuted}
+use Rattle.ct_orders.specs.Verdicts.{CanBegin, HoldsTo, QueriesHold, CallsHold, EndsWithin, IsStuck, IsRefuted}
 
 -- ---- what is kept
 
@@ -79,21 +79,31 @@ AreBegun setting moves meanings [] [] = Unit {0}
 AreBegun setting moves meanings (c ∷ cases) (start ∷ starts) = IsBegun setting moves meanings c start × AreBegun setting moves meanings cases starts
 AreBegun setting moves meanings cases starts = ⊥
 
--- in a case a move cannot be submitted, for this reason
-pub record IsStuckIn (setting : Setting) (moves : List Moving) (order : List ℕ) (names : List Named) (came : Came) (c : Reached) : Type 0 where
+-- the first moves can be submitted in a case
+abbrev pub Begins : Setting → List Moving → (count : ℕ) → Reached → Type 0
+Begins setting moves count c = CanBegin setting c.names c.state (take count moves)
+
+-- in a case the move at a place cannot be submitted, for this reason
+pub record IsStuckIn (setting : Setting) (moves : List Moving) (place : ℕ) (order : List ℕ) (names : List Named) (came : Came) (c : Reached) : Type 0 where
   pub stuck : IsStuck setting c.names c.state moves came
+  pub at : length stuck.before ≡ place
   pub same_order : order ≡ c.order
   pub same_names : names ≡ c.names
 
--- on a way from a case a move is not met, and this came
-pub record IsRefutedFrom (setting : Setting) (moves : List Moving) (order : List ℕ) (names : List Named) (came : Came) (c : Reached) : Type 0 where
+-- on a way from a case the move at a place is not met, and this came
+pub record IsRefutedFrom (setting : Setting) (moves : List Moving) (place : ℕ) (order : List ℕ) (names : List Named) (came : Came) (c : Reached) : Type 0 where
   pub state : State
   pub numbers : List (Option ℕ)
   pub more : List ℕ
   pub way : IsOnWay setting c.names c.state moves numbers more state
   pub refuted : IsRefuted setting c.names state moves numbers came
+  pub at : refuted.place ≡ place
   pub same_order : order ≡ c.order ++ more
   pub same_names : names ≡ c.names
+
+-- those before a place are met on each way from a case, and all can be submitted
+abbrev pub HoldsToFrom : Setting → List Moving → (place : ℕ) → Reached → Type 0
+HoldsToFrom setting moves place c = HoldsTo setting c.names c.state moves place
 
 -- a case after an interleave that another begins with
 pub record IsBehind (setting : Setting) (moves : List Moving) (c end : Reached) : Type 0 where
@@ -182,9 +192,15 @@ pub record HoldsIn (setting : Setting) (moves : List Moving) (ends : List Reache
   pub queries : QueriesAreMet setting g.meaning.0 g.state moves
   pub calls : IsEnd g.state → Any (IsEndOf setting moves g) ends
 
--- a move is not met in it
-pub record IsRefutedIn (setting : Setting) (moves : List Moving) (order : List ℕ) (names : List Named) (came : Came) (g : Stage) : Type 0 where
+-- the moves before a place are met in it
+pub record FrontHolds (setting : Setting) (moves : List Moving) (place : ℕ) (g : Stage) : Type 0 where
+  pub queries : QueriesAreMet setting g.meaning.0 g.state (take place moves)
+  pub calls : IsEnd g.state → (bound : List Named) × CallsAreMet setting g.meaning.0 g.state (take place moves) (take place g.meaning.1) bound
+
+-- the move at a place is not met in it
+pub record IsRefutedIn (setting : Setting) (moves : List Moving) (place : ℕ) (order : List ℕ) (names : List Named) (came : Came) (g : Stage) : Type 0 where
   pub refuted : IsRefuted setting g.meaning.0 g.state moves g.meaning.1 came
+  pub at : refuted.place ≡ place
   pub same_order : order ≡ g.order
   pub same_names : names ≡ g.meaning.0
 

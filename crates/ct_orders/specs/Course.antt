@@ -1,5 +1,5 @@
 -- How far a test has come: its cases are those that it comes to, and what came before holds. No standard has this.
-use Rattle.std.specs.Prelude.{◌≡◌, ◌<◌, ◌++◌, ℕ, Bool, true, false, List, [], ◌∷◌, length, All, Option, Some, None}
+use Rattle.std.specs.Prelude.{◌≡◌, ◌<◌, ◌≤◌, ◌++◌, ℕ, Bool, true, false, List, [], ◌∷◌, length, All, Option, Some, None}
 use Rattle.ic_behaviour.specs.State.{State}
 use Rattle.ic_behaviour.specs.Runs.{Act}
 use Rattle.ct_check.specs.Moving.{Moving}
@@ -37,10 +37,14 @@ pub record IsWhole (setting : Setting) (steps left : List CheckedStep) (cases : 
   pub before : (s : State) (names : List Named) (rest : List CheckedStep) (order : List ℕ) → Comes setting steps s names rest order → length left < length rest
       → Holds setting longest s names rest
 
--- too many cases are in an interleave, or nothing was left out
+-- too many cases are in an interleave before these parts
+abbrev pub HadTooMany : Setting → (most : ℕ) → (steps left : List CheckedStep) → Type 0
+HadTooMany setting most steps left = (rest : List CheckedStep) × (moves : List Moving) × HasTooMany setting steps rest moves most × (length left ≤ length rest)
+
+-- or nothing was left out
 abbrev pub IsDecided : Setting → (most : ℕ) → List CheckedStep → List CheckedStep → List Reached → (undecided : Option ℕ) → Type 0
 IsDecided setting most steps left cases None = IsWhole setting steps left cases
-IsDecided setting most steps left cases (Some place) = (rest : List CheckedStep) × (moves : List Moving) × HasTooMany setting steps rest moves most
+IsDecided setting most steps left cases (Some place) = HadTooMany setting most steps left
 
 -- a test has come to these parts, with these cases
 pub record IsSoFar (setting : Setting) (most : ℕ) (steps left : List CheckedStep) (cases : List Reached) (undecided : Option ℕ) : Type 0 where

@@ -1,5 +1,5 @@
 -- How a test ends.
-use Rattle.std.specs.Prelude.{◌≡◌, ◌⊎◌, ◌+◌, ◌<◌, ◌≤◌, ◌++◌, ℕ, List, [], ◌∷◌, length, map, All, Option, Some, None, slice_get}
+use Rattle.std.specs.Prelude.{◌≡◌, ◌⊎◌, ◌+◌, ◌<◌, ◌≤◌, ◌++◌, ℕ, List, [], ◌∷◌, length, map, take, All, Option, Some, None, slice_get}
 use Rattle.ic_behaviour.specs.State.{State}
 use Rattle.ic_behaviour.specs.Runs.{Act}
 use Rattle.ct_check.specs.Moving.{Moving}
@@ -125,25 +125,6 @@ pub record IsStuck (setting : Setting) (names : List Named) (s : State) (moves :
   pub submitted : AreSubmitted setting names s before numbers state
   pub unsent : IsUnsent setting names state moving came
 
--- where this many parts come before the one that is next
-abbrev pub IsAt : List CheckedStep → (place : ℕ) → (left : List CheckedStep) → Type 0
-IsAt steps place left = length steps ≡ place + length left
-
--- the part at a place is not met on the way with this order, where names stand for these, and this came
-pub data Fails (setting : Setting) (steps : List CheckedStep) : (place : ℕ) → (order : List ℕ) → List Named → Came → Type 0 where
-  statement : (s : State) (names : List Named) (statement : CheckedKind) (left : List CheckedStep) (place : ℕ) (order : List ℕ) (came : Came)
-      → Comes setting steps s names (Statement statement ∷ left) order → IsAt steps place (Statement statement ∷ left)
-      → IsUnmet setting s names statement came
-      → Fails setting steps place order names came
-  unsent : (s : State) (names : List Named) (moves : List Moving) (left : List CheckedStep) (place : ℕ) (order : List ℕ) (came : Came)
-      → Comes setting steps s names (Interleave moves ∷ left) order → IsAt steps place (Interleave moves ∷ left)
-      → IsStuck setting names s moves came
-      → Fails setting steps place order names came
-  move : (s t : State) (names : List Named) (moves : List Moving) (numbers : List (Option ℕ)) (left : List CheckedStep) (place : ℕ) (order more : List ℕ) (came : Came)
-      → Comes setting steps s names (Interleave moves ∷ left) order → IsAt steps place (Interleave moves ∷ left)
-      → IsOnWay setting names s moves numbers more t → IsRefuted setting names t moves numbers came
-      → Fails setting steps place (order ++ more) names came
-
 -- ---- too many cases
 
 -- a state in which the moves are submitted, on a way that comes there
@@ -160,16 +141,55 @@ pub record HasTooMany (setting : Setting) (steps left : List CheckedStep) (moves
   pub begun : All (IsStart setting steps left moves meanings) starts
   pub more : IsMore (worlds setting.charge.limit setting.charge.price) starts most
 
+-- so it is in one of the first parts of a test
+abbrev pub SomeHasTooMany : Setting → (most : ℕ) → List CheckedStep → (count : ℕ) → Type 0
+SomeHasTooMany setting most steps count =
+    (left : List CheckedStep) × (moves : List Moving) × HasTooMany setting steps left moves most × (length steps ≤ count + length left)
+
 -- ---- the first part that is not met
+
+-- so it is on each way that comes to an interleave; or one of the first parts has too many cases
+abbrev pub OnEachWayTo : Setting → (most : ℕ) → List CheckedStep → List Moving → (left : List CheckedStep) → (count : ℕ) → (List Named → State → Type 0) → Type 0
+OnEachWayTo setting most steps moves left count Holds =
+    ((s : State) (names : List Named) (order : List ℕ) → Comes setting steps s names (Interleave moves ∷ left) order → Holds names s)
+    ⊎ SomeHasTooMany setting most steps count
+
+-- the moves of an interleave can be submitted, and on each way through it those before a place are met
+pub record HoldsTo (setting : Setting) (names : List Named) (s : State) (moves : List Moving) (place : ℕ) : Type 0 where
+  pub begins : CanBegin setting names s moves
+  pub queries : (numbers : List (Option ℕ)) (order : List ℕ) (t : State) → IsOnWay setting names s moves numbers order t → QueriesAreMet setting names t (take place moves)
+  pub calls : (numbers : List (Option ℕ)) (order : List ℕ) (t : State) → IsOnWay setting names s moves numbers order t → IsEnd t
+      → (bound : List Named) × CallsAreMet setting names t (take place moves) (take place numbers) bound
+
+-- where this many parts come before the one that is next
+abbrev pub IsAt : List CheckedStep → (place : ℕ) → (left : List CheckedStep) → Type 0
+IsAt steps place left = length steps ≡ place + length left
+
+-- the part at a place is not met on the way with this order, where names stand for these, and this came; of an interleave the move is
+-- the first that cannot be submitted, or where all can be, the first that is not met
+pub data Fails (setting : Setting) (most : ℕ) (steps : List CheckedStep) : (place : ℕ) → (order : List ℕ) → List Named → Came → Type 0 where
+  statement : (s : State) (names : List Named) (statement : CheckedKind) (left : List CheckedStep) (place : ℕ) (order : List ℕ) (came : Came)
+      → Comes setting steps s names (Statement statement ∷ left) order → IsAt steps place (Statement statement ∷ left)
+      → IsUnmet setting s names statement came
+      → Fails setting most steps place order names came
+  unsent : (s : State) (names : List Named) (moves : List Moving) (left : List CheckedStep) (place : ℕ) (order : List ℕ) (came : Came)
+      → Comes setting steps s names (Interleave moves ∷ left) order → IsAt steps place (Interleave moves ∷ left)
+      → (stuck : IsStuck setting names s moves came) → OnEachWayTo setting most steps moves left place (λ known u. CanBegin setting known u stuck.before)
+      → Fails setting most steps place order names came
+  move : (s t : State) (names : List Named) (moves : List Moving) (numbers : List (Option ℕ)) (left : List CheckedStep) (place : ℕ) (order more : List ℕ) (came : Came)
+      → Comes setting steps s names (Interleave moves ∷ left) order → IsAt steps place (Interleave moves ∷ left)
+      → IsOnWay setting names s moves numbers more t → (refuted : IsRefuted setting names t moves numbers came)
+      → OnEachWayTo setting most steps moves left (place + 1) (λ known u. HoldsTo setting known u moves refuted.place)
+      → Fails setting most steps place (order ++ more) names came
 
 -- all holds of the parts before a place, on every way; or one of them has too many cases
 abbrev pub HoldsBefore : Setting → (most : ℕ) → List CheckedStep → (place : ℕ) → Type 0
 HoldsBefore setting most steps place =
     ((longest : ℕ) × ((s : State) (names : List Named) (rest : List CheckedStep) (order : List ℕ)
     → Comes setting steps s names rest order → length steps < place + length rest → Holds setting longest s names rest))
-    ⊎ ((left : List CheckedStep) × (moves : List Moving) × HasTooMany setting steps left moves most)
+    ⊎ SomeHasTooMany setting most steps place
 
 -- a test fails at a part, and all holds before it
 pub record FailsFirst (setting : Setting) (most : ℕ) (steps : List CheckedStep) (place : ℕ) (order : List ℕ) (names : List Named) (came : Came) : Type 0 where
-  pub fails : Fails setting steps place order names came
+  pub fails : Fails setting most steps place order names came
   pub before : HoldsBefore setting most steps place

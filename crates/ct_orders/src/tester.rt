@@ -378,7 +378,8 @@ impl<'i, R: Threads + Sync, G: Gate + Sync> Tester<'i, R, G> {
         // It passes only where on every way through it all holds, and every way ends.
         ensures passed { IfOk result (λ ended. ended.verdict ≡ Passed → Passes self.now.setting (whole preamble.now test.now.steps)) }
         // It fails only where on the way that is given a part is not met: how many come before it, and what came. All holds of
-        // those before, on every way, where each was decided.
+        // those before, on every way, and of an interleave it is the first move that cannot be submitted, or else is not met;
+        // unless an interleave up to there has too many cases.
         ensures failed { IfOk result (λ ended. (unmet : ANotMet) → ended.verdict ≡ Failed unmet
             → FailsFirst self.now.setting self.now.most (whole preamble.now test.now.steps) unmet.failure.place ended.way.order.items unmet.names unmet.failure.unmet.came) }
         // It is not decided only where more cases than that can be met in an interleave, no two of them one.

@@ -1,11 +1,11 @@
 use Rattle.std.proofs.Common.{◌≡◌, List, map, sym, ◌∙◌, subst, inl}
-use Rattle.std.specs.Prelude.{IfOk}
+use Rattle.std.specs.Prelude.{All, IfOk}
 use Rattle.std.specs.List.{Any}
 use Rattle.ct_check.specs.Moving.{Moving}
 use Rattle.ct_worlds.specs.Worlds.{named_at}
 use Rattle.ct_orders.specs.declared.interleaving.Interleaved.{Interleaved}
 use Rattle.ct_orders.specs.Reached.{Reached}
-use Rattle.ct_orders.specs.Cases.{AreBegun, IsStuckIn, all_reached}
+use Rattle.ct_orders.specs.Cases.{AreBegun, Begins, IsStuckIn, all_reached}
 use Rattle.ct_orders.specs.Answers.{IsInterleaved}
 use Rattle.ct_orders.proofs.Stays.{all_reached_stay}
 use Rattle.ct_orders.proofs.Ending.{all_as_they_were, ok_further}
@@ -41,4 +41,10 @@ returns-in-Some-clause-interleaved g c =
     let started = rw c.in-Some.is at c.in_ok-starts.ensures.started in
     let f = c.in-Some.failing in
     let moves : c.as_slice-moves.result.now ≡ c.args.interleave.now = c.as_slice-moves.ensures.value ∙ c.interleave.view_is in
-    inl (subst (λ (ms : List Moving). Any (IsStuckIn c.args.self.now.setting ms f.order.items f.names f.unmet.came) (all_reached c.args.tables.now c.args.cases.now)) moves started)
+    let cases = all_reached c.args.tables.now c.args.cases.now in
+    let place = started.0 in
+    inl (
+      place,
+      subst (λ (ms : List Moving). Any (IsStuckIn c.args.self.now.setting ms place f.order.items f.names f.unmet.came) cases) moves started.1.0,
+      subst (λ (ms : List Moving). All (Begins c.args.self.now.setting ms place) cases) moves started.1.1,
+    )

@@ -4,9 +4,9 @@ use Rattle.std.proofs.lemmas.Grind.{common_steps}
 use Rattle.ct_search.specs.declared.case.Case.{Case as Met}
 use Rattle.ct_worlds.specs.declared.worlds.NamedWorld.{NamedWorld}
 use Rattle.ct_orders.specs.Cases.{IsMetBehind, all_stages}
-use Rattle.ct_orders.specs.Answers.{AreFound}
+use Rattle.ct_orders.specs.Answers.{AreFoundTo}
 use Rattle.ct_orders.proofs.Stays.{met_stays}
-use Rattle.ct_orders.proofs.Finding.{found_none, found_more, behind_front}
+use Rattle.ct_orders.proofs.Finding.{found_none, found_more, found_of, behind_front}
 use Rattle.ct_orders.proofs.tester.Tester.judge.Goals as goal
 
 pub judge_case-requires-after_bounds : goal.judge_case-requires-after_bounds
@@ -30,5 +30,6 @@ loop-case-preserved g c =
 pub returns-clause-found : goal.returns-clause-found
 returns-clause-found g c =
     let whole : c.args.met.items ≡ c.loop-case.yielded = first_of (search rules, grind (arith, common_steps)) in
-    subst (λ (l : List (Met NamedWorld)). AreFound c.args.self.now.setting c.args.moves.now c.loop-case.tables (all_stages c.args.tables.now c.args.cases.now l) c.loop-case.ends.items c.loop-case.failing) (sym whole)
-    c.loop-case.invariant.so_far.found
+    found_of c.args.self.now.setting c.args.moves.now c.loop-case.tables (all_stages c.args.tables.now c.args.cases.now c.args.met.items) c.loop-case.ends.items c.loop-case.judged c.loop-case.failing
+    (subst (λ (l : List (Met NamedWorld)). AreFoundTo c.args.self.now.setting c.args.moves.now c.loop-case.tables (all_stages c.args.tables.now c.args.cases.now l) c.loop-case.ends.items c.loop-case.judged c.loop-case.failing)
+    (sym whole) c.loop-case.invariant.so_far.found)

@@ -1,6 +1,6 @@
 use Rattle.std.proofs.Common.{◌≡◌, ◌≤◌, length, take, None}
 use Rattle.ct_orders.specs.Cases.{Grows}
-use Rattle.ct_orders.specs.Answers.{AreStarted}
+use Rattle.ct_orders.specs.Answers.{AreStartedTo}
 use Rattle.ct_orders.proofs.tester.Tester.start.Given as goal
 
 abbrev pub invariant-loop-case : goal.invariant-loop-case
@@ -8,5 +8,5 @@ invariant-loop-case g l = record {
   grows : Grows l.fn.tables l.tables;
   few : l.submitted ≤ length l.moves;
   all : l.failing ≡ None → l.submitted ≡ length l.moves;
-  started : AreStarted l.self.setting l.fn.tables l.tables (take l.case-index l.cases) l.moves l.starts.items l.failing;
+  started : AreStartedTo l.self.setting l.fn.tables l.tables (take l.case-index l.cases) l.moves l.starts.items l.submitted l.failing;
 }
