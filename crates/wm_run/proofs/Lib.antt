@@ -27,3 +27,5 @@ mod Loop
 mod Going
 mod ByTable
 mod Firsts
+mod UnderWay
+mod Telling

@@ -9,3 +9,5 @@ pub mod Asking
 pub mod Halts
 pub mod Callees
 pub mod Firsts
+pub mod Backtrace
+pub mod UnderWay

@@ -1,4 +1,5 @@
 use crate::registers::{Exit, Layout};
+use crate::stack::Stacks;
 use wm_semantics::Ended;
 
 /// A function that runs, or waits for the one that it called.
@@ -34,4 +35,31 @@ pub(crate) enum Callee {
     Own(u32),
     /// By its number in the table of the System API.
     Host(u32),
+}
+
+/// How a run of a function of the module ended, and the function that ran then. Those that waited are still among
+/// the callers.
+#[derive(Debug, Drop)]
+pub(crate) struct RunEnd {
+    pub(crate) ended: Ended,
+    pub(crate) at: Activation,
+}
+
+/// What ran when a run ended.
+#[derive(Clone, Copy, Debug, PartialEq, Eq)]
+pub(crate) enum Innermost {
+    /// A function of the module.
+    Own(Activation),
+    /// A function of the host that was the target itself.
+    Host(u32),
+    /// Nothing: there was no callback.
+    Nowhere,
+}
+
+/// How a run ended, with all that was under way.
+#[derive(Drop)]
+pub(crate) struct Halted {
+    pub(crate) ended: Ended,
+    pub(crate) stacks: Stacks,
+    pub(crate) innermost: Innermost,
 }

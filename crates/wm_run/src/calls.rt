@@ -6,6 +6,7 @@ ghost use Rattle.wm_semantics.specs.Configs.{Config};
 ghost use Rattle.wm_semantics.specs.Reduce.{trap_of};
 ghost use Rattle.wm_run.specs.Agree.{none_answers, alone_at};
 ghost use Rattle.wm_run.specs.Activations.{CanEnter, Entered, IsRoom, Stopped, Follows, Pays, trapped_by};
+ghost use Rattle.wm_run.specs.UnderWay.{UnderWay, StillUnderWay};
 
 use crate::activation::{Activation, Next};
 use crate::stack::{Stacks, push_frame};
@@ -62,8 +63,9 @@ pub(crate) fn enter(
 ) -> Result<Next, NoMemory>
     requires can { CanEnter valid.now function here.top stacks.old.operands.items }
     requires short { here.place < 2 ^ 63 }
-    ensures { IfOk result (λ next. (code : Flat) → slice_get valid.now.codes function ≡ Some code
+    ensures entered { IfOk result (λ next. (code : Flat) → slice_get valid.now.codes function ≡ Some code
         → Entered (nat_le 512 (suc (length (reverse stacks.old.callers.items)))) code.frame function here (reverse stacks.old.callers.items) (reverse stacks.new.callers.items) stacks.old.operands.items stacks.new.operands.items next) }
+    ensures under_way { IfOk result (λ next. (first : ℕ) → UnderWay valid.now first here (reverse stacks.old.callers.items) → StillUnderWay valid.now first here (reverse stacks.new.callers.items) next) }
 {
     if stacks.callers.len() + 1 >= DEPTH {
         return Ok(trapped(Trap::Depth));
@@ -94,6 +96,7 @@ pub(crate) fn call(
     requires short { here.place < 2 ^ 63 }
     ensures follows { IfOk result (λ next. (s : Lists) (c : Config) → Stopped valid.now here (reverse stacks.old.callers.items) stacks.old.operands.items s meter.old.used c (op.Call function)
         → Follows none_answers valid.now meter.old.limit (alone_at s meter.old.used c) next (reverse stacks.new.callers.items) stacks.new.operands.items tt s meter.new.used) }
+    ensures under_way { IfOk result (λ next. (first : ℕ) → UnderWay valid.now first here (reverse stacks.old.callers.items) → StillUnderWay valid.now first here (reverse stacks.new.callers.items) next) }
     ensures limit { meter.new.limit ≡ meter.old.limit }
     ensures paid { IfOk result (λ next. Pays next meter.old.used meter.new.used) }
     ensures rises { meter.old.used ≤ meter.new.used }

@@ -6,6 +6,7 @@ ghost use Rattle.wm_semantics.specs.Configs.{Config};
 ghost use Rattle.wm_run.specs.declared.activation.Activation.{Activation as Active};
 ghost use Rattle.wm_run.specs.Agree.{none_answers, alone_at};
 ghost use Rattle.wm_run.specs.Activations.{Grew, Stopped, Follows, Pays};
+ghost use Rattle.wm_run.specs.UnderWay.{SameFunction};
 
 use crate::activation::{Activation, Next};
 use crate::calls::trapped;
@@ -48,6 +49,7 @@ pub(crate) fn grow(
     requires short { here.place < 2 ^ 63 }
     ensures follows { IfOk result (λ next. (v : Validated) (callers : List Active) (c : Config) → Stopped v here callers stack.old.items store.old.lists meter.old.used c op.MemoryGrow
         → Follows none_answers v meter.old.limit (alone_at store.old.lists meter.old.used c) next callers stack.new.items tt store.new.lists meter.new.used) }
+    ensures same { IfOk result (λ next. SameFunction here next) }
     ensures begun { store.new.begun ≡ store.old.begun }
     ensures limit { meter.new.limit ≡ meter.old.limit }
     ensures paid { IfOk result (λ next. Pays next meter.old.used meter.new.used) }

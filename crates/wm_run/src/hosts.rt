@@ -8,6 +8,7 @@ ghost use Rattle.wm_semantics.specs.Steps.{state};
 ghost use Rattle.wm_run.specs.declared.activation.Activation.{Activation as Active};
 ghost use Rattle.wm_run.specs.Activations.{CanAnswer, Answered, Stopped, Follows, Pays};
 ghost use Rattle.wm_run.specs.Asking.{Asking};
+ghost use Rattle.wm_run.specs.UnderWay.{SameFunction};
 
 use crate::activation::{Activation, Next};
 use crate::calls::trapped;
@@ -73,6 +74,7 @@ pub(crate) fn ask<H: Host>(
     ensures follows { IfOk result (λ next. (v : Validated) (callers : List Active) (c : Config) (before : ℕ) → before + 1 ≤ meter.old.limit → before + 1 ≡ meter.old.used
         → Asking v here callers stack.old.items store.old.lists c number
         → Follows H.answers v meter.old.limit (state host.old store.old.lists before c) next callers stack.new.items host.new store.new.lists meter.new.used) }
+    ensures same { IfOk result (λ next. SameFunction here next) }
     ensures begun { store.new.begun ≡ store.old.begun }
     ensures limit { meter.new.limit ≡ meter.old.limit }
     ensures rises { meter.old.used ≤ meter.new.used }
@@ -100,6 +102,7 @@ pub(crate) fn call_host<H: Host>(
     requires short { here.place < 2 ^ 63 }
     ensures follows { IfOk result (λ next. (v : Validated) (callers : List Active) (c : Config) → Stopped v here callers stack.old.items store.old.lists meter.old.used c (op.CallHost number)
         → Follows H.answers v meter.old.limit (state host.old store.old.lists meter.old.used c) next callers stack.new.items host.new store.new.lists meter.new.used) }
+    ensures same { IfOk result (λ next. SameFunction here next) }
     ensures begun { store.new.begun ≡ store.old.begun }
     ensures limit { meter.new.limit ≡ meter.old.limit }
     ensures paid { IfOk result (λ next. Pays next meter.old.used meter.new.used) }

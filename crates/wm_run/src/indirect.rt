@@ -5,6 +5,7 @@ ghost use Rattle.wm_semantics.specs.Configs.{Config};
 ghost use Rattle.wm_semantics.specs.Steps.{state};
 ghost use Rattle.wm_run.specs.Activations.{Stopped, Follows, Pays};
 ghost use Rattle.wm_run.specs.Callees.{callee_of};
+ghost use Rattle.wm_run.specs.UnderWay.{UnderWay, StillUnderWay};
 
 use crate::activation::{Activation, Callee, Next};
 use crate::calls::{enter, trapped};
@@ -49,6 +50,7 @@ pub(crate) fn call_indirect<H: Host>(
     requires short { here.place < 2 ^ 63 }
     ensures follows { IfOk result (λ next. (c : Config) (index : ℕ) → Stopped valid.now here (reverse stacks.old.callers.items) stacks.old.operands.items store.old.lists meter.old.used c (op.CallIndirect index)
         → Follows H.answers valid.now meter.old.limit (state host.old store.old.lists meter.old.used c) next (reverse stacks.new.callers.items) stacks.new.operands.items host.new store.new.lists meter.new.used) }
+    ensures under_way { IfOk result (λ next. (first : ℕ) → UnderWay valid.now first here (reverse stacks.old.callers.items) → StillUnderWay valid.now first here (reverse stacks.new.callers.items) next) }
     ensures begun { store.new.begun ≡ store.old.begun }
     ensures limit { meter.new.limit ≡ meter.old.limit }
     ensures paid { IfOk result (λ next. Pays next meter.old.used meter.new.used) }

@@ -6,8 +6,11 @@ ghost use Rattle.wm_semantics.specs.Steps.{Outcome, state, outcome, Reaches};
 ghost use Rattle.wm_semantics.specs.Begin.{calling, IsTarget, Invokes, InvokesOn};
 ghost use Rattle.wm_semantics.specs.Fuel.{HostOf, IsFunctional, AgreesWith, Rises, invoked};
 ghost use Rattle.wm_run.specs.Firsts.{i32s, IsFirst, EndsIn, AsksAlone};
+ghost use Rattle.wm_run.specs.Backtrace.{IsBacktrace, entered_function};
+ghost use Rattle.wm_run.specs.UnderWay.{HaltedIn};
 
-use crate::activation::Callee;
+use crate::activation::{Callee, Halted, Innermost, RunEnd};
+use crate::backtrace::{Backtrace, backtrace_of};
 use crate::calls::frame_of;
 use crate::indirect::callee;
 use crate::machine::run;
@@ -52,22 +55,35 @@ fn run_function<H: Host>(
     host: &mut H,
     meter: &mut Meter,
     function: u32,
-) -> Result<Ended, NoMemory>
+) -> Result<Halted, NoMemory>
     requires first { IsFirst valid.now store.old.lists function stacks.operands.items }
     requires alone { stacks.callers.items ≡ [] }
-    ensures ends { IfOk result (λ ended. EndsIn H.answers valid.now meter.old.limit host.old store.old.lists meter.old.used function stacks.operands.items (outcome ended host.new store.new.lists meter.new.used)) }
+    ensures ends { IfOk result (λ halted. EndsIn H.answers valid.now meter.old.limit host.old store.old.lists meter.old.used function stacks.operands.items (outcome halted.ended host.new store.new.lists meter.new.used)) }
+    ensures under_way { IfOk result (λ halted. HaltedIn valid.now function halted) }
     ensures begun { store.new.begun ≡ store.old.begun }
     ensures limit { meter.new.limit ≡ meter.old.limit }
     ensures rises { meter.old.used ≤ meter.new.used }
 {
+    let mut stacks = stacks;
     match callee(valid, function) {
         Callee::Own(number) => {
-            let mut stacks = stacks;
             let top = stacks.operands.len();
             let first = push_frame(&mut stacks.operands, frame_of(valid, number), number, top)?;
-            run(valid, &mut stacks, store, host, meter, first)
+            let RunEnd { ended, at } = run(valid, &mut stacks, store, host, meter, first)?;
+            Ok(Halted {
+                ended,
+                stacks,
+                innermost: Innermost::Own(at),
+            })
         }
-        Callee::Host(number) => call_alone(stacks.operands.as_slice(), store, host, meter, number),
+        Callee::Host(number) => {
+            let ended = call_alone(stacks.operands.as_slice(), store, host, meter, number)?;
+            Ok(Halted {
+                ended,
+                stacks,
+                innermost: Innermost::Host(number),
+            })
+        }
     }
 }
 
@@ -78,11 +94,12 @@ fn run_target<H: Host>(
     target: Target,
     host: &mut H,
     meter: &mut Meter,
-) -> Result<Ended, NoMemory>
+) -> Result<Halted, NoMemory>
     requires fits { Fits valid.now.«module» store.old.lists }
     requires bytes { HoldsBytes store.old.lists }
     requires target { IsTarget valid.now.«module» target }
-    ensures outcome { IfOk result (λ ended. Invokes H.answers valid.now.«module» meter.old.limit host.old store.old.lists meter.old.used target (outcome ended host.new store.new.lists meter.new.used)) }
+    ensures outcome { IfOk result (λ halted. Invokes H.answers valid.now.«module» meter.old.limit host.old store.old.lists meter.old.used target (outcome halted.ended host.new store.new.lists meter.new.used)) }
+    ensures under_way { IfOk result (λ halted. (f : ℕ) → entered_function store.old.lists.table target ≡ Some f → HaltedIn valid.now f halted) }
     ensures begun { store.new.begun ≡ store.old.begun }
     ensures limit { meter.new.limit ≡ meter.old.limit }
     ensures rises { meter.old.used ≤ meter.new.used }
@@ -103,9 +120,52 @@ fn run_target<H: Host>(
                 let stacks = Stacks { operands, callers };
                 run_function(valid, stacks, store, host, meter, function)
             }
-            Err(trap) => Ok(Ended::Trapped(trap)),
+            Err(trap) => {
+                let operands = Vec::new(alloc);
+                let callers = Vec::new(alloc);
+                Ok(Halted {
+                    ended: Ended::Trapped(trap),
+                    stacks: Stacks { operands, callers },
+                    innermost: Innermost::Nowhere,
+                })
+            }
         },
     }
+}
+
+/// Runs a function of the module, and gives all that was under way when the run ended.
+fn run_to_end<H: Host>(
+    alloc: Global,
+    valid: &Valid,
+    store: &mut Store,
+    target: Target,
+    host: &mut H,
+    meter: &mut Meter,
+) -> Result<Halted, NoMemory>
+    // The store is one of the module.
+    requires fits { Fits valid.now.«module» store.old.lists }
+    // A function that is invoked by its index has the type () -> ().
+    requires target { IsTarget valid.now.«module» target }
+    // What the reductions end in.
+    ensures outcome { IfOk result (λ halted. Invokes H.answers valid.now.«module» meter.old.limit host.old store.old.lists meter.old.used target (outcome halted.ended host.new store.new.lists meter.new.used)) }
+    // Nothing else is an outcome, where the host's relation is a function.
+    ensures only { IfOk result (λ halted. IsFunctional H.answers → (o : Outcome H) → Invokes H.answers valid.now.«module» meter.old.limit host.old store.old.lists meter.old.used target o
+        → o ≡ outcome halted.ended host.new store.new.lists meter.new.used) }
+    // The outcome is what the function gives, where the host is one.
+    ensures function { IfOk result (λ halted. (reply : HostOf H) → Rises reply → AgreesWith reply H.answers
+        → invoked reply valid.now.«module» meter.old.limit host.old store.old.lists meter.old.used target ≡ Some (outcome halted.ended host.new store.new.lists meter.new.used)) }
+    // No state on the way is stuck.
+    ensures never { InvokesOn H.answers valid.now.«module» meter.old.limit host.old store.old.lists meter.old.used target }
+    ensures fits { IfOk result (λ _. Fits valid.now.«module» store.new.lists) }
+    ensures under_way { IfOk result (λ halted. (f : ℕ) → entered_function store.old.lists.table target ≡ Some f → HaltedIn valid.now f halted) }
+    // These hold without memory too.
+    ensures begun { store.new.begun ≡ store.old.begun }
+    ensures limit { meter.new.limit ≡ meter.old.limit }
+    ensures rises { meter.old.used ≤ meter.new.used }
+{
+    let _module = valid.module();
+    store.holds_bytes();
+    run_target(alloc, valid, store, target, host, meter)
 }
 
 /// Runs a function of the module until it returns or the run traps. The stack of the machine is
@@ -139,7 +199,51 @@ pub fn invoke<H: Host>(
     ensures limit { meter.new.limit ≡ meter.old.limit }
     ensures rises { meter.old.used ≤ meter.new.used }
 {
-    let _module = valid.module();
-    store.holds_bytes();
-    run_target(alloc, valid, store, target, host, meter)
+    let Halted { ended, .. } = run_to_end(alloc, valid, store, target, host, meter)?;
+    Ok(ended)
+}
+
+/// How a run ended, and where it trapped, if it did.
+#[derive(Drop)]
+pub struct Traced {
+    pub ended: Ended,
+    /// Nothing, where the run returned.
+    pub backtrace: Backtrace,
+}
+
+/// Runs a function of the module as `invoke` does, and tells where it trapped.
+pub fn invoke_traced<H: Host>(
+    alloc: Global,
+    valid: &Valid,
+    store: &mut Store,
+    target: Target,
+    host: &mut H,
+    meter: &mut Meter,
+) -> Result<Traced, NoMemory>
+    // The store is one of the module.
+    requires fits { Fits valid.now.«module» store.old.lists }
+    // A function that is invoked by its index has the type () -> ().
+    requires target { IsTarget valid.now.«module» target }
+    // What the reductions end in.
+    ensures outcome { IfOk result (λ traced. Invokes H.answers valid.now.«module» meter.old.limit host.old store.old.lists meter.old.used target (outcome traced.ended host.new store.new.lists meter.new.used)) }
+    // Nothing else is an outcome, where the host's relation is a function.
+    ensures only { IfOk result (λ traced. IsFunctional H.answers → (o : Outcome H) → Invokes H.answers valid.now.«module» meter.old.limit host.old store.old.lists meter.old.used target o
+        → o ≡ outcome traced.ended host.new store.new.lists meter.new.used) }
+    // The outcome is what the function gives, where the host is one.
+    ensures function { IfOk result (λ traced. (reply : HostOf H) → Rises reply → AgreesWith reply H.answers
+        → invoked reply valid.now.«module» meter.old.limit host.old store.old.lists meter.old.used target ≡ Some (outcome traced.ended host.new store.new.lists meter.new.used)) }
+    // No state on the way is stuck.
+    ensures never { InvokesOn H.answers valid.now.«module» meter.old.limit host.old store.old.lists meter.old.used target }
+    ensures fits { IfOk result (λ _. Fits valid.now.«module» store.new.lists) }
+    // The functions that are told are functions of the module, and the outermost is the entry point or the callback that was entered.
+    ensures backtrace { IfOk result (λ traced. (f : ℕ) → entered_function store.old.lists.table target ≡ Some f → IsBacktrace valid.now.«module» f traced.backtrace) }
+    // These hold without memory too.
+    ensures begun { store.new.begun ≡ store.old.begun }
+    ensures limit { meter.new.limit ≡ meter.old.limit }
+    ensures rises { meter.old.used ≤ meter.new.used }
+{
+    let halted = run_to_end(alloc, valid, store, target, host, meter)?;
+    let backtrace = backtrace_of(alloc, valid, store.table(), &halted)?;
+    let Halted { ended, .. } = halted;
+    Ok(Traced { ended, backtrace })
 }

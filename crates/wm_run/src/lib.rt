@@ -2,6 +2,7 @@
 #![tactic(auto)]
 
 mod activation;
+mod backtrace;
 mod calls;
 mod code;
 mod dispatch;
@@ -19,7 +20,8 @@ mod stack;
 mod table;
 mod word;
 
+pub use backtrace::{Backtrace, Site, Sites};
 pub use entry::{entry_target, start_target};
-pub use invocation::invoke;
+pub use invocation::{Traced, invoke, invoke_traced};
 pub use wm_instance::{InstanceFault, instantiate};
 pub use wm_semantics::{Ended, Host, HostAnswer, Meter, Target, Trap};

@@ -6,6 +6,7 @@ ghost use Rattle.wm_run.specs.declared.activation.Activation.{Activation as Acti
 ghost use Rattle.wm_run.specs.Agree.{none_answers, alone_at};
 ghost use Rattle.wm_run.specs.Activations.{Stopped, Follows, Pays, ended_range};
 ghost use Rattle.wm_run.specs.Ranges.{op_of_range, range_written};
+ghost use Rattle.wm_run.specs.UnderWay.{SameFunction};
 
 use crate::activation::{Activation, Next};
 use crate::calls::{trap_of, trapped};
@@ -63,6 +64,7 @@ pub(crate) fn run_range(
     requires short { here.place < 2 ^ 63 }
     ensures follows { IfOk result (λ next. (v : Validated) (callers : List Active) (c : Config) → Stopped v here callers stack.now store.old.lists meter.old.used c (op_of_range range)
         → Follows none_answers v meter.old.limit (alone_at store.old.lists meter.old.used c) next callers stack.now tt store.new.lists meter.new.used) }
+    ensures same { IfOk result (λ next. SameFunction here next) }
     ensures begun { store.new.begun ≡ store.old.begun }
     ensures limit { meter.new.limit ≡ meter.old.limit }
     ensures paid { IfOk result (λ next. Pays next meter.old.used meter.new.used) }

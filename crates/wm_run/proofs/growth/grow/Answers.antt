@@ -6,6 +6,7 @@ use Rattle.wm_run.specs.Agree.{none_answers, alone_at}
 use Rattle.wm_run.specs.Activations.{behind, Follows, trapped_by}
 use Rattle.wm_run.proofs.Follow.{charge_fits, charge_fails, follows_as}
 use Rattle.wm_run.proofs.Growing.{cost_at, within_at, positive_at, small_at, limit_grow_at, grow_follows_at}
+use Rattle.wm_run.proofs.UnderWay.{trap_same}
 use Rattle.wm_run.proofs.growth.grow.Goals as goal
 
 pub topmost-more-requires-clause-there : goal.topmost-more-requires-clause-there
@@ -64,3 +65,6 @@ returns-clause-follows c =
     (follows_as none_answers v limit (alone_at s used d) (On (behind here here.top)) (On (behind here here.top)) callers (slice_set stack (here.top - 1) c.in_ok-number.number) tt t (used + cost_at s most more) c.charge.new.self.used
     refl (p.1 ∙ ap (λ (k : ℕ). used + k) cost)
     (grow_follows_at v here callers stack s used limit d x most more c.page_limit.ensures.limit (c.topmost-more.ensures ∙ ap (λ (ns : List ℕ). slice_index ns (c.args.here.top - 1)) c.as_slice.ensures.value) (subst (λ (k : ℕ). used + k ≤ limit) cost p.0) t c.in_ok-number.number c.in_ok-number.ensures.grew))
+
+pub returns-then-not-charge-clause-same : goal.returns-then-not-charge-clause-same
+returns-then-not-charge-clause-same c = trap_same c.args.here trap.Limit c.trapped.result c.trapped.ensures

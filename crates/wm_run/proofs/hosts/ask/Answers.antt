@@ -1,6 +1,7 @@
 use Rattle.std.proofs.Common.{◌≡◌, ◌≤◌, ◌+◌, ◌-◌, ℕ, List, refl, sym, ap, ◌∙◌, subst, take, drop, length}
 use Rattle.wm_semantics.specs.Hosts.{IsAsked}
 use Rattle.wm_run.proofs.Asking.{named, few, said_as, is_asked, can_answer, answer_follows}
+use Rattle.wm_run.proofs.UnderWay.{answered_same}
 use Rattle.wm_run.proofs.hosts.ask.Goals as goal
 
 between_is : (top low : ℕ) (stack stack' ns : List ℕ) → stack' ≡ stack → ns ≡ take (top - low) (drop low stack') → ns ≡ take (top - low) (drop low stack)
@@ -47,3 +48,7 @@ returns-clause-follows g c =
     (said_as g.H.Host.answers c.args.host.now c.args.number _ c.between.result.now s limit limit (before + 1) c.args.meter.now.used c.in_ok-answer.answer c.call.new.self c.call.new.store.lists c.call.new.meter.used
     (between_is c.args.here.top (c.args.here.top - c.parameters.result) c.args.stack.now.items c.as_slice.result.now c.between.result.now c.as_slice.ensures.value c.between.ensures) refl (sym paid) c.in_ok-answer.ensures.answers)
     fits c.take_answer.new.stack.items c.take_answer.result c.take_answer.ensures
+
+pub returns-clause-same : goal.returns-clause-same
+returns-clause-same g c =
+    answered_same c.in_ok-answer.answer c.args.here (c.args.here.top - c.parameters.result) c.args.stack.now.items c.take_answer.new.stack.items c.take_answer.result c.take_answer.ensures

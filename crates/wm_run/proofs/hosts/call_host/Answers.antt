@@ -4,6 +4,7 @@ use Rattle.wm_semantics.specs.Steps.{state}
 use Rattle.wm_run.specs.Activations.{Follows, trapped_by}
 use Rattle.wm_run.proofs.Follow.{charge_fits, charge_fails, if_ok, follows_as}
 use Rattle.wm_run.proofs.Hosting.{asks_at, limit_host_at}
+use Rattle.wm_run.proofs.UnderWay.{trap_same}
 use Rattle.wm_run.proofs.hosts.call_host.Goals as goal
 
 pub returns-then-not-charge-clause-follows : goal.returns-then-not-charge-clause-follows
@@ -36,3 +37,6 @@ returns-clause-follows g c =
     subst (λ (k : ℕ). Follows g.H.Host.answers v k (state c.args.host.now s used d) to callers c.ask.new.stack.items c.ask.new.host c.ask.new.store.lists c.ask.new.meter.used) c.charge.ensures.limit
     (e v callers d used (subst (λ (k : ℕ). used + 1 ≤ k) (sym c.charge.ensures.limit) p.0) (sym p.1)
     (asks_at v c.args.here callers c.args.stack.now.items s used limit c.args.number d x))) c.ask.ensures.follows
+
+pub returns-then-not-charge-clause-same : goal.returns-then-not-charge-clause-same
+returns-then-not-charge-clause-same g c = trap_same c.args.here trap.Limit c.trapped.result c.trapped.ensures

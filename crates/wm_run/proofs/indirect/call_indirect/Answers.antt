@@ -2,10 +2,12 @@ use Rattle.std.proofs.Common.{◌≤◌, ◌+◌, ◌-◌, ℕ, List, Ok, Err, l
 use Rattle.wm_typing.specs.declared.op.Op.TheVariants as op
 use Rattle.wm_semantics.specs.declared.trap.Trap.TheVariants as trap
 use Rattle.wm_semantics.specs.Steps.{state}
+use Rattle.wm_run.specs.declared.activation.Activation.{Activation}
 use Rattle.wm_run.specs.Activations.{Follows, trapped_by}
 use Rattle.wm_run.proofs.Follow.{charge_fits, charge_fails, if_ok, follows_as, follows_with}
 use Rattle.wm_run.proofs.Going.{word_there, called}
 use Rattle.wm_run.proofs.ByTable.{found_with, expected_at, positive_at, within_at, limit_at, trap_at, can_enter_at, enter_at, ask_at}
+use Rattle.wm_run.proofs.UnderWay.{goes_on, traps, stays, still_same}
 use Rattle.wm_run.proofs.indirect.call_indirect.Goals as goal
 
 pub returns-then-not-charge-clause-follows : goal.returns-then-not-charge-clause-follows
@@ -98,7 +100,7 @@ returns-in-Own-clause-follows g c =
     (follows_with g.H.Host.answers v.module limit host v refl s used d to callers' stack' s (used + 1)
     (enter_at v here callers stack s used limit c.number_at-index.result d x c.in-Ok.function
     (found_with c.args.valid.now.module c.number_at-index.result c.table.result.now s.table c.topmost-place.result (c.args.here.top - 1) stack c.as_slice.result.now (Ok c.in-Ok.function) c.table.ensures c.as_slice.ensures.value c.topmost-place.ensures c.in-Ok.ensures)
-    c.in-Own.number c.in-Own.ensures p.0 callers' stack' to e))) c.enter.ensures
+    c.in-Own.number c.in-Own.ensures p.0 callers' stack' to e))) c.enter.ensures.entered
 
 pub returns-in-Host-clause-follows : goal.returns-in-Host-clause-follows
 returns-in-Host-clause-follows g c =
@@ -136,3 +138,33 @@ returns-in-Err-clause-follows g c =
     (follows_with g.H.Host.answers v.module limit host v refl s used d (trapped_by c.in-Err.trap) callers stack s (used + 1)
     (trap_at v here callers stack s used limit c.number_at-index.result d x p.0 c.in-Err.trap
     (found_with c.args.valid.now.module c.number_at-index.result c.table.result.now s.table c.topmost-place.result (c.args.here.top - 1) stack c.as_slice.result.now (Err c.in-Err.trap) c.table.ensures c.as_slice.ensures.value c.topmost-place.ensures c.in-Err.ensures)))
+
+-- ---- the functions under way
+
+pub returns-then-not-charge-clause-under_way : goal.returns-then-not-charge-clause-under_way
+returns-then-not-charge-clause-under_way g c =
+    λ first u.
+    traps c.args.valid.now first c.args.here (reverse c.args.stacks.now.callers.items) trap.Limit c.trapped.result c.trapped.ensures u
+
+pub returns-in-Own-clause-under_way : goal.returns-in-Own-clause-under_way
+returns-in-Own-clause-under_way g c =
+    let v = c.args.valid.now in
+    let here = c.args.here in
+    let below : Activation = record here { top = here.top - 1 } in
+    let callers = reverse c.args.stacks.now.callers.items in
+    if_ok c.enter.result _ _ (λ to e first u.
+    still_same v first below here (reverse c.enter.new.stacks.callers.items) to refl (e first (goes_on v first here below callers refl u))) c.enter.ensures.under_way
+
+pub returns-in-Host-clause-under_way : goal.returns-in-Host-clause-under_way
+returns-in-Host-clause-under_way g c =
+    let v = c.args.valid.now in
+    let here = c.args.here in
+    let below : Activation = record here { top = here.top - 1 } in
+    let callers = reverse c.args.stacks.now.callers.items in
+    if_ok c.ask.result _ _ (λ to same first u.
+    still_same v first below here callers to refl (stays v first below callers to same (goes_on v first here below callers refl u))) c.ask.ensures.same
+
+pub returns-in-Err-clause-under_way : goal.returns-in-Err-clause-under_way
+returns-in-Err-clause-under_way g c =
+    λ first u.
+    traps c.args.valid.now first c.args.here (reverse c.args.stacks.now.callers.items) c.in-Err.trap c.trapped-in-Err.result c.trapped-in-Err.ensures u

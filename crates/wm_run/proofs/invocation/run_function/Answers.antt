@@ -5,7 +5,8 @@ use Rattle.wm_run.specs.declared.activation.Activation.{Activation}
 use Rattle.wm_run.specs.Stacks.{SameBelow}
 use Rattle.wm_run.specs.Activations.{Laid, Running}
 use Rattle.wm_run.specs.Firsts.{i32s, AsksAlone}
-use Rattle.wm_run.proofs.Follow.{if_ok}
+use Rattle.wm_run.specs.UnderWay.{TrappedIn}
+use Rattle.wm_run.proofs.ByTable.{own_index}
 use Rattle.wm_run.proofs.Firsts.{first, there, params_there, params_fit, runs, ends_in, asks, asks_in}
 use Rattle.wm_run.proofs.invocation.run_function.Goals as goal
 
@@ -44,6 +45,7 @@ run-requires g c =
             (subst (λ (k : ℕ). Laid c.frame_of.result n k stack b) top c.in_ok-first-in-Own.ensures.laid)
             (subst (λ (k : ℕ). SameBelow k args stack) top c.in_ok-first-in-Own.ensures.same) used),
       );
+      alone = c.requires.alone;
     }
 
 pub call_alone-requires : goal.call_alone-requires
@@ -56,8 +58,8 @@ call_alone-requires g c =
       asks = (v, f, subst (λ (ns : List ℕ). AsksAlone v s f ns n) (sym c.as_slice.ensures.value) (asks v s f c.args.stacks.operands.items c.requires.first n c.in-Host.ensures));
     }
 
-pub returns-in_ok-first-in-Own-clause-ends : goal.returns-in_ok-first-in-Own-clause-ends
-returns-in_ok-first-in-Own-clause-ends g c =
+pub returns-in_ok-ended-in-Own-clause-ends : goal.returns-in_ok-ended-in-Own-clause-ends
+returns-in_ok-ended-in-Own-clause-ends g c =
     let v = c.args.valid.now in
     let s = c.args.store.now.lists in
     let f = c.args.function in
@@ -71,14 +73,14 @@ returns-in_ok-first-in-Own-clause-ends g c =
     let top : c.len-top.result ≡ length args = omega (arith, c.len-top.ensures, c.args.stacks.operands.ok.0) in
     let laid : Laid c.frame_of.result n (length args) stack b = subst (λ (k : ℕ). Laid c.frame_of.result n k stack b) top c.in_ok-first-in-Own.ensures.laid in
     let same : SameBelow (length args) args stack = subst (λ (k : ℕ). SameBelow k args stack) top c.in_ok-first-in-Own.ensures.same in
-    if_ok c.run.result _ _ (λ ended e.
-    ends_in v s f args c.requires.first n c.in-Own.ensures c.frame_of.result c.frame_of.ensures stack b laid same used g.H.Host.answers limit host (outcome ended c.run.new.host c.run.new.store.lists c.run.new.meter.used)
-    (e (first v s f args c.requires.first n c.in-Own.ensures)
+    ends_in v s f args c.requires.first n c.in-Own.ensures c.frame_of.result c.frame_of.ensures stack b laid same used g.H.Host.answers limit host
+    (outcome c.in_ok-ended-in-Own.field-0.ended c.run.new.host c.run.new.store.lists c.run.new.meter.used)
+    (c.in_ok-ended-in-Own.ensures.reaches (first v s f args c.requires.first n c.in-Own.ensures)
     (subst (λ (as' : List Activation). Running v b (reverse as') stack s used (first v s f args c.requires.first n c.in-Own.ensures)) (sym c.requires.alone)
-    (runs v s f args c.requires.first n c.in-Own.ensures c.frame_of.result c.frame_of.ensures stack b laid same used)))) c.run.ensures.reaches
+    (runs v s f args c.requires.first n c.in-Own.ensures c.frame_of.result c.frame_of.ensures stack b laid same used)))
 
-pub returns-in-Host-clause-ends : goal.returns-in-Host-clause-ends
-returns-in-Host-clause-ends g c =
+pub returns-in_ok-ended-in-Host-clause-ends : goal.returns-in_ok-ended-in-Host-clause-ends
+returns-in_ok-ended-in-Host-clause-ends g c =
     let v = c.args.valid.now in
     let s = c.args.store.now.lists in
     let f = c.args.function in
@@ -87,7 +89,15 @@ returns-in-Host-clause-ends g c =
     let used = c.args.meter.now.used in
     let limit = c.args.meter.now.limit in
     let host = c.args.host.now in
-    if_ok c.call_alone.result _ _ (λ ended e.
-    asks_in v s f args c.requires.first n c.in-Host.ensures g.H.Host.answers limit host used (outcome ended c.call_alone.new.host c.call_alone.new.store.lists c.call_alone.new.meter.used)
-    (subst (λ (ns : List ℕ). Reaches g.H.Host.answers v.module limit (state host s used (calling f (i32s ns))) (outcome ended c.call_alone.new.host c.call_alone.new.store.lists c.call_alone.new.meter.used)) c.as_slice.ensures.value
-    (e v f (subst (λ (ns : List ℕ). AsksAlone v s f ns n) (sym c.as_slice.ensures.value) (asks v s f args c.requires.first n c.in-Host.ensures))))) c.call_alone.ensures.reaches
+    asks_in v s f args c.requires.first n c.in-Host.ensures g.H.Host.answers limit host used (outcome c.in_ok-ended-in-Host.ended c.call_alone.new.host c.call_alone.new.store.lists c.call_alone.new.meter.used)
+    (subst (λ (ns : List ℕ). Reaches g.H.Host.answers v.module limit (state host s used (calling f (i32s ns))) (outcome c.in_ok-ended-in-Host.ended c.call_alone.new.host c.call_alone.new.store.lists c.call_alone.new.meter.used)) c.as_slice.ensures.value
+    (c.in_ok-ended-in-Host.ensures.reaches v f (subst (λ (ns : List ℕ). AsksAlone v s f ns n) (sym c.as_slice.ensures.value) (asks v s f args c.requires.first n c.in-Host.ensures))))
+
+pub returns-in_ok-ended-in-Own-clause-under_way : goal.returns-in_ok-ended-in-Own-clause-under_way
+returns-in_ok-ended-in-Own-clause-under_way g c =
+    let v = c.args.valid.now in
+    let done = c.in_ok-ended-in-Own.field-0 in (
+      c.in-Own.number,
+      own_index v c.args.function c.in-Own.number c.requires.first.valid c.in-Own.ensures,
+      subst (λ (n : ℕ). TrappedIn v n done.at (reverse c.run.new.stacks.callers.items) done.ended) c.in_ok-first-in-Own.ensures.laid.function_is c.in_ok-ended-in-Own.ensures.under_way,
+    )

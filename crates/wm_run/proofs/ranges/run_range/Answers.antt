@@ -6,6 +6,7 @@ use Rattle.wm_run.specs.Ranges.{range_written}
 use Rattle.wm_run.specs.Activations.{ended_range, trapped_by}
 use Rattle.wm_run.proofs.Follow.{charge_fits, charge_fails, follows_as}
 use Rattle.wm_run.proofs.Ranging.{written_by, within_at, there_at, limit_range_at, range_follows_at}
+use Rattle.wm_run.proofs.UnderWay.{trap_same, range_same}
 use Rattle.wm_run.proofs.ranges.run_range.Goals as goal
 
 pub operand-size-requires-clause-within : goal.operand-size-requires-clause-within
@@ -69,3 +70,9 @@ returns-clause-follows c =
     follows_as none_answers v limit (alone_at s used d) (ended_range here done) c.end_range.result callers stack tt t (used + (1 + size)) c.charge.new.self.used c.end_range.ensures
     (p.1 ∙ ap (λ (k : ℕ). used + (1 + k)) (c.from.ensures ∙ c.operand-size.ensures))
     (range_follows_at v here callers stack s used limit c.args.range d x done t (subst (λ (k : ℕ). used + (1 + k) ≤ limit) (c.from.ensures ∙ c.operand-size.ensures) p.0) wrote c.in_ok-done.ensures.failed)
+
+pub returns-then-not-charge-clause-same : goal.returns-then-not-charge-clause-same
+returns-then-not-charge-clause-same c = trap_same c.args.here trap.Limit c.trapped.result c.trapped.ensures
+
+pub returns-clause-same : goal.returns-clause-same
+returns-clause-same c = range_same c.args.here c.in_ok-done.done c.end_range.result c.end_range.ensures

@@ -1,5 +1,6 @@
 use Rattle.std.proofs.Common.{arith, reverse}
 use Rattle.wm_run.proofs.Leaving.{function_there, can_finish_at, finish_follows_at, drops}
+use Rattle.wm_run.proofs.UnderWay.{left}
 use Rattle.wm_run.proofs.returns.finish.Goals as goal
 
 pub frame_of-gives-requires : goal.frame_of-gives-requires
@@ -20,3 +21,9 @@ returns-clause-follows c =
 pub returns-clause-drops : goal.returns-clause-drops
 returns-clause-drops c =
     drops c.args.stacks.now.callers.items c.leave.new.stacks.callers.items c.args.stacks.now.operands.items c.leave.new.stacks.operands.items c.args.here.top c.frame_of-gives.result.result c.leave.result c.leave.ensures
+
+pub returns-clause-under_way : goal.returns-clause-under_way
+returns-clause-under_way c =
+    λ first u.
+    left c.args.valid.now first c.args.here (reverse c.args.stacks.now.callers.items) (reverse c.leave.new.stacks.callers.items) c.args.stacks.now.operands.items c.leave.new.stacks.operands.items c.args.here.top
+    c.frame_of-gives.result.result c.leave.result c.leave.ensures u
