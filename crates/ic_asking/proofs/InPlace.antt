@@ -3,14 +3,12 @@ use Rattle.std.proofs.Common.{◌≡◌, ℕ, Bool, true, false, cond, List, [],
 use Rattle.std.specs.Prelude.{option_map}
 use Rattle.std.specs.List.{AllByRecursion}
 use Rattle.std.specs.Map.{lookup}
-use Rattle.std.specs.BTreeMap.{BTreeMap}
 use Rattle.ic_script.specs.declared.Ask.{Ask}
 use Rattle.ic_behaviour.specs.State.{at, State}
 use Rattle.ic_behaviour.specs.Counted.{CountedCanister, counted, dropped}
 use Rattle.ic_behaviour.specs.Texts.{no_canister}
 use Rattle.ic_behaviour.specs.Deliver.{env_at}
 use Rattle.ic_behaviour.specs.Entry.{enters_by}
-use Rattle.ic_behaviour.specs.Sound.{Sound}
 use Rattle.ic_behaviour.proofs.Weights.{at-is}
 use Rattle.ic_state.specs.declared.canister.Canister.{Canister as StoredCanister}
 use Rattle.ic_state.specs.declared.world.Parts.{Parts}
@@ -80,22 +78,6 @@ module _ (limit price : ℕ) (p : Parts) (keeps : IsWorld p) (ask : Ask) where
       let told_of = λ (d : CountedCanister). is_accepted (enters_by system_api) (env_at p.time limit price) d ask.sender ask.method ask.arg in
       ap told_of (sym (found_counts (state_of p) ask.callee p.canisters.entries c is keeps.counts))
       ∙ sym (ap (accepts limit price (state_of p) ask) (lookup-seen ask.callee p.canisters.entries ∙ ap (option_map (λ c. dropped (seen c))) is))
-
--- canisters that are now in a map of another layout
-module _ (p : Parts) (m : BTreeMap (List ℕ) StoredCanister) (same : m.entries ≡ p.canisters.entries) where
-  pub state_same : state_of (record p { canisters = m }) ≡ state_of p
-  state_same = ap (λ es. record (state_of p) { canisters = map entry_of es }) same
-
-  pub keeps_same : IsWorld p → IsWorld (record p { canisters = m })
-  keeps_same keeps =
-      let C = λ (es : List (List ℕ × StoredCanister)). AllByRecursion (HasCounts (state_of p)) es in
-      let S = λ (s : State). AllByRecursion (HasCounts s) m.entries in
-      let K = λ (es : List (List ℕ × StoredCanister)). AllByRecursion (λ (e : List ℕ × StoredCanister). IsCanister e.1) es in
-      record {
-        sound = subst Sound (sym state_same) keeps.sound;
-        counts = subst S (sym state_same) (subst C (sym same) keeps.counts);
-        canisters = subst K (sym same) keeps.canisters;
-      }
 
 -- what holds of the first of two equal answers
 pub told : {E T : Type 0} (r : Result T E) (x y : T) → x ≡ y → IfOk r (λ q. q ≡ x) → IfOk r (λ q. q ≡ y)

@@ -106,14 +106,7 @@ fn ask(
         kind,
         view,
     };
-    attempt(
-        alloc,
-        code.get(),
-        canister.store.get_mut(),
-        entry,
-        limit,
-        false,
-    )
+    attempt(alloc, code.get(), &mut canister.store, entry, limit, false)
 }
 
 /// Answers a user's query (IC Interface Specification, "Request: Query call"). It costs no cycles.

@@ -6,12 +6,18 @@ ghost use Rattle.ic_behaviour.specs.Installing.{enters_after};
 ghost use Rattle.ic_state.specs.Seen.{code_of};
 ghost use Rattle.ic_api.specs.System.{system_api};
 ghost use Rattle.ic_api.specs.Executed.{Executed as KeepsRules};
+ghost use Rattle.ic_api.specs.Hearing.{heard_after};
 ghost use Rattle.ic_entry.specs.Entered.{outcome_by, outcome_in, told, store_after};
 
-use ic_api::{Api, entries_are_lawful, host_is_function};
+use ic_api::{
+    Api, Hearing, entries_are_lawful, hearing_changes_nothing, hearing_is_function,
+    host_is_function,
+};
 use ic_base::NoMemory;
-use ic_state::{Code, Effects, EntryKind, View};
+use ic_heard::{Ear, Heard};
+use ic_state::{Code, Effects, EntryKind, StorePlace, View};
 use std::alloc::Global;
+use std::mem::replace;
 use wm_run::invoke;
 use wm_semantics::{Ended, Meter, Target, Trap};
 use wm_store::Store;
@@ -32,8 +38,8 @@ pub struct Entered {
     pub used: u64,
 }
 
-/// Enters code, with a host of its own. What it uses is added to the meter.
-pub fn enter_after(
+// As `enter_after`, where nobody listens.
+fn enter_unheard(
     alloc: Global,
     code: &Code,
     store: &mut Store,
@@ -60,11 +66,77 @@ pub fn enter_after(
     }
 }
 
+/// As `enter_after`, where somebody listens. What is heard changes nothing else. Without memory it is lost.
+pub fn enter_heard(
+    alloc: Global,
+    code: &Code,
+    store: &mut Store,
+    entry: Entry,
+    meter: &mut Meter,
+    heard: &mut Heard,
+) -> Result<Result<Effects, Trap>, NoMemory>
+    requires fits { Fits code.now.valid.«module» store.old.lists }
+    requires target { IsTarget code.now.valid.«module» entry.target }
+    requires cycles { entry.view.balance + entry.view.available < 2 ^ 127 }
+    requires outstanding { entry.view.outstanding ≤ 500 }
+    ensures outcome { IfOk result (λ ended. outcome_by store.new.lists meter.new.used ended
+        ≡ enters_after system_api (code_of code.now) store.old.lists entry.target entry.kind entry.view meter.old.limit meter.old.used) }
+    ensures heard { IfOk result (λ _. heard.new
+        ≡ heard_after heard.old (code_of code.now) store.old.lists entry.target entry.kind entry.view meter.old.limit meter.old.used) }
+    ensures fits { IfOk result (λ _. Fits code.now.valid.«module» store.new.lists) }
+    ensures begun { store.new.begun ≡ store.old.begun }
+    ensures limit { meter.new.limit ≡ meter.old.limit }
+{
+    hearing_is_function();
+    hearing_changes_nothing();
+    let Entry { target, kind, view } = entry;
+    let spent = meter.used();
+    let before = replace(heard, Heard::new(alloc));
+    let mut host = Hearing::new(alloc, kind, view, before);
+    let ended = invoke(alloc, &code.valid, store, target, &mut host, meter)?;
+    let (api, now) = host.end();
+    *heard = now;
+    heard.spend(meter.used().saturating_sub(spent));
+    match ended {
+        Ended::Returned => Ok(Ok(api.finish())),
+        Ended::Trapped(trap) => Ok(Err(trap)),
+    }
+}
+
+/// Enters code, with a host of its own. What it uses is added to the meter. Whoever listens hears what it says.
+pub fn enter_after(
+    alloc: Global,
+    code: &Code,
+    store: &mut StorePlace,
+    entry: Entry,
+    meter: &mut Meter,
+) -> Result<Result<Effects, Trap>, NoMemory>
+    requires fits { Fits code.now.valid.«module» store.old.lists }
+    requires target { IsTarget code.now.valid.«module» entry.target }
+    requires cycles { entry.view.balance + entry.view.available < 2 ^ 127 }
+    requires outstanding { entry.view.outstanding ≤ 500 }
+    ensures outcome { IfOk result (λ ended. outcome_by store.new.lists meter.new.used ended
+        ≡ enters_after system_api (code_of code.now) store.old.lists entry.target entry.kind entry.view meter.old.limit meter.old.used) }
+    ensures fits { IfOk result (λ _. Fits code.now.valid.«module» store.new.lists) }
+    ensures begun { store.new.begun ≡ store.old.begun }
+    ensures limit { meter.new.limit ≡ meter.old.limit }
+{
+    match store.take_ear().into_heard() {
+        None => enter_unheard(alloc, code, store.get_mut(), entry, meter),
+        Some(heard) => {
+            let mut heard = heard;
+            let ended = enter_heard(alloc, code, store.get_mut(), entry, meter, &mut *heard);
+            store.put_ear(Ear::of(heard));
+            ended
+        }
+    }
+}
+
 // Enters code, with a host and a meter of its own.
 fn enter(
     alloc: Global,
     code: &Code,
-    store: &mut Store,
+    store: &mut StorePlace,
     entry: Entry,
     limit: u64,
 ) -> Result<Entered, NoMemory>
@@ -90,7 +162,7 @@ fn enter(
 pub fn attempt(
     alloc: Global,
     code: &Code,
-    store: &mut Store,
+    store: &mut StorePlace,
     entry: Entry,
     limit: u64,
     keeps: bool,
@@ -110,18 +182,18 @@ pub fn attempt(
     ensures lawful { IfOk result (λ e. IfOk e.ended (KeepsRules entry.kind entry.view)) }
 {
     entries_are_lawful();
-    store.begin();
+    store.get_mut().begin();
     match enter(alloc, code, store, entry, limit) {
         Ok(entered) => {
             if keeps && entered.ended.is_ok() {
-                store.keep();
+                store.get_mut().keep();
             } else {
-                store.undo();
+                store.get_mut().undo();
             }
             Ok(entered)
         }
         Err(e) => {
-            store.undo();
+            store.get_mut().undo();
             Err(e)
         }
     }

@@ -7,7 +7,7 @@ ghost use Rattle.ic_state.specs.IsCanister.{IsCanister};
 ghost use Rattle.ic_api.specs.System.{system_api};
 ghost use Rattle.ic_entry.specs.Installed.{installation_of, asked_of, is_upgrade, with_draft, refusal_of, Drafts};
 
-use crate::staging::{Asked, Draft, Stop, Told, new_store, start};
+use crate::staging::{Asked, Draft, Stop, Told, new_store, start_heard};
 use crate::upgrading::upgrade;
 use crate::views::no_bytes;
 use ic_base::NoMemory;
@@ -64,15 +64,12 @@ fn steps(
     match mode {
         Mode::Install | Mode::Reinstall => {
             let store = new_store(alloc, &code.valid, 0, &[])?;
-            let mut draft = Draft {
-                store,
-                certified: no_bytes(alloc),
-            };
+            let mut draft = Draft::begin(alloc, store, no_bytes(alloc))?;
             let told = Told {
                 name: EntryName::Init,
                 asked,
             };
-            start(alloc, canister, code, told, &mut draft, meter)?;
+            start_heard(alloc, canister, code, told, &mut draft, meter)?;
             Ok(draft)
         }
         Mode::Upgrade { skip_pre_upgrade } => {
@@ -94,7 +91,7 @@ fn put_draft(
         Ok(draft) => {
             let Draft { store, certified } = draft;
             canister.code = Some(code);
-            canister.store.put(store);
+            canister.store.move_from(store);
             canister.certified = certified;
             Ok(None)
         }

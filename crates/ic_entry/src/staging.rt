@@ -13,7 +13,7 @@ use crate::views::no_bytes;
 use ic_base::NoMemory;
 use ic_behaviour::InstallFault;
 use ic_principal::{Bytes, Principal};
-use ic_state::{Canister, Code, EntryKind, Env, View};
+use ic_state::{Canister, Code, EntryKind, Env, StorePlace, View};
 use std::alloc::{AllocError, Global};
 use wm_run::{InstanceFault, entry_target, instantiate, start_target};
 use wm_semantics::{Meter, Target};
@@ -40,8 +40,18 @@ impl From<AllocError> for Stop {
 /// The store and the certified data that new code has so far.
 #[derive(Drop)]
 pub struct Draft {
-    pub store: Store,
+    pub store: StorePlace,
     pub certified: Bytes,
+}
+
+impl Draft {
+    /// A new store with these certified data.
+    pub fn begin(alloc: Global, store: Store, certified: Bytes) -> Result<Draft, NoMemory>
+        ensures { IfOk result (λ d. d ≡ record { store = store; certified = certified }) }
+    {
+        let store = StorePlace::new(alloc, store)?;
+        Ok(Draft { store, certified })
+    }
 }
 
 // These pages become the stable memory of a store that has none.
@@ -108,7 +118,7 @@ pub fn run_point(
     code: &Code,
     point: Point,
     view: View,
-    store: &mut Store,
+    store: &mut StorePlace,
     meter: &mut Meter,
 ) -> Result<Bytes, Stop>
     requires fits { Fits code.now.valid.«module» store.old.lists }
@@ -152,7 +162,7 @@ pub struct Told {
 }
 
 // New code starts: its start function, and then the entry point with the argument.
-pub fn start(
+fn start(
     alloc: Global,
     canister: &Canister,
     code: &Code,
@@ -192,4 +202,30 @@ pub fn start(
     let view = install_view(alloc, env, canister, sender, arg, &draft.certified)?;
     draft.certified = run_point(alloc, code, point, view, &mut draft.store, meter)?;
     Ok(())
+}
+
+/// As `start`. Whoever listens to the canister hears what new code says, also where it is not installed.
+pub fn start_heard(
+    alloc: Global,
+    canister: &mut Canister,
+    code: &Code,
+    told: Told,
+    draft: &mut Draft,
+    meter: &mut Meter,
+) -> Result<(), Stop>
+    requires fits { Fits code.now.valid.«module» draft.old.store.lists }
+    requires cycles { canister.old.balance < 2 ^ 127 }
+    requires outstanding { canister.old.outstanding ≤ 500 }
+    requires limit { meter.old.limit ≡ told.asked.env.limit }
+    ensures steps { Steps result (stage_of draft.new.store.lists draft.new.certified meter.new.used)
+        (started (asked_of told.asked.env canister.old told.asked.sender) (code_of code.now) told.name told.asked.arg (stage_of draft.old.store.lists draft.old.certified meter.old.used)) }
+    ensures fits { IfOk result (λ _. Fits code.now.valid.«module» draft.new.store.lists) }
+    ensures begun { draft.new.store.begun ≡ draft.old.store.begun }
+    ensures canister { canister.new ≡ canister.old }
+    ensures limit { meter.new.limit ≡ meter.old.limit }
+{
+    draft.store.put_ear(canister.store.take_ear());
+    let started = start(alloc, canister, code, told, draft, meter);
+    canister.store.put_ear(draft.store.take_ear());
+    started
 }

@@ -7,7 +7,9 @@ ghost use Rattle.ic_state.specs.Seen.{seen, code_of};
 ghost use Rattle.ic_state.specs.IsCanister.{FitsCode, IsCanister};
 ghost use Rattle.ic_entry.specs.Installed.{asked_of, stage_of, Steps, Drafts};
 
-use crate::staging::{Asked, Draft, Point, Stop, Told, install_view, new_store, run_point, start};
+use crate::staging::{
+    Asked, Draft, Point, Stop, Told, install_view, new_store, run_point, start_heard,
+};
 use crate::views::no_bytes;
 use ic_principal::Bytes;
 use ic_state::{Canister, Code, EntryKind};
@@ -56,7 +58,7 @@ fn run_pre_upgrade(
         target: entry_target(&code.valid, EntryName::PreUpgrade, ""),
         kind: EntryKind::PreUpgrade,
     };
-    *certified = run_point(alloc, code, point, view, canister.store.get_mut(), meter)?;
+    *certified = run_point(alloc, code, point, view, &mut canister.store, meter)?;
     Ok(())
 }
 
@@ -91,12 +93,12 @@ fn upgrade_steps(
         canister.store.get().stable_pages(),
         canister.store.get().stable(),
     )?;
-    let mut draft = Draft { store, certified };
+    let mut draft = Draft::begin(alloc, store, certified)?;
     let told = Told {
         name: EntryName::PostUpgrade,
         asked,
     };
-    start(alloc, canister, code, told, &mut draft, meter)?;
+    start_heard(alloc, canister, code, told, &mut draft, meter)?;
     Ok(draft)
 }
 

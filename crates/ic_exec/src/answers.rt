@@ -78,7 +78,7 @@ fn clean_up(
     let entered = attempt(
         alloc,
         code.get(),
-        canister.store.get_mut(),
+        &mut canister.store,
         Entry {
             target: Target::Element {
                 index,
@@ -133,7 +133,7 @@ pub fn run_callback(
     let Entered { ended, used } = attempt(
         alloc,
         code.get(),
-        canister.store.get_mut(),
+        &mut canister.store,
         Entry { target, kind, view },
         env.limit,
         true,

@@ -65,7 +65,7 @@ pub fn run_call(
     let Entered { ended, used } = attempt(
         alloc,
         code.get(),
-        canister.store.get_mut(),
+        &mut canister.store,
         Entry {
             target: Target::Function(function),
             kind,

@@ -2,7 +2,8 @@ use Rattle.std.proofs.Common.{sym, ap, ◌∙◌, Some}
 use Rattle.std.proofs.lemmas.Map.Steps.{set_value_same}
 use Rattle.ic_behaviour.specs.State.{at}
 use Rattle.ic_state.specs.declared.canister.Canister.{Canister}
-use Rattle.ic_asking.proofs.InPlace.{asked_keeps, accepts-none, accepts-some, state_same, keeps_same, told}
+use Rattle.ic_state.proofs.InPlace.{state_same, keeps_same}
+use Rattle.ic_asking.proofs.InPlace.{asked_keeps, accepts-none, accepts-some, told}
 use Rattle.ic_asking.proofs.asking.accepts_now.Goals as goal
 
 pub accepts-requires : goal.accepts-requires

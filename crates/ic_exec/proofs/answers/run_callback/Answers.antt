@@ -32,11 +32,11 @@ clean_up-requires-clause-cycles c =
 pub returns-in-Ok-clause-work : goal.returns-in-Ok-clause-work
 returns-in-Ok-clause-work c =
     rw (sym c.env-env.ensures.value) (returns_done c.args.canister.now c.args.context.now c.env-env.result c.args.answer.callback c.args.answer.response c.args.answer.refund c.target_of-target.result c.kind_of-kind.result c.view_in.result c.with_answer-view.result
-    c.attempt.new.store c.in_ok-ended.field-0 c.in-Some.code c.target_of-target.ensures c.kind_of-kind.ensures c.view_in.ensures c.with_answer-view.ensures c.in-Some.is (rw (sym c.get.ensures, sym c.get_mut.ensures.store) c.in_ok-ended.ensures.entered) (rw (sym c.get.ensures, sym c.get_mut.ensures.store) c.in_ok-ended.ensures.store)
+    c.attempt.new.store c.in_ok-ended.field-0 c.in-Some.code c.target_of-target.ensures c.kind_of-kind.ensures c.view_in.ensures c.with_answer-view.ensures c.in-Some.is (rw (sym c.get.ensures) c.in_ok-ended.ensures.entered) (rw (sym c.get.ensures) c.in_ok-ended.ensures.store)
     c.returned.new.canister c.in-Ok.effects c.returned.result (cc) c.returned.ensures.work)
 
 pub returns-in_ok-more-in-Err-clause-work : goal.returns-in_ok-more-in-Err-clause-work
 returns-in_ok-more-in-Err-clause-work c =
     rw (sym c.env-env.ensures.value) (traps_done c.args.canister.now c.args.context.now c.env-env.result c.args.answer.callback c.args.answer.response c.args.answer.refund c.target_of-target.result c.kind_of-kind.result c.view_in.result c.with_answer-view.result
-    c.attempt.new.store c.in_ok-ended.field-0 c.in-Some.code c.target_of-target.ensures c.kind_of-kind.ensures c.view_in.ensures c.with_answer-view.ensures c.in-Some.is (rw (sym c.get.ensures, sym c.get_mut.ensures.store) c.in_ok-ended.ensures.entered) (rw (sym c.get.ensures, sym c.get_mut.ensures.store) c.in_ok-ended.ensures.store)
+    c.attempt.new.store c.in_ok-ended.field-0 c.in-Some.code c.target_of-target.ensures c.kind_of-kind.ensures c.view_in.ensures c.with_answer-view.ensures c.in-Some.is (rw (sym c.get.ensures) c.in_ok-ended.ensures.entered) (rw (sym c.get.ensures) c.in_ok-ended.ensures.store)
     c.clean_up.new.canister c.clean_up.new.canister.store c.silent.result c.in-Err.cause c.in_ok-more-in-Err.more (cc) c.in_ok-more-in-Err.ensures.rest c.in_ok-more-in-Err.ensures.store c.silent.ensures)

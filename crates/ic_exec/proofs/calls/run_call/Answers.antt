@@ -1,4 +1,4 @@
-use Rattle.std.proofs.Common.{◌<◌, ◌^◌, sym, ◌∙◌, arith}
+use Rattle.std.proofs.Common.{◌<◌, ◌^◌, sym, arith}
 use Rattle.ic_state.specs.declared.canister.Canister.{Canister}
 use Rattle.ic_exec.proofs.Rooms.{Sees, sees_view, sees_call, cycles_seen, room_of, room_alone}
 use Rattle.ic_exec.proofs.CallRuns.{query_done}
@@ -29,4 +29,4 @@ pub returns-in_ok-effects-in-Ok-clause-work : goal.returns-in_ok-effects-in-Ok-c
 returns-in_ok-effects-in-Ok-clause-work c =
     query_done c.args.canister.now c.returned-else-keeps.new.canister c.args.context.now c.args.env c.args.method.name c.args.method.arg c.args.method.entry c.parts_of-function.result c.view_in.result c.with_call-view.result
     c.attempt.new.store c.in_ok-ended.field-0 c.in-Ok.effects c.in_ok-effects-in-Ok.effects c.in-Some.code c.returned-else-keeps.result c.parts_of-function.ensures c.if-keeps.false c.view_in.ensures
-    c.with_call-view.ensures (c.in_ok-ended.ensures.undone c.if-keeps.false ∙ c.get_mut.ensures.store) c.in-Some.is (rw (sym c.get.ensures, sym c.get_mut.ensures.store) c.in_ok-ended.ensures.entered) (cc) c.in_ok-effects-in-Ok.ensures c.returned-else-keeps.ensures.work
+    c.with_call-view.ensures (c.in_ok-ended.ensures.undone c.if-keeps.false) c.in-Some.is (rw (sym c.get.ensures) c.in_ok-ended.ensures.entered) (cc) c.in_ok-effects-in-Ok.ensures c.returned-else-keeps.ensures.work

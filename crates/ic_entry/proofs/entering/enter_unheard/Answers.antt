@@ -1,7 +1,7 @@
 use Rattle.ic_state.specs.Seen.{code_of}
 use Rattle.ic_api.specs.Running.{api_reply}
 use Rattle.ic_entry.proofs.Enters.{returns_is, traps_is}
-use Rattle.ic_entry.proofs.entering.enter_after.Goals as goal
+use Rattle.ic_entry.proofs.entering.enter_unheard.Goals as goal
 
 pub returns-in-Returned-clause-outcome : goal.returns-in-Returned-clause-outcome
 returns-in-Returned-clause-outcome c =
