@@ -8,17 +8,17 @@ use crate::cause::Cause;
 use crate::denial::{Denial, Unmet};
 use sha2::{Digest, Sha256};
 use std::alloc::Global;
-use wm_decode::{ModuleFault, decode};
+use wm_decode::{ModuleFault, decode, listing_of};
 use wm_tree::Module;
 use wm_valid::{Invalid, Refused, Valid, validate};
 
-/// The module with what validation found out, or the check that fails.
-fn checked(alloc: Global, module: Module) -> Result<Valid, Unmet>
+/// The module with what validation found out, or the check that fails. How its code is written in the bytes is kept beside it.
+fn checked(alloc: Global, module: Module, bytes: &[u8]) -> Result<Valid, Unmet>
     requires { IsModule «module» }
     ensures { MeetsBy (λ valid. valid.module) result (validated «module») }
 {
     match validate(alloc, module) {
-        Ok(valid) => Ok(valid),
+        Ok(valid) => Ok(valid.listed(listing_of(alloc, bytes)?)),
         Err(
             Refused {
                 fault: Invalid::NoMemory,
@@ -37,7 +37,7 @@ pub fn module_of(alloc: Global, bytes: &[u8]) -> Result<Valid, Unmet>
     ensures { MeetsBy (λ valid. valid.module) result (module_of bytes.now) }
 {
     match decode(alloc, bytes) {
-        Ok(module) => checked(alloc, module),
+        Ok(module) => checked(alloc, module, bytes),
         Err(ModuleFault::NoMemory) => Err(Unmet::NoMemory),
         Err(ModuleFault::TooLarge) => Err(Unmet::Denied(Denial::ModuleRefused(Cause::Undecoded(
             ModuleFault::TooLarge,
