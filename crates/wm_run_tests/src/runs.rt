@@ -1,3 +1,4 @@
+mod backtraces;
 mod bodies;
 mod hosts;
 mod modules;

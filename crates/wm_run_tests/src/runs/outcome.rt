@@ -39,14 +39,14 @@ fn text_of(ended: &Ended) -> &str {
     }
 }
 
-fn valid_of(alloc: Global, bytes: &[u8]) -> Option<Valid> {
+pub fn valid_of(alloc: Global, bytes: &[u8]) -> Option<Valid> {
     match decode(alloc, bytes) {
         Ok(module) => validate(alloc, module).ok(),
         Err(_) => None,
     }
 }
 
-fn instance_of(alloc: Global, valid: &Valid) -> Result<Store, Fail>
+pub fn instance_of(alloc: Global, valid: &Valid) -> Result<Store, Fail>
     ensures { IfOk result (λ store. Fits valid.now.«module» store.lists) }
 {
     match instantiate(alloc, valid) {
