@@ -14,13 +14,16 @@ use ic_api::{
     host_is_function,
 };
 use ic_base::NoMemory;
-use ic_heard::{Ear, Heard};
+use ic_heard::{Ear, Heard, Place, Places, Trapped};
+use ic_principal::Text;
 use ic_state::{Code, Effects, EntryKind, StorePlace, View};
 use std::alloc::Global;
 use std::mem::replace;
-use wm_run::invoke;
+use wm_backtrace::{Located, locate};
+use wm_run::{Backtrace, Traced, invoke, invoke_traced};
 use wm_semantics::{Ended, Meter, Target, Trap};
 use wm_store::Store;
+use wm_valid::Valid;
 
 /// Where code is entered, as what kind of entry point, and what it sees.
 #[derive(Drop)]
@@ -66,7 +69,90 @@ fn enter_unheard(
     }
 }
 
-/// As `enter_after`, where somebody listens. What is heard changes nothing else. Without memory it is lost.
+// As `enter_after`, where somebody listens; with the functions that were under way, if it trapped.
+fn enter_traced(
+    alloc: Global,
+    code: &Code,
+    store: &mut Store,
+    entry: Entry,
+    meter: &mut Meter,
+    heard: &mut Heard,
+) -> Result<(Result<Effects, Trap>, Backtrace), NoMemory>
+    requires fits { Fits code.now.valid.«module» store.old.lists }
+    requires target { IsTarget code.now.valid.«module» entry.target }
+    requires cycles { entry.view.balance + entry.view.available < 2 ^ 127 }
+    requires outstanding { entry.view.outstanding ≤ 500 }
+    ensures outcome { IfOk result (λ r. outcome_by store.new.lists meter.new.used r.0
+        ≡ enters_after system_api (code_of code.now) store.old.lists entry.target entry.kind entry.view meter.old.limit meter.old.used) }
+    ensures heard { IfOk result (λ _. heard.new
+        ≡ heard_after heard.old (code_of code.now) store.old.lists entry.target entry.kind entry.view meter.old.limit meter.old.used) }
+    ensures fits { IfOk result (λ _. Fits code.now.valid.«module» store.new.lists) }
+    ensures begun { store.new.begun ≡ store.old.begun }
+    ensures limit { meter.new.limit ≡ meter.old.limit }
+{
+    hearing_is_function();
+    hearing_changes_nothing();
+    let Entry { target, kind, view } = entry;
+    let spent = meter.used();
+    let before = replace(heard, Heard::new(alloc));
+    let mut host = Hearing::new(alloc, kind, view, before);
+    let Traced { ended, backtrace } = invoke_traced(
+        alloc,
+        &code.valid,
+        store,
+        target,
+        &mut host,
+        meter,
+    )?;
+    let (api, now) = host.end();
+    *heard = now;
+    heard.spend(meter.used().saturating_sub(spent));
+    match ended {
+        Ended::Returned => Ok((Ok(api.finish()), backtrace)),
+        Ended::Trapped(trap) => Ok((Err(trap), backtrace)),
+    }
+}
+
+fn call_name(alloc: Global, located: &Located) -> Result<Option<Text>, NoMemory> {
+    match &located.call {
+        Some(call) => {
+            let items = String::from_str(alloc, call.name())?;
+            Ok(Some(Text { items }))
+        }
+        None => Ok(None),
+    }
+}
+
+fn places_of(alloc: Global, located: &Located) -> Result<Places, NoMemory> {
+    let mut items = Vec::new(alloc);
+    for place in &located.places.items {
+        let name = place.function.items.as_str();
+        items.push(Place::new(alloc, name, place.offset)?)?;
+    }
+    Ok(Places { items })
+}
+
+// Keeps where it trapped, by names: the code may be another one when somebody asks.
+fn keep_trap(
+    alloc: Global,
+    valid: &Valid,
+    backtrace: &Backtrace,
+    heard: &mut Heard,
+) -> Result<(), NoMemory>
+    ensures { heard.new ≡ heard.old }
+{
+    let located = locate(alloc, valid, backtrace)?;
+    let call = call_name(alloc, &located)?;
+    let places = places_of(alloc, &located)?;
+    heard.trap(Trapped {
+        call,
+        places,
+        more: located.more,
+    })
+}
+
+/// As `enter_after`, where somebody listens, who also learns where it trapped. What is heard changes nothing else.
+/// Without memory it is lost.
 pub fn enter_heard(
     alloc: Global,
     code: &Code,
@@ -87,20 +173,11 @@ pub fn enter_heard(
     ensures begun { store.new.begun ≡ store.old.begun }
     ensures limit { meter.new.limit ≡ meter.old.limit }
 {
-    hearing_is_function();
-    hearing_changes_nothing();
-    let Entry { target, kind, view } = entry;
-    let spent = meter.used();
-    let before = replace(heard, Heard::new(alloc));
-    let mut host = Hearing::new(alloc, kind, view, before);
-    let ended = invoke(alloc, &code.valid, store, target, &mut host, meter)?;
-    let (api, now) = host.end();
-    *heard = now;
-    heard.spend(meter.used().saturating_sub(spent));
-    match ended {
-        Ended::Returned => Ok(Ok(api.finish())),
-        Ended::Trapped(trap) => Ok(Err(trap)),
+    let (ended, backtrace) = enter_traced(alloc, code, store, entry, meter, heard)?;
+    if ended.is_err() {
+        keep_trap(alloc, &code.valid, &backtrace, heard)?;
     }
+    Ok(ended)
 }
 
 /// Enters code, with a host of its own. What it uses is added to the meter. Whoever listens hears what it says.
