@@ -17,8 +17,14 @@ pub struct Ask {
     pub arg: Bytes,
 }
 
-// Its argument is one list behind the other.
-fn joined(alloc: Global, callee: &[u8], method: &str, front: &[u8], back: &[u8]) -> Option<Ask> {
+/// Its argument is one list behind the other.
+pub fn joined(
+    alloc: Global,
+    callee: &[u8],
+    method: &str,
+    front: &[u8],
+    back: &[u8],
+) -> Option<Ask> {
     let callee = Principal::from_bytes(callee).ok()?;
     let method = Text {
         items: String::from_str(alloc, method).ok()?,
