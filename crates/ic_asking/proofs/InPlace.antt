@@ -1,5 +1,5 @@
 -- A canister is asked in place.
-use Rattle.std.proofs.Common.{◌≡◌, ℕ, Bool, true, false, cond, List, [], ◌∷◌, map, Some, None, refl, sym, ap, ◌∙◌, subst, Result, IfOk}
+use Rattle.std.proofs.Common.{◌≡◌, ℕ, Bool, true, false, cond, List, [], ◌∷◌, map, Some, None, refl, sym, ap, ◌∙◌, subst}
 use Rattle.std.specs.Prelude.{option_map}
 use Rattle.std.specs.List.{AllByRecursion}
 use Rattle.std.specs.Map.{lookup}
@@ -78,7 +78,3 @@ module _ (limit price : ℕ) (p : Parts) (keeps : IsWorld p) (ask : Ask) where
       let told_of = λ (d : CountedCanister). is_accepted (enters_by system_api) (env_at p.time limit price) d ask.sender ask.method ask.arg in
       ap told_of (sym (found_counts (state_of p) ask.callee p.canisters.entries c is keeps.counts))
       ∙ sym (ap (accepts limit price (state_of p) ask) (lookup-seen ask.callee p.canisters.entries ∙ ap (option_map (λ c. dropped (seen c))) is))
-
--- what holds of the first of two equal answers
-pub told : {E T : Type 0} (r : Result T E) (x y : T) → x ≡ y → IfOk r (λ q. q ≡ x) → IfOk r (λ q. q ≡ y)
-told {E} {T} r x y is h = let P = λ (z : T). IfOk r (λ q. q ≡ z) in subst P is h

@@ -1,4 +1,5 @@
-ghost use Rattle.std.specs.Prelude.{◌≡◌, IfOk};
+ghost use Rattle.std.specs.Prelude.{◌≡◌, List, IfOk};
+ghost use Rattle.ic_behaviour.specs.declared.call.Message.{Message};
 ghost use Rattle.ic_behaviour.specs.Entry.{enters_by};
 ghost use Rattle.ic_api.specs.System.{system_api};
 ghost use Rattle.ic_entry.specs.Inspection.{is_accepted};
@@ -7,6 +8,7 @@ ghost use Rattle.ic_state.specs.IsCanister.{IsCanister};
 ghost use Rattle.ic_state.specs.IsWorld.{IsWorld};
 ghost use Rattle.ic_state.specs.Seen.{seen, state_of};
 ghost use Rattle.ic_asking.specs.Asking.{accepts_now, answer_now};
+ghost use Rattle.ic_asking.specs.Beside.{with_messages};
 
 use ic_base::NoMemory;
 use ic_calls::no_canister;
@@ -17,7 +19,6 @@ use ic_state::{CanisterPlace, Charge, Env, Parts, Response};
 use std::alloc::Global;
 
 /// Whether the callee accepts the call. All stays as it is, also where memory runs out.
-#[tactic(auto, unfolding(crate::specs::Asking::accepts_now))]
 pub fn accepts_now(
     alloc: Global,
     charge: Charge,
@@ -28,6 +29,25 @@ pub fn accepts_now(
     ensures accepted { IfOk result (λ b. b ≡ accepts_now charge.limit charge.price (state_of parts.old) ask.now) }
     ensures same { state_of parts.new ≡ state_of parts.old }
     ensures keeps { IsWorld parts.new }
+{
+    accepts_beside(alloc, charge, parts, ask)
+}
+
+/// Whether the callee accepts the call, in the world that the parts are with the messages that are under way, which
+/// are elsewhere. All stays as it is, also where memory runs out.
+#[tactic(auto, unfolding(crate::specs::Asking::accepts_now))]
+pub fn accepts_beside(
+    alloc: Global,
+    charge: Charge,
+    parts: &mut Parts,
+    ask: &Ask,
+) -> Result<bool, NoMemory>
+    requires keeps { (messages : List Message) × IsWorld (with_messages parts.old messages) }
+    ensures accepted { IfOk result (λ b. (messages : List Message) → IsWorld (with_messages parts.old messages)
+        → b ≡ accepts_now charge.limit charge.price (state_of (with_messages parts.old messages)) ask.now) }
+    ensures same { (messages : List Message) → state_of (with_messages parts.new messages) ≡ state_of (with_messages parts.old messages) }
+    ensures keeps { (messages : List Message) → IsWorld (with_messages parts.old messages) → IsWorld (with_messages parts.new messages) }
+    ensures messages { parts.new.messages ≡ parts.old.messages }
 {
     let env = Env {
         time: parts.time,
@@ -63,7 +83,6 @@ fn accepts(alloc: Global, place: &mut CanisterPlace, ask: &Ask, env: Env) -> Res
 }
 
 /// What the canister that is asked answers. All stays as it is, also where memory runs out.
-#[tactic(auto, unfolding(crate::specs::Asking::answer_now))]
 pub fn answer_now(
     alloc: Global,
     charge: Charge,
@@ -74,6 +93,25 @@ pub fn answer_now(
     ensures response { IfOk result (λ r. r ≡ answer_now charge.limit charge.price (state_of parts.old) ask) }
     ensures same { state_of parts.new ≡ state_of parts.old }
     ensures keeps { IsWorld parts.new }
+{
+    answer_beside(alloc, charge, parts, ask)
+}
+
+/// What the canister that is asked answers, in the world that the parts are with the messages that are under way,
+/// which are elsewhere. All stays as it is, also where memory runs out.
+#[tactic(auto, unfolding(crate::specs::Asking::answer_now))]
+pub fn answer_beside(
+    alloc: Global,
+    charge: Charge,
+    parts: &mut Parts,
+    ask: Ask,
+) -> Result<Response, NoMemory>
+    requires keeps { (messages : List Message) × IsWorld (with_messages parts.old messages) }
+    ensures response { IfOk result (λ r. (messages : List Message) → IsWorld (with_messages parts.old messages)
+        → r ≡ answer_now charge.limit charge.price (state_of (with_messages parts.old messages)) ask) }
+    ensures same { (messages : List Message) → state_of (with_messages parts.new messages) ≡ state_of (with_messages parts.old messages) }
+    ensures keeps { (messages : List Message) → IsWorld (with_messages parts.old messages) → IsWorld (with_messages parts.new messages) }
+    ensures messages { parts.new.messages ≡ parts.old.messages }
 {
     let env = Env {
         time: parts.time,

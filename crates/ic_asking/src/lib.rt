@@ -4,4 +4,4 @@
 
 mod asking;
 
-pub use asking::{accepts_now, answer_now};
+pub use asking::{accepts_beside, accepts_now, answer_beside, answer_now};

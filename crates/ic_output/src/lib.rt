@@ -12,7 +12,9 @@ mod states;
 mod texts;
 mod values;
 
-pub use states::{closing, state_line, summary, witness_line};
+pub use states::{
+    closing, line_of_parts, state_line, summary, witness_line, witness_line_of_parts,
+};
 pub use texts::{
     accepted_text, answer_text, bad_text, call_refused_text, pick_text, query_text, ran_text,
 };

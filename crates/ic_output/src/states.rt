@@ -1,21 +1,34 @@
-ghost use Rattle.std.specs.Prelude.{◌≡◌, ◌++◌, IfOk, count_by, is_none};
+ghost use Rattle.std.specs.Prelude.{◌≡◌, ◌++◌, List, IfOk, length, count_by, is_none};
+ghost use Rattle.ic_behaviour.specs.declared.call.Message.{Message};
+ghost use Rattle.ic_state.specs.Seen.{state_of};
+ghost use Rattle.ic_state.specs.IsWorld.{IsWorld};
 ghost use Rattle.ic_behaviour.specs.declared.request.Request.{Request as Asked};
 ghost use Rattle.ic_output.specs.Texts.{calls_line, closing, is_rejected, is_replied, root_line, state_line, witness_text};
 
 use crate::values::state_text;
 use ic_base::NoMemory;
 use ic_principal::Bytes;
-use ic_state::{Request, Response, World};
+use ic_state::{Parts, Request, Response, World};
 use ic_tree::state_root;
-use ic_witness::{Path, state_witness};
+use ic_witness::{Path, witness_of_parts};
 use std::alloc::Global;
 
 /// The line that shows a state.
-#[tactic(auto, unfolding(crate::specs::Texts::state_line))]
 pub fn state_line(alloc: Global, world: &World) -> Result<Bytes, NoMemory>
     ensures { IfOk result (λ line. line ≡ state_line world.now) }
 {
-    let mut line = state_text(alloc, world)?;
+    let parts = world.parts();
+    line_of_parts(alloc, parts, parts.messages.items.len())
+}
+
+/// The line that shows a state, by the parts of its world and the number of its messages, which may be elsewhere.
+#[tactic(auto, unfolding(crate::specs::Texts::state_line))]
+pub fn line_of_parts(alloc: Global, parts: &Parts, messages: usize) -> Result<Bytes, NoMemory>
+    requires keeps { (list : List Message) × IsWorld (record parts.now { messages = list }) }
+    ensures { IfOk result (λ line. (list : List Message) → IsWorld (record parts.now { messages = list }) → length list ≡ messages
+        → line ≡ state_line (state_of (record parts.now { messages = list }))) }
+{
+    let mut line = state_text(alloc, parts, messages)?;
     line.items.push(b'\n')?;
     Ok(line)
 }
@@ -33,11 +46,23 @@ fn root_line(alloc: Global, world: &World) -> Result<Bytes, NoMemory>
 }
 
 /// The witness of a state for paths.
-#[tactic(auto, unfolding(crate::specs::Texts::witness_text))]
 pub fn witness_line(alloc: Global, world: &World, paths: &[Path]) -> Result<Bytes, NoMemory>
     ensures { IfOk result (λ line. line ≡ witness_text world.now paths.now) }
 {
-    let bytes = state_witness(alloc, world, paths)?;
+    witness_line_of_parts(alloc, world.parts(), paths)
+}
+
+/// The witness of a state for paths, by the parts of its world. The messages may be elsewhere.
+#[tactic(auto, unfolding(crate::specs::Texts::witness_text))]
+pub fn witness_line_of_parts(
+    alloc: Global,
+    parts: &Parts,
+    paths: &[Path],
+) -> Result<Bytes, NoMemory>
+    requires keeps { (messages : List Message) × IsWorld (record parts.now { messages = messages }) }
+    ensures { IfOk result (λ line. line ≡ witness_text (state_of parts.now) paths.now) }
+{
+    let bytes = witness_of_parts(alloc, parts, paths)?;
     let digits = hex::encode(alloc, &bytes.items)?;
     Ok(Bytes {
         items: format!(in alloc; "witness {digits}\n")?.into_bytes(),

@@ -1,13 +1,15 @@
-ghost use Rattle.std.specs.Prelude.{◌≡◌, IfOk, length, map, option_map};
+ghost use Rattle.std.specs.Prelude.{◌≡◌, List, IfOk, length, map, option_map};
+ghost use Rattle.ic_behaviour.specs.declared.call.Message.{Message};
+ghost use Rattle.ic_state.specs.IsWorld.{IsWorld};
 ghost use Rattle.sha2.specs.Sha256.{sha256};
 ghost use Rattle.serde_json.specs.View.{view};
-ghost use Rattle.ic_state.specs.Seen.{code_of, entry_of};
+ghost use Rattle.ic_state.specs.Seen.{code_of, entry_of, state_of};
 ghost use Rattle.ic_output.specs.StateLine.{canister_data, hex_data, list_of, module_hash, principal_data, state_data, state_text, status_text};
 
 use crate::members::{decimal, decimals, hex_text, principal, principals, with};
 use ic_base::NoMemory;
 use ic_principal::{Bytes, Principal};
-use ic_state::{Canister, CanisterPlace, CodePlace, Contexts, Controllers, Phase, World};
+use ic_state::{Canister, CanisterPlace, CodePlace, Contexts, Controllers, Parts, Phase};
 use serde_json::{Map, Value};
 use sha2::{Digest, Sha256};
 use std::alloc::Global;
@@ -15,30 +17,32 @@ use std::collections::BTreeMap;
 
 /// The state in one line, without its end.
 #[tactic(auto, unfolding(crate::specs::StateLine::state_text))]
-pub fn state_text(alloc: Global, world: &World) -> Result<Bytes, NoMemory>
-    ensures { IfOk result (λ text. text ≡ state_text world.now) }
+pub fn state_text(alloc: Global, parts: &Parts, messages: usize) -> Result<Bytes, NoMemory>
+    requires keeps { (list : List Message) × IsWorld (record parts.now { messages = list }) }
+    ensures { IfOk result (λ text. (list : List Message) → IsWorld (record parts.now { messages = list }) → length list ≡ messages
+        → text ≡ state_text (state_of (record parts.now { messages = list }))) }
 {
-    let value = state_value(alloc, world)?;
+    let value = state_value(alloc, parts, messages)?;
     Ok(Bytes {
         items: value.to_vec(alloc)?,
     })
 }
 
-fn state_value(alloc: Global, world: &World) -> Result<Value, NoMemory>
-    ensures { IfOk result (λ value. view value ≡ state_data world.now) }
+fn state_value(alloc: Global, parts: &Parts, messages: usize) -> Result<Value, NoMemory>
+    requires keeps { (list : List Message) × IsWorld (record parts.now { messages = list }) }
+    ensures { IfOk result (λ value. (list : List Message) → IsWorld (record parts.now { messages = list }) → length list ≡ messages
+        → view value ≡ state_data (state_of (record parts.now { messages = list }))) }
 {
-    let parts = world.parts();
-    let totals = world.totals();
     let map = Map::new(alloc);
-    let burned = decimal(alloc, totals.burned)?;
+    let burned = decimal(alloc, parts.burned)?;
     let map = with(alloc, map, "burned", burned)?;
     let canisters = canister_values(alloc, &parts.canisters)?;
     let map = with(alloc, map, "canisters", canisters)?;
-    let created = decimal(alloc, totals.created)?;
+    let created = decimal(alloc, parts.created)?;
     let map = with(alloc, map, "created", created)?;
-    let held = decimal(alloc, totals.held)?;
+    let held = decimal(alloc, parts.created - parts.burned)?;
     let map = with(alloc, map, "held", held)?;
-    let messages = Value::from(parts.messages.items.len());
+    let messages = Value::from(messages);
     let map = with(alloc, map, "messages", messages)?;
     let time = decimal(alloc, parts.time as u128)?;
     let map = with(alloc, map, "time", time)?;

@@ -12,5 +12,5 @@ mod tree;
 
 pub use fields::{Field, request_id};
 pub use hashes::root;
-pub use state::{state_root, state_tree};
+pub use state::{state_root, state_tree, tree_of_parts};
 pub use tree::{Tree, fork, forked, labeled, leaf_at};

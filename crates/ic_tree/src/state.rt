@@ -1,7 +1,9 @@
-ghost use Rattle.std.specs.Prelude.{◌≡◌, ◌+◌, ◌≤◌, ◌^◌, Some, IfOk, length, map, option_map};
+ghost use Rattle.std.specs.Prelude.{◌≡◌, ◌+◌, ◌≤◌, ◌^◌, List, Some, IfOk, length, map, option_map};
 ghost use Rattle.std.specs.List.{AllByRecursion};
+ghost use Rattle.ic_behaviour.specs.declared.call.Message.{Message};
 ghost use Rattle.ic_behaviour.specs.declared.request.Request.{Request as Asked};
-ghost use Rattle.ic_state.specs.Seen.{code_of, entry_of};
+ghost use Rattle.ic_state.specs.IsWorld.{IsWorld};
+ghost use Rattle.ic_state.specs.Seen.{code_of, entry_of, state_of};
 ghost use Rattle.ic_leb.specs.Spelling.{unsigned_spelling};
 ghost use Rattle.ic_tree.specs.HashTree.{forked, leaf_at, root_hash};
 ghost use Rattle.ic_tree.specs.StateTree.{by_id, canister_part, canister_tree, id_of_request, kept, kept_request, part_of, request_part, state_tree_of, status_leaf, tree_over};
@@ -13,7 +15,7 @@ use crate::tree::{Tree, fork, forked, labeled, leaf_at};
 use ic_base::NoMemory;
 use ic_leb::write_u;
 use ic_principal::{Bytes, Principal, Text};
-use ic_state::{Canister, CanisterPlace, CodePlace, Request, Response, World};
+use ic_state::{Canister, CanisterPlace, CodePlace, Parts, Request, Response, World};
 use std::alloc::Global;
 use std::collections::BTreeMap;
 
@@ -27,16 +29,24 @@ const LIFETIME: u64 = 300_000_000_000;
 pub fn state_tree(alloc: Global, world: &World) -> Result<Tree, NoMemory>
     ensures { IfOk result (λ tree. view tree ≡ state_tree_of world.now) }
 {
-    tree_of(alloc, world, Keep::Whole)
+    tree_of(alloc, world.parts(), Keep::Whole)
+}
+
+/// The tree of a state, by the parts of its world. It has no messages, so these may be elsewhere.
+#[tactic(auto, unfolding(crate::specs::StateTree::kept, crate::specs::StateTree::state_tree_of))]
+pub fn tree_of_parts(alloc: Global, parts: &Parts) -> Result<Tree, NoMemory>
+    requires keeps { (messages : List Message) × IsWorld (record parts.now { messages = messages }) }
+    ensures { IfOk result (λ tree. view tree ≡ state_tree_of (state_of parts.now)) }
+{
+    tree_of(alloc, parts, Keep::Whole)
 }
 
 /// The root hash of the tree of a state. What stands for a request is hashed and let go before that
 /// of the next is made, so that the whole tree never stands.
-#[tactic(auto, using(crate::proofs::Forks::state_root))]
 pub fn state_root(alloc: Global, world: &World) -> Result<[u8; 32], NoMemory>
     ensures { IfOk result (λ hash. hash ≡ root_hash (state_tree_of world.now)) }
 {
-    let tree = tree_of(alloc, world, Keep::Root)?;
+    let tree = tree_of(alloc, world.parts(), Keep::Root)?;
     Ok(root(&tree))
 }
 
@@ -61,10 +71,10 @@ impl Keep {
 }
 
 #[tactic(auto, unfolding(crate::specs::HashTree::forked_in))]
-fn tree_of(alloc: Global, world: &World, keep: Keep) -> Result<Tree, NoMemory>
-    ensures { IfOk result (λ tree. view tree ≡ tree_over world.now (map (kept_request keep) (by_id 0 world.now.requests))) }
+fn tree_of(alloc: Global, parts: &Parts, keep: Keep) -> Result<Tree, NoMemory>
+    requires keeps { (messages : List Message) × IsWorld (record parts.now { messages = messages }) }
+    ensures { IfOk result (λ tree. view tree ≡ tree_over (state_of parts.now) (map (kept_request keep) (by_id 0 parts.now.requests))) }
 {
-    let parts = world.parts();
     let canisters = canister_trees(alloc, &parts.canisters)?;
     let requests = request_trees(alloc, &parts.requests.items, keep)?;
     let canisters = labeled(alloc, b"canister".as_slice(), canisters)?;

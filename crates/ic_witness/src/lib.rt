@@ -28,5 +28,5 @@ pub use levels::ordered;
 pub use pruning::witness;
 pub use reading::read;
 pub use stands::{nests_at_most, whole};
-pub use state::state_witness;
+pub use state::{state_witness, witness_of_parts};
 pub use writing::write;

@@ -1,33 +1,25 @@
-use Rattle.std.proofs.Common.{sym, ap, ◌∙◌, Some}
-use Rattle.std.proofs.lemmas.Map.Steps.{set_value_same}
-use Rattle.ic_behaviour.specs.State.{at}
-use Rattle.ic_state.specs.declared.canister.Canister.{Canister}
-use Rattle.ic_state.proofs.InPlace.{state_same, keeps_same}
-use Rattle.ic_asking.proofs.InPlace.{asked_keeps, accepts-none, accepts-some, told}
+use Rattle.std.proofs.Common.{◌≡◌, List, sym, subst}
+use Rattle.std.proofs.lemmas.Result.{IfOk-weaker}
+use Rattle.ic_behaviour.specs.declared.call.Message.{Message}
+use Rattle.ic_state.specs.IsWorld.{IsWorld}
+use Rattle.ic_state.specs.Seen.{state_of}
+use Rattle.ic_asking.specs.Beside.{with_messages}
 use Rattle.ic_asking.proofs.asking.accepts_now.Goals as goal
 
-pub accepts-requires : goal.accepts-requires
-accepts-requires c = asked_keeps c.args.charge.limit c.args.charge.price c.args.parts.now c.requires.keeps c.args.ask.now c.in-Some.place.now (sym c.in-Some.ensures.value)
+pub accepts_beside-requires : goal.accepts_beside-requires
+accepts_beside-requires c = record { keeps = (c.args.parts.now.messages, c.requires.keeps) }
 
-pub returns-in-Some-clause-accepted : goal.returns-in-Some-clause-accepted
-returns-in-Some-clause-accepted c =
-    told c.accepts.result _ _ (accepts-some c.args.charge.limit c.args.charge.price c.args.parts.now c.requires.keeps c.args.ask.now c.in-Some.place.now (sym c.in-Some.ensures.value))
-    c.accepts.ensures.accepted
+pub returns-clause-accepted : goal.returns-clause-accepted
+returns-clause-accepted c = IfOk-weaker c.accepts_beside.result _ _ (λ b is. is c.args.parts.now.messages c.requires.keeps) c.accepts_beside.ensures.accepted
 
-pub returns-in-Some-clause-same : goal.returns-in-Some-clause-same
-returns-in-Some-clause-same c =
-    let m = c.args.parts.now.canisters in
-    let w = c.accepts.new.place in
-    let found = sym c.in-Some.ensures.value ∙ ap (λ (d : Canister). Some d) (sym c.accepts.ensures.same) in
-    state_same c.args.parts.now (c.get_mut.follows.lender w) ((c.get_mut.follows.holds w).0 ∙ set_value_same (at c.args.ask.now.callee) m.entries w found)
+pub returns-clause-same : goal.returns-clause-same
+returns-clause-same c =
+    let p = c.accepts_beside.new.parts in
+    subst (λ (messages : List Message). state_of (with_messages p messages) ≡ state_of c.args.parts.now) (sym c.accepts_beside.ensures.messages)
+    (c.accepts_beside.ensures.same c.args.parts.now.messages)
 
-pub returns-in-Some-clause-keeps : goal.returns-in-Some-clause-keeps
-returns-in-Some-clause-keeps c =
-    let m = c.args.parts.now.canisters in
-    let w = c.accepts.new.place in
-    let found = sym c.in-Some.ensures.value ∙ ap (λ (d : Canister). Some d) (sym c.accepts.ensures.same) in
-    keeps_same c.args.parts.now (c.get_mut.follows.lender w) ((c.get_mut.follows.holds w).0 ∙ set_value_same (at c.args.ask.now.callee) m.entries w found) c.requires.keeps
-
-pub returns-in-None-clause-accepted : goal.returns-in-None-clause-accepted
-returns-in-None-clause-accepted c =
-    accepts-none c.args.charge.limit c.args.charge.price c.args.parts.now c.requires.keeps c.args.ask.now (sym c.in-None.ensures.value)
+pub returns-clause-keeps : goal.returns-clause-keeps
+returns-clause-keeps c =
+    let p = c.accepts_beside.new.parts in
+    subst (λ (messages : List Message). IsWorld (with_messages p messages)) (sym c.accepts_beside.ensures.messages)
+    (c.accepts_beside.ensures.keeps c.args.parts.now.messages c.requires.keeps)
