@@ -4,4 +4,5 @@ pub mod Draws
 pub mod Fronts
 pub mod Passes
 pub mod Ends
+pub mod Picks
 pub mod Roundings

@@ -43,10 +43,10 @@ impl Drawn {
     }
 
     // Takes the first message to a canister, if there is one.
-    fn draw(&mut self, key: Principal) -> Result<(), NoMemory>
+    fn draw(&mut self, alloc: Global, key: Principal) -> Result<(), NoMemory>
         ensures { OnOk result (self.new ≡ draw self.old key) }
     {
-        if let Some(message) = self.queues.pop(&key) {
+        if let Some(message) = self.queues.pop(alloc, &key)? {
             self.firsts.reserve(1)?;
             self.firsts.push_reserved((key, message));
         }
@@ -60,7 +60,7 @@ pub fn draw_all(alloc: Global, canisters: Vec<Principal>, queues: Queues) -> Res
 {
     let mut drawn = Drawn::new(alloc, queues, canisters.len())?;
     for key in canisters {
-        drawn.draw(key)?;
+        drawn.draw(alloc, key)?;
     }
     Ok(drawn)
 }

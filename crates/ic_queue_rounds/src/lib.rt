@@ -11,6 +11,7 @@
 mod drawn;
 mod first;
 mod over_list;
+mod picking;
 mod queued;
 mod rounds;
 mod second;
@@ -18,5 +19,6 @@ mod second;
 pub use ic_rounds::Crew;
 pub use ic_state::Charge;
 pub use over_list::round;
+pub use picking::pick;
 pub use queued::QueuedWorld;
-pub use rounds::{round_in_queues, run_rounds};
+pub use rounds::{round_in_queues, rounds_in_queues, run_rounds};

@@ -40,8 +40,8 @@ pub fn round_in_queues<R: Threads + Sync, G: Gate + Sync>(
     outside_turns(alloc, world, charge)
 }
 
-// Up to `count` rounds over queues.
-fn queued_rounds<R: Threads + Sync, G: Gate + Sync>(
+/// Up to `count` rounds over queues, until no message is under way. Gives how many were made.
+pub fn rounds_in_queues<R: Threads + Sync, G: Gate + Sync>(
     alloc: Global,
     world: QueuedWorld,
     count: u32,
@@ -124,7 +124,7 @@ fn long_rounds<R: Threads + Sync, G: Gate + Sync>(
         return Ok((world, 0));
     }
     let world = QueuedWorld::new(alloc, world)?;
-    let (world, made) = queued_rounds(alloc, world, count, crew, charge)?;
+    let (world, made) = rounds_in_queues(alloc, world, count, crew, charge)?;
     Ok((world.into_world(alloc)?, made))
 }
 

@@ -1,5 +1,6 @@
 pub mod Entries
 pub mod Numbers
 pub mod Shelves
+pub mod Places
 pub mod Queueing
 pub mod Outsides

@@ -22,11 +22,11 @@ number_laws = eq_by_cmp_equiv nat_cmp_total
 pub number-self : (n : ℕ) → is_number n n ≡ true
 number-self n = number_laws.refl n
 
-number-back : (k n : ℕ) → is_number k n ≡ false → is_number n k ≡ false
+pub number-back : (k n : ℕ) → is_number k n ≡ false → is_number n k ≡ false
 number-back k n differs = number_laws.symm n k ∙ differs
 
 -- what holds of each number holds of these
-all_numbers : (P : ℕ → Type 0) (is : List ℕ → Bool) (es : List (ℕ × Message)) → AllByRecursion P (keys_of es) → AllByRecursion P (numbers_to is es)
+pub all_numbers : (P : ℕ → Type 0) (is : List ℕ → Bool) (es : List (ℕ × Message)) → AllByRecursion P (keys_of es) → AllByRecursion P (numbers_to is es)
 all_numbers P is [] all = tt
 all_numbers P is (e ∷ es) all =
     elim (cases_Bool (is (callee_of e.1))) [

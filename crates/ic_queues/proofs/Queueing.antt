@@ -1,10 +1,10 @@
 -- The queues after a message has left its queue, and after one has come last.
-use Rattle.std.proofs.Common.{◌≡◌, ◌<◌, ◌+◌, ℕ, Bool, true, false, cond, ◌&&◌, List, [], ◌∷◌, ◌++◌, Option, Some, None, refl, sym, ap, ◌∙◌, subst, append-nil}
-use Rattle.std.specs.Prelude.{not, is_some}
-use Rattle.std.specs.List.{list_any, find, AllByRecursion}
+use Rattle.std.proofs.Common.{◌≡◌, ◌<◌, ◌+◌, ℕ, Bool, true, false, cond, ◌&&◌, List, [], ◌∷◌, ◌++◌, Option, Some, None, refl, sym, ap, ◌∙◌, subst, append-nil, length, arith}
+use Rattle.std.specs.Prelude.{not, is_some, nat_eq, zip}
+use Rattle.std.specs.List.{list_any, list_all, find, AllByRecursion}
 use Rattle.std.specs.List.Sorted.{IsStrictlySortedBy}
 use Rattle.std.specs.Ordering.{nat_cmp}
-use Rattle.std.specs.Cmp.Lexicographic.{slice_cmp}
+use Rattle.std.specs.Cmp.Lexicographic.{slice_cmp, pointwise, texts_ties}
 use Rattle.std.specs.Map.{lookup, remove_entry, set_value, keys_of, values_of}
 use Rattle.std.specs.BTreeMap.{insert_entry}
 use Rattle.std.proofs.lemmas.Bool.{cond-true, cond-false, and_parts, false≢true}
@@ -14,8 +14,9 @@ use Rattle.ic_behaviour.specs.declared.call.Message.{Message}
 use Rattle.ic_behaviour.specs.State.{at, callee_of}
 use Rattle.ic_behaviour.proofs.Weights.{laws, at-is, at-self, at-back}
 use Rattle.ic_queues.specs.Queued.{Queued, is_steady, first_to, without_first, without_first_to, push}
-use Rattle.ic_queues.specs.Lines.{is_number, numbers_to, is_out, IsQueued, remove_number, numbered, line_at, popped_line, waiting_with, outside_with}
+use Rattle.ic_queues.specs.Lines.{is_number, numbers_to, is_out, IsQueued, remove_number, numbered, line_at, popped_line, waiting_with, outside_with, without_number, waiting_without, outside_without}
 use Rattle.ic_queues.proofs.Entries.{all_last, insert_last, sorted_last, all_keys_removed, all_removed, sorted_removed}
+use Rattle.ic_queues.proofs.Places.{line-without, line-same}
 use Rattle.ic_queues.proofs.Numbers.{pops, none_waits, numbers-last, values-last, keys_below, all_above, all_less}
 
 -- who is one is not another
@@ -237,3 +238,91 @@ push_ends es ws outside next steady m callee es' ws' outside' next' steady' is e
           ∙ ap (λ l. record { canisters = keys_of ws; messages = l; steady = steady' }) (ap values_of e1 ∙ got.list)
           ∙ ap (λ b. record { canisters = keys_of ws; messages = values_of es ++ m ∷ []; steady = b }) e5;
     }
+
+-- ---- a message at a place of the list leaves
+
+module _ (es : List (ℕ × Message)) (ws : List (List ℕ × List ℕ)) (outside : List ℕ) (next : ℕ) (steady : Bool) (is : IsQueued es ws outside next steady) (n : ℕ) (m : Message) (found : lookup (is_number n) es ≡ Some m) where
+  abbrev without : List (ℕ × Message)
+  without = remove_entry (is_number n) es
+
+  pub record Leaves (o : Option (List ℕ)) : Type 0 where
+    pub queued : IsQueued without (waiting_without ws (callee_of m) n o) (outside_without outside n o) next steady
+    pub keys : keys_of (waiting_without ws (callee_of m) n o) ≡ keys_of ws
+
+  own : (test : List ℕ → Bool) → numbers_to test without ≡ without_number n (numbers_to test es)
+  own test = line-without test n es is.ordered
+
+  other : (test : List ℕ → Bool) → test (callee_of m) ≡ false → numbers_to test without ≡ numbers_to test es
+  other test fails = line-same test n m es found fails
+
+  steadies_then : steady ≡ true → AllByRecursion (λ (e : ℕ × Message). is_steady e.1 ≡ true) without
+  steadies_then known = all_removed nat_cmp (λ e. is_steady e.1 ≡ true) (is_number n) es (is.steadies known)
+
+  pub leaves : (o : Option (List ℕ)) → lookup (at (callee_of m)) ws ≡ o → Leaves o
+  leaves (Some line) there =
+      let own_line = (has es ws outside next steady is (callee_of m) line there).1 in
+      let keys = keys_stay es ws outside next steady is (callee_of m) (without_number n line) in
+      record {
+        queued = record {
+          ordered = sorted_removed nat_cmp (is_number n) es is.ordered;
+          below = all_keys_removed nat_cmp (λ k. k < next) (is_number n) es is.below;
+          queues = queues_stay es ws outside next steady is (callee_of m) (without_number n line);
+          theirs = theirs_after es ws outside next steady is (callee_of m) line (without_number n line) without there
+              (ap (without_number n) own_line ∙ sym (own (at (callee_of m)))) (λ q differs. other (at q) (at-back (callee_of m) q differs));
+          others = is.others ∙ sym (other (is_out (keys_of ws)) (ap not (has es ws outside next steady is (callee_of m) line there).0))
+              ∙ ap (λ ks. numbers_to (is_out ks) without) (sym keys);
+          steadies = steadies_then;
+        };
+        keys = keys;
+      }
+  leaves None there =
+      let none : list_any (at (callee_of m)) (keys_of ws) ≡ false = sym (is_some-lookup (at (callee_of m)) ws) ∙ ap is_some there in
+      record {
+        queued = record {
+          ordered = sorted_removed nat_cmp (is_number n) es is.ordered;
+          below = all_keys_removed nat_cmp (λ k. k < next) (is_number n) es is.below;
+          queues = is.queues;
+          theirs = λ q. is.theirs q ∙ same none q (list_any (at q) (keys_of ws)) refl (at q (callee_of m)) refl;
+          others = ap (without_number n) is.others ∙ sym (own (is_out (keys_of ws)));
+          steadies = steadies_then;
+        };
+        keys = refl;
+      }
+    where
+      same : list_any (at (callee_of m)) (keys_of ws) ≡ false → (q : List ℕ) (b : Bool) → list_any (at q) (keys_of ws) ≡ b → (to : Bool) → at q (callee_of m) ≡ to
+          → cond b (Some (numbers_to (at q) es)) None ≡ cond b (Some (numbers_to (at q) without)) None
+      same none q false here to callee = refl
+      same none q true here false callee = ap (λ l. Some l) (sym (other (at q) callee))
+      same none q true here true callee =
+          absurd (false≢true (sym none ∙ subst (λ (k : List ℕ). list_any (at k) (keys_of ws) ≡ true) (at-is q (callee_of m) callee) here))
+
+-- the same, of the values that the code has
+pub record LeaveEnds (es : List (ℕ × Message)) (ws : List (List ℕ × List ℕ)) (outside : List ℕ) (next : ℕ) (steady : Bool) (es' : List (ℕ × Message)) (ws' : List (List ℕ × List ℕ)) (outside' : List ℕ) : Type 0 where
+  pub queued : IsQueued es' ws' outside' next steady
+  pub rest : view es' ws' steady ≡ record (view es ws steady) { messages = values_of es' }
+
+pub leave_ends : (es : List (ℕ × Message)) (ws : List (List ℕ × List ℕ)) (outside : List ℕ) (next : ℕ) (steady : Bool) (n : ℕ) (m : Message) (callee : List ℕ) (es' : List (ℕ × Message)) (ws' : List (List ℕ × List ℕ)) (outside' : List ℕ)
+    → IsQueued es ws outside next steady → lookup (is_number n) es ≡ Some m → callee ≡ callee_of m → es' ≡ remove_entry (is_number n) es
+    → ws' ≡ waiting_without ws callee n (lookup (at callee) ws) → outside' ≡ outside_without outside n (lookup (at callee) ws)
+    → LeaveEnds es ws outside next steady es' ws' outside'
+leave_ends es ws outside next steady n m callee es' ws' outside' is found e0 e1 e2 e3 =
+    let o = lookup (at (callee_of m)) ws in
+    let got = leaves es ws outside next steady is n m found o refl in
+    let waits : ws' ≡ waiting_without ws (callee_of m) n o = e2 ∙ ap (λ k. waiting_without ws k n (lookup (at k) ws)) e0 in
+    let outs : outside' ≡ outside_without outside n o = e3 ∙ ap (λ k. outside_without outside n (lookup (at k) ws)) e0 in
+    record {
+      queued = subst (λ (l : List (ℕ × Message)). IsQueued l ws' outside' next steady) (sym e1)
+          (subst (λ (l : List (List ℕ × List ℕ)). IsQueued (remove_entry (is_number n) es) l outside' next steady) (sym waits)
+          (subst (λ (l : List ℕ). IsQueued (remove_entry (is_number n) es) (waiting_without ws (callee_of m) n o) l next steady) (sym outs) got.queued));
+      rest = ap (λ l. record { canisters = l; messages = values_of es'; steady = steady }) (ap keys_of waits ∙ got.keys);
+    }
+
+pub same_keys : {X Y : Type 0} (es : List (List ℕ × X)) (fs : List (List ℕ × Y)) → length es ≡ length fs
+    → list_all (λ (p : List ℕ × List ℕ). pointwise nat_eq p.0 p.1) (zip (keys_of es) (keys_of fs)) ≡ true → keys_of es ≡ keys_of fs
+same_keys [] [] many all = refl
+same_keys [] (f ∷ fs) many all = absurd (omega (arith, many))
+same_keys (e ∷ es) [] many all = absurd (omega (arith, many))
+same_keys (e ∷ es) (f ∷ fs) many all =
+    let parts = and_parts (pointwise nat_eq e.0 f.0) _ all in
+    let head : e.0 ≡ f.0 = at-is e.0 f.0 (sym (texts_ties e.0 f.0) ∙ parts.0) in
+    λ i. head i ∷ same_keys es fs (omega (arith, many)) parts.1 i

@@ -1,5 +1,5 @@
 -- Places with and without messages, and the messages under their numbers.
-use Rattle.std.proofs.Common.{◌≡◌, ℕ, zero, suc, ◌<◌, ◌+◌, true, false, List, [], ◌∷◌, ◌++◌, length, Some, None, refl, sym, ap, ◌∙◌, subst, arith, slice_set}
+use Rattle.std.proofs.Common.{◌≡◌, ℕ, zero, suc, ◌<◌, ◌≤◌, ◌+◌, true, false, List, [], ◌∷◌, ◌++◌, length, Some, None, refl, sym, ap, ◌∙◌, subst, arith, slice_set}
 use Rattle.std.specs.Prelude.{Option, Bool, not, slice_index_or}
 use Rattle.std.specs.Option.{is_some, option_to_list}
 use Rattle.std.specs.declared.cmp.Ordering.TheVariants.{Less, Greater}
@@ -114,33 +114,65 @@ length-last : (ps : List (Option Message)) (p : Option Message) → length (ps +
 length-last [] p = refl
 length-last (q ∷ ps) p = omega (arith, length-last ps p)
 
+-- ---- how many messages there are
+
+pub counted-without : (k n : ℕ) (ps : List (Option Message)) → length (entries_from n (emptied k ps)) + length (option_to_list (message_at k ps)) ≡ length (entries_from n ps)
+counted-without k n [] = refl
+counted-without zero n (None ∷ ps) = omega arith
+counted-without zero n (Some m ∷ ps) = omega arith
+counted-without (suc k) n (None ∷ ps) = counted-without k (suc n) ps
+counted-without (suc k) n (Some m ∷ ps) = omega (arith, counted-without k (suc n) ps)
+
+counted-last : {X : Type 0} (xs : List X) (x : X) → length (xs ++ x ∷ []) ≡ length xs + 1
+counted-last [] x = refl
+counted-last (y ∷ xs) x = omega (arith, counted-last xs x)
+
+pub few_messages : (n : ℕ) (ps : List (Option Message)) → length (entries_from n ps) ≤ length ps
+few_messages n [] = omega arith
+few_messages n (None ∷ ps) = omega (arith, few_messages (suc n) ps)
+few_messages n (Some m ∷ ps) = omega (arith, few_messages (suc n) ps)
+
 -- ---- shelves
 
-pub record Pushed (first next after : ℕ) (ps qs : List (Option Message)) (x : Message) : Type 0 where
-  pub shelf : IsShelf first qs after
+pub record Pushed (first next count after more : ℕ) (ps qs : List (Option Message)) (x : Message) : Type 0 where
+  pub shelf : IsShelf first qs after more
   pub view : ◌≡◌ {A = Shelved} (record { entries = entries_from first qs; next = after }) (record { entries = entries_from first ps ++ (next, x) ∷ []; next = next + 1 })
 
-pub pushed : (first next after : ℕ) (ps qs : List (Option Message)) (x : Message) → IsShelf first ps next → qs ≡ ps ++ Some x ∷ [] → after ≡ next + 1 → Pushed first next after ps qs x
-pushed first next after ps qs x is e1 e2 =
+pub pushed : (first next count after more : ℕ) (ps qs : List (Option Message)) (x : Message) → IsShelf first ps next count → qs ≡ ps ++ Some x ∷ [] → after ≡ next + 1 → more ≡ count + 1 → Pushed first next count after more ps qs x
+pushed first next count after more ps qs x is e1 e2 e3 =
     let entries : entries_from first qs ≡ entries_from first ps ++ (next, x) ∷ [] =
     ap (entries_from first) e1 ∙ message-last first ps x ∙ ap (λ (k : ℕ). entries_from first ps ++ (k, x) ∷ []) is.numbers in
     record {
-      shelf = record { numbers = omega (arith, is.numbers, ap length e1, length-last ps (Some x), e2); trimmed = ap starts_empty e1 ∙ still-trimmed ps x is.trimmed };
+      shelf = record {
+        numbers = omega (arith, is.numbers, ap length e1, length-last ps (Some x), e2);
+        trimmed = ap starts_empty e1 ∙ still-trimmed ps x is.trimmed;
+        counted = omega (arith, ap length entries, counted-last (entries_from first ps) (next, x), is.counted, e3);
+      };
       view = λ i. record { entries = entries i; next = e2 i };
     }
 
-pub record Taken (first next n : ℕ) (ps : List (Option Message)) (m : Option Message) (first' : ℕ) (ps' : List (Option Message)) : Type 0 where
-  pub shelf : IsShelf first' ps' next
+pub record Taken (first next n : ℕ) (ps : List (Option Message)) (m : Option Message) (first' : ℕ) (ps' : List (Option Message)) (count' : ℕ) : Type 0 where
+  pub shelf : IsShelf first' ps' next count'
   pub message : m ≡ lookup (is_number n) (entries_from first ps)
   pub entries : entries_from first' ps' ≡ remove_entry (is_number n) (entries_from first ps)
 
-pub taken : (first next n k : ℕ) (ps qs : List (Option Message)) (m : Option Message) (first' : ℕ) (ps' : List (Option Message))
-    → IsShelf first ps next → first + k ≡ n → qs ≡ emptied k ps → m ≡ message_at k ps
+pub taken : (first next n k count : ℕ) (ps qs : List (Option Message)) (m : Option Message) (first' : ℕ) (ps' : List (Option Message)) (count' : ℕ)
+    → IsShelf first ps next count → first + k ≡ n → qs ≡ emptied k ps → m ≡ message_at k ps
     → entries_from first' ps' ≡ entries_from first qs → first' + length ps' ≡ first + length qs → starts_empty ps' ≡ false
-    → Taken first next n ps m first' ps'
-taken first next n k ps qs m first' ps' is place e1 e2 e3 e4 trimmed =
+    → count' + length (option_to_list m) ≡ count
+    → Taken first next n ps m first' ps' count'
+taken first next n k count ps qs m first' ps' count' is place e1 e2 e3 e4 trimmed e5 =
+    let entries = e3 ∙ ap (entries_from first) e1 in
     record {
-      shelf = record { numbers = omega (arith, is.numbers, e4, ap length e1, emptied-length k ps); trimmed = trimmed };
+      shelf = record {
+        numbers = omega (arith, is.numbers, e4, ap length e1, emptied-length k ps);
+        trimmed = trimmed;
+        counted = omega (arith, ap length entries, counted-without k first ps, ap (λ o. length (option_to_list o)) e2, is.counted, e5);
+      };
       message = e2 ∙ sym (found-at k first ps) ∙ ap (λ (j : ℕ). lookup (is_number j) (entries_from first ps)) place;
-      entries = e3 ∙ ap (entries_from first) e1 ∙ sym (left-at k first ps) ∙ ap (λ (j : ℕ). remove_entry (is_number j) (entries_from first ps)) place;
+      entries = entries ∙ sym (left-at k first ps) ∙ ap (λ (j : ℕ). remove_entry (is_number j) (entries_from first ps)) place;
     }
+
+-- the message that leaves is one of them
+pub one-of : (k first count : ℕ) (ps : List (Option Message)) (m : Option Message) → length (entries_from first ps) ≡ count → m ≡ message_at k ps → length (option_to_list m) ≤ count
+one-of k first count ps m counted is = omega (arith, counted, counted-without k first ps, ap (λ o. length (option_to_list o)) is)

@@ -2,3 +2,4 @@ pub mod Queued
 pub mod Lines
 pub mod Shelved
 pub mod InLists
+pub mod Holding

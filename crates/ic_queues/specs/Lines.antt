@@ -4,6 +4,7 @@ use Rattle.std.specs.Option.{option_to_list}
 use Rattle.std.specs.List.{fold, AllByRecursion}
 use Rattle.std.specs.List.Sorted.{IsStrictlySortedBy}
 use Rattle.std.specs.Map.{lookup, remove_entry, set_value, keys_of}
+use Rattle.std.specs.Set.{remove_key}
 use Rattle.std.specs.BTreeMap.{is_at, insert_entry}
 use Rattle.std.specs.Ordering.{nat_cmp}
 use Rattle.std.specs.Cmp.Lexicographic.{slice_cmp}
@@ -60,6 +61,18 @@ waiting_with waiting key n (Some line) = set_value (at key) waiting (line ++ n �
 abbrev pub outside_with : List ℕ → ℕ → Option (List ℕ) → List ℕ
 outside_with outside n None = outside ++ n ∷ []
 outside_with outside n (Some line) = outside
+
+-- a number leaves its queue
+abbrev pub without_number : ℕ → List ℕ → List ℕ
+without_number n line = remove_key (is_number n) line
+
+abbrev pub waiting_without : List (List ℕ × List ℕ) → (key : List ℕ) → ℕ → Option (List ℕ) → List (List ℕ × List ℕ)
+waiting_without waiting key n None = waiting
+waiting_without waiting key n (Some line) = set_value (at key) waiting (without_number n line)
+
+abbrev pub outside_without : List ℕ → ℕ → Option (List ℕ) → List ℕ
+outside_without outside n None = without_number n outside
+outside_without outside n (Some line) = outside
 
 -- ---- many messages
 

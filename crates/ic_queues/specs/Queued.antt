@@ -1,11 +1,12 @@
 -- Messages in queues: one for each canister, and one for those to no canister. No standard has this.
-use Rattle.std.specs.Prelude.{ℕ, Bool, true, cond, not, ◌&&◌, ◌||◌, List, [], ◌∷◌, ◌++◌, codes, Option, None}
-use Rattle.std.specs.List.{list_any, filter, find}
+use Rattle.std.specs.Prelude.{ℕ, Bool, true, false, cond, not, ◌&&◌, ◌||◌, List, [], ◌∷◌, ◌++◌, codes, Option, Some, None}
+use Rattle.std.specs.List.{list_any, filter, find, remove}
 use Rattle.std.specs.Set.{remove_key}
 use Rattle.std.specs.Str.{bytes_eq}
 use Rattle.ic_behaviour.specs.declared.call.Message.{Message}
 use Rattle.ic_behaviour.specs.declared.call.Message.TheVariants.{Call, Answer}
 use Rattle.ic_behaviour.specs.State.{at, callee_of}
+use Rattle.ic_behaviour.specs.Steps.{same_way}
 use Rattle.ic_behaviour.specs.Deliver.{is_management}
 
 -- ---- messages that make or delete canisters
@@ -48,6 +49,15 @@ without_first_to key w = cond (has_queue w.canisters key) (record w { messages =
 -- a message comes last
 abbrev pub push : Queued → Message → Queued
 push w m = record w { messages = w.messages ++ m ∷ []; steady = w.steady && is_steady m }
+
+-- the message at a place leaves
+abbrev pub without_at : (place : ℕ) → Queued → Queued
+without_at place w = record w { messages = remove w.messages place }
+
+-- there is a message, and no earlier one has its sender and its callee
+abbrev pub first_of_way : (earlier : List Message) → Option Message → Bool
+first_of_way earlier None = false
+first_of_way earlier (Some m) = not (list_any (same_way m) earlier)
 
 -- the messages to no canister, and the list without them
 abbrev pub outs : Queued → List Message

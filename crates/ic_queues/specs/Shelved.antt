@@ -1,6 +1,7 @@
 -- Messages under numbers that rise, with empty places between them. No standard has this.
-use Rattle.std.specs.Prelude.{◌≡◌, ℕ, zero, suc, ◌+◌, Bool, true, false, List, [], ◌∷◌, length, Option, Some, None}
+use Rattle.std.specs.Prelude.{◌≡◌, ℕ, zero, suc, ◌+◌, Bool, true, false, List, [], ◌∷◌, length, option_map, Option, Some, None}
 use Rattle.ic_behaviour.specs.declared.call.Message.{Message}
+use Rattle.ic_behaviour.specs.Steps.{same_way}
 
 -- the messages with their numbers, and the number of the next one
 pub record Shelved : Type 0 where
@@ -18,10 +19,11 @@ starts_empty [] = false
 starts_empty (None ∷ places) = true
 starts_empty (Some m ∷ places) = false
 
--- each number below the next has a place, and no empty place is before all messages
-pub record IsShelf (first : ℕ) (places : List (Option Message)) (next : ℕ) : Type 0 where
+-- each number below the next has a place, no empty place is before all messages, and there are `count` messages
+pub record IsShelf (first : ℕ) (places : List (Option Message)) (next count : ℕ) : Type 0 where
   pub numbers : first + length places ≡ next
   pub trimmed : starts_empty places ≡ false
+  pub counted : length (entries_from first places) ≡ count
 
 abbrev pub messages_of : List (Option Message) → List Message
 messages_of [] = []
@@ -39,3 +41,14 @@ abbrev pub emptied : ℕ → List (Option Message) → List (Option Message)
 emptied k [] = []
 emptied zero (place ∷ places) = None ∷ places
 emptied (suc k) (place ∷ places) = place ∷ emptied k places
+
+-- the index of the message at a place of the list
+abbrev pub index_at : (place : ℕ) → List (Option Message) → Option ℕ
+index_at place [] = None
+index_at place (None ∷ places) = option_map suc (index_at place places)
+index_at zero (Some m ∷ places) = Some 0
+index_at (suc place) (Some m ∷ places) = option_map suc (index_at place places)
+
+abbrev pub has_way : Option Message → Message → Bool
+has_way None m = false
+has_way (Some other) m = same_way m other

@@ -7,6 +7,7 @@
 #![tactic(auto)]
 
 mod gathered;
+mod held;
 mod line;
 mod lists;
 mod queues;

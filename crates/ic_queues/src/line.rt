@@ -1,4 +1,5 @@
 ghost use Rattle.std.specs.Prelude.{◌≡◌, ◌++◌, ◌∷◌, [], drop, slice_get, OnOk};
+ghost use Rattle.ic_queues.specs.Lines.{without_number};
 
 use ic_base::NoMemory;
 use std::alloc::Global;
@@ -43,6 +44,19 @@ impl Line {
         ensures rest { self.new ≡ drop 1 self.old }
     {
         self.numbers.pop_front()
+    }
+
+    /// A number leaves, if it is there.
+    pub fn remove(&mut self, number: u64)
+        ensures { self.new ≡ without_number number self.old }
+    {
+        if let Some(place) = self
+            .numbers
+            .iter()
+            .position(|other| number.cmp(other).is_eq())
+        {
+            self.numbers.remove(place);
+        }
     }
 
     /// The numbers.

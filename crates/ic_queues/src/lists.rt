@@ -1,16 +1,17 @@
-ghost use Rattle.std.specs.Prelude.{◌≡◌, ◌&&◌, OnOk};
-ghost use Rattle.std.specs.Map.{lookup};
+ghost use Rattle.std.specs.Prelude.{◌≡◌, ◌&&◌, slice_get, OnOk};
+ghost use Rattle.std.specs.Map.{lookup, remove_entry, values_of};
 ghost use Rattle.ic_behaviour.specs.State.{at};
-ghost use Rattle.ic_queues.specs.Queued.{may_change_canisters, is_steady, first_to, without_first_to, push};
-ghost use Rattle.ic_queues.specs.Lines.{remove_number, numbered, waiting_with, outside_with, popped_line, line_at};
+ghost use Rattle.ic_queues.specs.Queued.{may_change_canisters, is_steady, first_to, without_first_to, without_at, push};
+ghost use Rattle.ic_queues.specs.Lines.{is_number, remove_number, numbered, waiting_with, outside_with, waiting_without, outside_without, popped_line, line_at};
 ghost use Rattle.ic_queues.specs.InLists.{queued_of, AreQueued};
 
+use crate::held::Held;
 use crate::line::Line;
 use crate::shelf::Shelf;
 use ic_base::NoMemory;
 use ic_calls::{callee, is_management};
 use ic_principal::Principal;
-use ic_state::{Message, MessagePlace};
+use ic_state::Message;
 use std::alloc::Global;
 use std::collections::BTreeMap;
 
@@ -59,7 +60,7 @@ fn still_steady(steady: bool, message: &Message) -> bool
 }
 
 // The message of a number leaves, if there is one.
-fn taken(messages: &mut Shelf, number: Option<u64>) -> Option<MessagePlace>
+fn taken(messages: &mut Shelf, number: Option<u64>) -> Option<Held>
     ensures messages { messages.new.entries ≡ remove_number number messages.old.entries }
     ensures next { messages.new.next ≡ messages.old.next }
     ensures message { result ≡ numbered number messages.old.entries }
@@ -94,9 +95,25 @@ fn line_up(
     }
 }
 
+// A number leaves the queue of its callee.
+fn leave_line(
+    waiting: &mut BTreeMap<Principal, Line>,
+    outside: &mut Line,
+    callee: &Principal,
+    number: u64,
+)
+    ensures waiting { waiting.new.entries ≡ waiting_without waiting.old.entries callee.now number (lookup (at callee.now) waiting.old.entries) }
+    ensures outside { outside.new ≡ outside_without outside.old number (lookup (at callee.now) waiting.old.entries) }
+{
+    match waiting.get_mut(callee) {
+        Some(line) => line.remove(number),
+        None => outside.remove(number),
+    }
+}
+
 impl Lists {
     /// Takes the first message to a canister.
-    pub fn pop(&mut self, key: &Principal) -> Option<MessagePlace>
+    pub fn pop(&mut self, key: &Principal) -> Option<Held>
         requires { AreQueued self.old }
         ensures keeps { AreQueued self.new }
         ensures queues { queued_of self.new ≡ without_first_to key.now (queued_of self.old) }
@@ -104,6 +121,37 @@ impl Lists {
     {
         let number = pop_number(&mut self.waiting, key);
         taken(&mut self.messages, number)
+    }
+
+    /// Takes the message at a place of the list, if there is one.
+    pub fn take_at(&mut self, place: usize) -> Option<Message>
+        requires { AreQueued self.old }
+        ensures keeps { AreQueued self.new }
+        ensures queues { queued_of self.new ≡ without_at place (queued_of self.old) }
+        ensures message { result ≡ slice_get (queued_of self.old).messages place }
+    {
+        match self.messages.number_at(place) {
+            Some(number) => self.take_number(number),
+            None => None,
+        }
+    }
+
+    // Takes the message of a number, if it is there.
+    fn take_number(&mut self, number: u64) -> Option<Message>
+        requires { AreQueued self.old }
+        ensures keeps { AreQueued self.new }
+        ensures messages { (queued_of self.new).messages ≡ values_of (remove_entry (is_number number) self.old.messages.entries) }
+        ensures rest { queued_of self.new ≡ record (queued_of self.old) { messages = (queued_of self.new).messages } }
+        ensures message { result ≡ lookup (is_number number) self.old.messages.entries }
+    {
+        match self.messages.take(number) {
+            Some(held) => {
+                let callee = held.callee();
+                leave_line(&mut self.waiting, &mut self.outside, &callee, number);
+                Some(held.take())
+            }
+            None => None,
+        }
     }
 
     /// Puts a message after the others.

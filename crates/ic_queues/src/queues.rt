@@ -1,12 +1,12 @@
-ghost use Rattle.std.specs.Prelude.{◌≡◌, ◌==◌, ◌&&◌, ◌++◌, true, length, [], IfOk, OnOk};
+ghost use Rattle.std.specs.Prelude.{◌≡◌, ◌==◌, ◌&&◌, ◌++◌, true, length, take, slice_get, [], IfOk, OnOk};
 ghost use Rattle.std.specs.List.{AllByRecursion};
 ghost use Rattle.std.specs.List.Sorted.{IsStrictlySortedBy};
-ghost use Rattle.std.specs.Map.{lookup};
+ghost use Rattle.std.specs.Map.{lookup, keys_of};
 ghost use Rattle.std.specs.Ordering.{nat_cmp};
 ghost use Rattle.std.specs.Cmp.Lexicographic.{slice_cmp};
 ghost use Rattle.ic_behaviour.specs.State.{at};
 ghost use Rattle.ic_behaviour.specs.Deliver.{is_management};
-ghost use Rattle.ic_queues.specs.Queued.{may_change_canisters, is_steady, first_to, without_first_to, push, outs, without_outs, no_messages};
+ghost use Rattle.ic_queues.specs.Queued.{may_change_canisters, is_steady, first_to, without_first_to, without_at, first_of_way, push, outs, without_outs, no_messages};
 ghost use Rattle.ic_queues.specs.Lines.{remove_number, numbered, waiting_with, outside_with, empty_lines, popped_line, line_at};
 
 use crate::gathered::gather_all;
@@ -15,7 +15,7 @@ use crate::lists::Lists;
 use crate::shelf::Shelf;
 use ic_base::NoMemory;
 use ic_principal::Principal;
-use ic_state::{MessagePlace, Messages};
+use ic_state::{CanisterPlace, Message, MessagePlace, Messages};
 use std::alloc::Global;
 use std::collections::BTreeMap;
 use std::marker::Model;
@@ -72,11 +72,30 @@ impl Queues {
         Ok(Queues { lists })
     }
 
+    /// How many messages there are.
+    pub fn len(&self) -> usize
+        ensures { result ≡ length self.now.messages }
+    {
+        self.lists.messages.len()
+    }
+
     /// Whether there is no message.
     pub fn is_empty(&self) -> bool
         ensures { result ≡ (length self.now.messages == 0) }
     {
         self.lists.messages.is_empty()
+    }
+
+    /// Whether each of these canisters has a queue, and nobody else.
+    pub fn are_of(&self, canisters: &BTreeMap<Principal, CanisterPlace>) -> bool
+        ensures { result ≡ true → self.now.canisters ≡ keys_of canisters.now.entries }
+    {
+        let waiting = &self.lists.waiting;
+        waiting.len() == canisters.len()
+            && waiting
+                .keys()
+                .zip(canisters.keys())
+                .all(|(key, other)| *key == *other)
     }
 
     /// Whether no message makes or deletes a canister; `false` says nothing.
@@ -87,11 +106,43 @@ impl Queues {
     }
 
     /// Takes the first message to a canister.
-    pub fn pop(&mut self, key: &Principal) -> Option<MessagePlace>
-        ensures queues { self.new ≡ without_first_to key.now self.old }
-        ensures message { result ≡ first_to key.now self.old }
+    pub fn pop(&mut self, alloc: Global, key: &Principal) -> Result<Option<MessagePlace>, NoMemory>
+        ensures queues { OnOk result (self.new ≡ without_first_to key.now self.old) }
+        ensures message { IfOk result (λ m. m ≡ first_to key.now self.old) }
     {
-        self.lists.pop(key)
+        match self.lists.pop(key) {
+            Some(held) => Ok(Some(held.into_place(alloc)?)),
+            None => Ok(None),
+        }
+    }
+
+    /// Whether there is a message at a place of the list, and none before it has its sender and its callee.
+    pub fn is_eligible(&self, place: usize) -> bool
+        ensures { result ≡ first_of_way (take place self.now.messages) (slice_get self.now.messages place) }
+    {
+        self.lists.messages.is_eligible(place)
+    }
+
+    /// Takes the message at a place of the list, if there is one.
+    pub fn take_at(&mut self, place: usize) -> Option<Message>
+        ensures queues { self.new ≡ without_at place self.old }
+        ensures message { result ≡ slice_get self.old.messages place }
+    {
+        self.lists.take_at(place)
+    }
+
+    /// Whether there is much empty room between the messages.
+    pub fn is_sparse(&self) -> bool {
+        self.lists.messages.is_sparse()
+    }
+
+    /// Puts a message after the others.
+    pub fn push(self, alloc: Global, message: Message) -> Result<Queues, NoMemory>
+        ensures { IfOk result (λ w. w ≡ push self message) }
+    {
+        let Queues { mut lists } = self;
+        lists.push(alloc, message)?;
+        Ok(Queues { lists })
     }
 
     /// Puts messages after the others.

@@ -1,15 +1,22 @@
-ghost use Rattle.std.specs.Prelude.{◌≡◌, ◌+◌, ◌++◌, ◌∷◌, ◌==◌, ◌<◌, ◌^◌, [], false, length, IfOk, OnOk};
+ghost use Rattle.std.specs.Prelude.{◌≡◌, ◌+◌, ◌++◌, ◌∷◌, ◌==◌, ◌<◌, ◌≤◌, ◌^◌, [], false, length, take, slice_get, IfOk, OnOk};
 ghost use Rattle.std.specs.Option.{option_to_list};
-ghost use Rattle.std.specs.Map.{lookup, remove_entry, values_of};
+ghost use Rattle.std.specs.Map.{lookup, remove_entry, keys_of, values_of};
+ghost use Rattle.std.specs.List.{list_any};
+ghost use Rattle.ic_behaviour.specs.Steps.{same_way};
+ghost use Rattle.ic_queues.specs.Queued.{first_of_way};
 ghost use Rattle.ic_queues.specs.Lines.{is_number};
-ghost use Rattle.ic_queues.specs.Shelved.{entries_from, starts_empty, emptied, message_at, messages_of};
+ghost use Rattle.ic_queues.specs.Shelved.{entries_from, starts_empty, emptied, message_at, messages_of, index_at, has_way};
 
+use crate::held::Held;
 use ic_base::NoMemory;
-use ic_state::{Message, MessagePlace, Messages};
+use ic_state::{Message, Messages};
 use std::alloc::{AllocError, Global};
 use std::collections::VecDeque;
 use std::marker::Model;
 use std::mem::replace;
+
+/// Fewer places are not worth a thought.
+const SPARSE: usize = 64;
 
 /// Messages under numbers that rise. The place of one that left stays empty until all before it have
 /// left, so that none is moved. Contracts see the messages with their numbers, and the next number.
@@ -17,9 +24,11 @@ use std::mem::replace;
 pub struct Shelf {
     /// The number of the first place.
     first: u64,
-    places: VecDeque<Option<MessagePlace>>,
+    places: VecDeque<Option<Held>>,
     /// The number of the next message.
     next: u64,
+    /// How many places have a message.
+    count: usize,
 }
 
 impl Model for Shelf {
@@ -29,11 +38,11 @@ impl Model for Shelf {
 
     ghost view = { λ s. record { entries = entries_from s.first s.places.items; next = s.next } };
 
-    ghost invariant = { λ s. IsShelf s.first s.places.items s.next };
+    ghost invariant = { λ s. IsShelf s.first s.places.items s.next s.count };
 }
 
 // Whether the first place is empty.
-fn starts_empty(places: &VecDeque<Option<MessagePlace>>) -> bool
+fn starts_empty(places: &VecDeque<Option<Held>>) -> bool
     ensures { result ≡ starts_empty places.now.items }
 {
     match places.front() {
@@ -43,7 +52,7 @@ fn starts_empty(places: &VecDeque<Option<MessagePlace>>) -> bool
 }
 
 // Lets go of the empty places before the first message.
-fn trim(first: &mut u64, places: &mut VecDeque<Option<MessagePlace>>)
+fn trim(first: &mut u64, places: &mut VecDeque<Option<Held>>)
     requires small { first.old + length places.old.items < 2 ^ 64 }
     ensures entries { entries_from first.new places.new.items ≡ entries_from first.old places.old.items }
     ensures numbers { first.new + length places.new.items ≡ first.old + length places.old.items }
@@ -56,7 +65,7 @@ fn trim(first: &mut u64, places: &mut VecDeque<Option<MessagePlace>>)
 }
 
 // Empties a place, if there is one of that index.
-fn empty(places: &mut VecDeque<Option<MessagePlace>>, place: usize) -> Option<MessagePlace>
+fn empty(places: &mut VecDeque<Option<Held>>, place: usize) -> Option<Held>
     ensures places { places.new.items ≡ emptied place places.old.items }
     ensures message { result ≡ message_at place places.old.items }
 {
@@ -67,8 +76,69 @@ fn empty(places: &mut VecDeque<Option<MessagePlace>>, place: usize) -> Option<Me
     }
 }
 
+// The index of the message at a place of the list, if there is one.
+fn index_at(places: &VecDeque<Option<Held>>, place: usize) -> Option<usize>
+    ensures { result ≡ index_at place places.now.items }
+{
+    let mut left = place;
+    for index in 0..places.len() {
+        if places[index].is_some() {
+            if left == 0 {
+                return Some(index);
+            }
+            left -= 1;
+        }
+    }
+    None
+}
+
+// Whether a place has a message of the same way.
+fn has_way(place: &Option<Held>, message: &Held) -> bool
+    ensures { result ≡ has_way place.now message.now }
+{
+    match place {
+        Some(other) => message.same_way(other),
+        None => false,
+    }
+}
+
+// Whether a place before this index has a message of the same way.
+fn has_earlier(places: &VecDeque<Option<Held>>, index: usize, message: &Held) -> bool
+    requires { index ≤ length places.now.items }
+    ensures { result ≡ list_any (same_way message.now) (messages_of (take index places.now.items)) }
+{
+    for other in 0..index {
+        if has_way(&places[other], message) {
+            return true;
+        }
+    }
+    false
+}
+
+// Whether no message before this index has the sender and the callee of the one that is there.
+fn is_first_at(places: &VecDeque<Option<Held>>, index: usize) -> bool
+    requires { index < length places.now.items }
+    ensures { result ≡ first_of_way (messages_of (take index places.now.items)) (message_at index places.now.items) }
+{
+    match &places[index] {
+        Some(message) => !has_earlier(places, index, message),
+        None => false,
+    }
+}
+
+// How many messages there are once this one, if there is one, has left.
+fn count_without(count: usize, message: &Option<Held>) -> usize
+    requires some { length (option_to_list message.now) ≤ count }
+    ensures { result + length (option_to_list message.now) ≡ count }
+{
+    match message {
+        Some(_) => count - 1,
+        None => count,
+    }
+}
+
 // Puts the message of a place, if there is one, after the others.
-fn put(items: &mut Vec<Message>, place: Option<MessagePlace>) -> Result<(), NoMemory>
+fn put(items: &mut Vec<Message>, place: Option<Held>) -> Result<(), NoMemory>
     ensures { OnOk result (items.new.items ≡ items.old.items ++ option_to_list place) }
 {
     if let Some(place) = place {
@@ -78,7 +148,7 @@ fn put(items: &mut Vec<Message>, place: Option<MessagePlace>) -> Result<(), NoMe
 }
 
 // The messages of places, in their order.
-fn messages_of(alloc: Global, places: VecDeque<Option<MessagePlace>>) -> Result<Messages, NoMemory>
+fn messages_of(alloc: Global, places: VecDeque<Option<Held>>) -> Result<Messages, NoMemory>
     ensures { IfOk result (λ l. l ≡ messages_of places.items) }
 {
     let mut items = Vec::with_capacity(alloc, places.len())?;
@@ -97,7 +167,15 @@ impl Shelf {
             first: 0,
             places: VecDeque::new(alloc),
             next: 0,
+            count: 0,
         }
+    }
+
+    /// How many messages there are.
+    pub fn len(&self) -> usize
+        ensures { result ≡ length self.now.entries }
+    {
+        self.count
     }
 
     /// Whether there is no message.
@@ -117,14 +195,15 @@ impl Shelf {
         let Some(after) = number.checked_add(1) else {
             return Err(AllocError);
         };
-        let place = MessagePlace::new(alloc, message)?;
+        let place = Held::new(alloc, message)?;
         self.places.push_back(Some(place))?;
         self.next = after;
+        self.count += 1;
         Ok(number)
     }
 
     /// Takes the message of a number, if it is there.
-    pub fn take(&mut self, number: u64) -> Option<MessagePlace>
+    pub fn take(&mut self, number: u64) -> Option<Held>
         ensures message { result ≡ lookup (is_number number) self.old.entries }
         ensures rest { self.new ≡ record { entries = remove_entry (is_number number) self.old.entries; next = self.old.next } }
     {
@@ -134,7 +213,34 @@ impl Shelf {
         let place = number - self.first;
         let message = empty(&mut self.places, place as usize);
         trim(&mut self.first, &mut self.places);
+        self.count = count_without(self.count, &message);
         message
+    }
+
+    /// The number of the message at a place of the list, if there is one.
+    pub fn number_at(&self, place: usize) -> Option<u64>
+        ensures { result ≡ slice_get (keys_of self.now.entries) place }
+    {
+        let _next = self.next;
+        match index_at(&self.places, place) {
+            Some(index) => Some(self.first + index as u64),
+            None => None,
+        }
+    }
+
+    /// Whether there is a message at a place of the list, and none before it has its sender and its callee.
+    pub fn is_eligible(&self, place: usize) -> bool
+        ensures { result ≡ first_of_way (take place (values_of self.now.entries)) (slice_get (values_of self.now.entries) place) }
+    {
+        match index_at(&self.places, place) {
+            Some(index) => is_first_at(&self.places, index),
+            None => false,
+        }
+    }
+
+    /// Whether more places are empty than have a message, and more than a few.
+    pub fn is_sparse(&self) -> bool {
+        self.places.len() / 2 > SPARSE.max(self.count)
     }
 
     /// The messages, in their order.

@@ -1,4 +1,4 @@
 pub mod Eligibles
 pub mod Chains
 mod Puts
-mod Handings
+pub mod Handings

@@ -2,7 +2,7 @@ use Rattle.std.proofs.Common.{◌<◌, ◌-◌, length, sym, ap, ◌∙◌, arit
 use Rattle.std.specs.Map.{lookup, remove_entry}
 use Rattle.ic_queues.specs.Lines.{is_number}
 use Rattle.ic_queues.specs.Shelved.{Shelved}
-use Rattle.ic_queues.proofs.Shelves.{before-first, emptied-length, Taken, taken}
+use Rattle.ic_queues.proofs.Shelves.{before-first, emptied-length, Taken, taken, one-of}
 use Rattle.ic_queues.proofs.shelf.Shelf.take.Goals as goal
 
 pub returns-then-number-self-clause-message : goal.returns-then-number-self-clause-message
@@ -20,11 +20,15 @@ trim-requires c =
     let small : c.self.inside.next < 18446744073709551616 = search rules in
     record { small = omega (arith, small, c.self.invariant.numbers, ap length c.empty-message.ensures.places, emptied-length (c.args.number - c.self.inside.first) c.self.inside.places.items) }
 
-ends : (c : goal.After-trim) → Taken c.self.inside.first c.self.inside.next c.args.number c.self.inside.places.items c.empty-message.result c.trim.new.first c.trim.new.places.items
+pub count_without-self-inside-requires : goal.count_without-self-inside-requires
+count_without-self-inside-requires c =
+    record { some = one-of (c.args.number - c.self.inside.first) c.self.inside.first c.self.inside.count c.self.inside.places.items c.empty-message.result c.self.invariant.counted c.empty-message.ensures.message }
+
+ends : (c : goal.After-self-1) → Taken c.self.inside.first c.self.inside.next c.args.number c.self.inside.places.items c.empty-message.result c.trim.new.first c.trim.new.places.items c.count_without-self-inside.result
 ends c =
-    taken c.self.inside.first c.self.inside.next c.args.number (c.args.number - c.self.inside.first) c.self.inside.places.items c.empty-message.new.places.items c.empty-message.result
-    c.trim.new.first c.trim.new.places.items c.self.invariant (omega (arith, c.if-number-self.false)) c.empty-message.ensures.places c.empty-message.ensures.message
-    c.trim.ensures.entries c.trim.ensures.numbers c.trim.ensures.trimmed
+    taken c.self.inside.first c.self.inside.next c.args.number (c.args.number - c.self.inside.first) c.self.inside.count c.self.inside.places.items c.empty-message.new.places.items c.empty-message.result
+    c.trim.new.first c.trim.new.places.items c.count_without-self-inside.result c.self.invariant (omega (arith, c.if-number-self.false)) c.empty-message.ensures.places c.empty-message.ensures.message
+    c.trim.ensures.entries c.trim.ensures.numbers c.trim.ensures.trimmed c.count_without-self-inside.ensures
 
 pub invariant_of-self : goal.invariant_of-self
 invariant_of-self c = (ends c).shelf

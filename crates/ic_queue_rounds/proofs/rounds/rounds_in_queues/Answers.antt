@@ -1,7 +1,7 @@
 use Rattle.std.proofs.Common.{length, sym, ◌∙◌, arith}
 use Rattle.std.proofs.lemmas.Bool.{eqb-true, eqb-false}
 use Rattle.ic_queue_rounds.proofs.Roundings.{Rounding-more, Rounding-none, Rounding-all}
-use Rattle.ic_queue_rounds.proofs.rounds.queued_rounds.Goals as goal
+use Rattle.ic_queue_rounds.proofs.rounds.rounds_in_queues.Goals as goal
 
 pub loop-made-preserved : goal.loop-made-preserved
 loop-made-preserved g c =

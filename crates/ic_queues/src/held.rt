@@ -1,0 +1,198 @@
+ghost use Rattle.std.specs.Prelude.{◌≡◌, IfOk, IfErr, IfSome};
+ghost use Rattle.ic_behaviour.specs.declared.call.Origin.TheVariants.{Ingress};
+ghost use Rattle.ic_behaviour.specs.State.{callee_of};
+ghost use Rattle.ic_behaviour.specs.Steps.{sender_of, same_way};
+ghost use Rattle.ic_queues.specs.Holding.{user_message};
+
+use ic_base::NoMemory;
+use ic_calls::{callee, sender};
+use ic_principal::{Bytes, Principal, Text};
+use ic_state::{Message, MessagePlace, Origin};
+use std::alloc::Global;
+use std::marker::Model;
+
+/// A call of a user, which carries no cycles.
+#[derive(Drop)]
+pub struct UserCall {
+    /// The number of its request.
+    pub number: u32,
+    pub sender: Principal,
+    pub callee: Principal,
+    pub method: Text,
+    pub arg: Bytes,
+}
+
+/// How a message waits.
+#[derive(Drop)]
+pub enum Kind {
+    User(Box<UserCall>),
+    Other(Box<Message>),
+}
+
+/// A message that waits. A call of a user takes half the memory of another message. Contracts see the message.
+pub struct Held {
+    kind: Kind,
+}
+
+impl Drop for Held {
+    fn drop(self) {
+        let Held { kind: _kind } = self;
+    }
+}
+
+impl Model for Held {
+    ghost use Rattle.ic_behaviour.specs.declared.call.Message.{Message};
+    ghost use Rattle.ic_queues.specs.Holding.{message_of};
+
+    ghost Value = { Message };
+
+    ghost view = { λ h. message_of h.kind };
+}
+
+// The number of the request, where a call comes from a user and carries no cycles.
+fn user_number(origin: &Origin, cycles: u128) -> Option<u32>
+    ensures { IfSome result (λ number. (origin.now ≡ Ingress number) × (cycles ≡ 0)) }
+{
+    match origin {
+        Origin::Ingress(number) => { if cycles == 0 { Some(*number) } else { None } }
+        Origin::Canister { .. } => None,
+    }
+}
+
+// A user's call that carries no cycles, or else the message itself.
+fn user_call(message: Message) -> Result<UserCall, Message>
+    ensures call { IfOk result (λ call. user_message call ≡ message) }
+    ensures other { IfErr result (λ m. m ≡ message) }
+{
+    match message {
+        Message::Call {
+            origin,
+            sender,
+            callee,
+            method,
+            arg,
+            cycles,
+        } => match user_number(&origin, cycles) {
+            Some(number) => Ok(UserCall {
+                number,
+                sender,
+                callee,
+                method,
+                arg,
+            }),
+            None => Err(Message::Call {
+                origin,
+                sender,
+                callee,
+                method,
+                arg,
+                cycles,
+            }),
+        },
+        Message::Answer {
+            origin,
+            sender,
+            response,
+            refund,
+        } => Err(Message::Answer {
+            origin,
+            sender,
+            response,
+            refund,
+        }),
+    }
+}
+
+fn held_other(alloc: Global, message: Message) -> Result<Held, NoMemory>
+    ensures { IfOk result (λ h. h ≡ message) }
+{
+    let kind = Kind::Other(Box::new(alloc, message)?);
+    Ok(Held { kind })
+}
+
+fn held_call(alloc: Global, call: UserCall) -> Result<Held, NoMemory>
+    ensures { IfOk result (λ h. h ≡ user_message call) }
+{
+    let kind = Kind::User(Box::new(alloc, call)?);
+    Ok(Held { kind })
+}
+
+impl Held {
+    /// Moves the message to its place.
+    pub fn new(alloc: Global, message: Message) -> Result<Held, NoMemory>
+        ensures { IfOk result (λ h. h ≡ message) }
+    {
+        match user_call(message) {
+            Ok(call) => held_call(alloc, call),
+            Err(message) => held_other(alloc, message),
+        }
+    }
+
+    /// Takes the message out of its place.
+    pub fn take(self) -> Message
+        ensures { result ≡ self }
+    {
+        let Held { kind } = self;
+        match kind {
+            Kind::User(call) => Box::into_inner(call).into_message(),
+            Kind::Other(message) => Box::into_inner(message),
+        }
+    }
+
+    /// Moves the message to a place of its own.
+    pub fn into_place(self, alloc: Global) -> Result<MessagePlace, NoMemory>
+        ensures { IfOk result (λ p. p ≡ self) }
+    {
+        MessagePlace::new(alloc, self.take())
+    }
+
+    /// Who sent it.
+    pub fn sender(&self) -> Principal
+        ensures { result ≡ sender_of self.now }
+    {
+        match &self.kind {
+            Kind::User(call) => call.sender,
+            Kind::Other(message) => sender(message),
+        }
+    }
+
+    /// To whom it goes.
+    pub fn callee(&self) -> Principal
+        ensures { result ≡ callee_of self.now }
+    {
+        match &self.kind {
+            Kind::User(call) => call.callee,
+            Kind::Other(message) => callee(message),
+        }
+    }
+
+    /// Whether this message and another have one sender and one callee.
+    pub fn same_way(&self, other: &Held) -> bool
+        ensures { result ≡ same_way self.now other.now }
+    {
+        self.sender().cmp(&other.sender()).is_eq() && self.callee().cmp(&other.callee()).is_eq()
+    }
+}
+
+impl UserCall {
+    // The call, as a message.
+    fn into_message(self) -> Message
+        ensures { result ≡ user_message self }
+    {
+        let UserCall {
+            number,
+            sender,
+            callee,
+            method,
+            arg,
+        } = self;
+        Message::Call {
+            origin: Origin::Ingress(number),
+            sender,
+            callee,
+            method,
+            arg,
+            cycles: 0,
+        }
+    }
+}
