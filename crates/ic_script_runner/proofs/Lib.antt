@@ -11,4 +11,4 @@ mod PieceBounds
 mod Streams
 pub mod Keeps
 mod Gathering
-mod PickLaws
+mod Asked

@@ -12,18 +12,19 @@ ghost use Rattle.ic_options.specs.Options.{HasBounds};
 ghost use Rattle.ic_output.specs.Texts.{accepted_text, query_text, call_refused_text, state_line, witness_text};
 
 use crate::picking::picked;
-use ic_asking::{accepts_now, answer_now};
+use ic_asking::{accepts_beside, answer_beside};
 use ic_base::NoMemory;
 use ic_candid_lines::{decode_text, encode_text, show_text, upgrade_text};
 use ic_options::Options;
 use ic_output::{
-    accepted_text, call_refused_text, pick_text, query_text, ran_text, state_line, witness_line,
+    accepted_text, call_refused_text, line_of_parts, pick_text, query_text, ran_text,
+    witness_line_of_parts,
 };
 use ic_outside::Gate;
 use ic_principal::Bytes;
-use ic_queue_rounds::run_rounds;
+use ic_queue_rounds::{Crew, QueuedWorld, rounds_in_queues};
 use ic_script::{Ask, Command, LineCause, LineError, Paths, parse_line};
-use ic_state::{Charge, World};
+use ic_state::Charge;
 use std::alloc::{AllocError, Global};
 use std::thread::Threads;
 
@@ -73,10 +74,10 @@ pub fn do_line<R: Threads + Sync, G: Gate + Sync>(
     alloc: Global,
     rt: &R,
     options: &Options,
-    world: World,
+    world: QueuedWorld,
     line: &[u8],
     gate: &G,
-) -> Result<(World, Bytes), NotDone>
+) -> Result<(QueuedWorld, Bytes), NotDone>
     requires { HasBounds options.now }
     ensures { Acts (after_line options.now world line.now) result }
 {
@@ -89,10 +90,10 @@ fn do_command<R: Threads + Sync, G: Gate + Sync>(
     alloc: Global,
     rt: &R,
     options: &Options,
-    world: World,
+    world: QueuedWorld,
     command: Command,
     gate: &G,
-) -> Result<(World, Bytes), NotDone>
+) -> Result<(QueuedWorld, Bytes), NotDone>
     requires within { HasBounds options.now }
     requires time { (time : ℕ) → command ≡ Command.Time time → time ≤ 9223372036854775807 }
     requires size { (from to : List ℕ) → command ≡ Command.Upgradable from to
@@ -125,18 +126,18 @@ fn do_command<R: Threads + Sync, G: Gate + Sync>(
 fn submit(
     alloc: Global,
     options: &Options,
-    world: World,
+    world: QueuedWorld,
     ask: Ask,
-) -> Result<(World, Bytes), NotDone>
+) -> Result<(QueuedWorld, Bytes), NotDone>
     requires { HasBounds options.now }
     ensures { Acts (after_command options.now world (Command.Call ask)) result }
 {
-    if world.parts().requests.len() >= MOST_CALLS {
+    if world.rest().requests.len() >= MOST_CALLS {
         return Err(NotDone::Bad(LineCause::Calls));
     }
-    let mut parts = world.open();
-    let is_accepted = accepts_now(alloc, charge(options), &mut parts, &ask);
-    let world = World::seal(parts);
+    let (mut rest, queues) = world.open();
+    let is_accepted = accepts_beside(alloc, charge(options), &mut rest, &ask);
+    let world = QueuedWorld::seal(rest, queues);
     if is_accepted? {
         accept(alloc, world, ask)
     } else {
@@ -156,17 +157,17 @@ fn charge(options: &Options) -> Charge
     }
 }
 
-fn accept(alloc: Global, world: World, ask: Ask) -> Result<(World, Bytes), NotDone>
+fn accept(alloc: Global, world: QueuedWorld, ask: Ask) -> Result<(QueuedWorld, Bytes), NotDone>
     requires { length world.requests < 1048576 }
     ensures { Acts (Ok (submitted world ask.sender ask.callee ask.method ask.arg, accepted_text (length world.requests))) result }
 {
-    let number = world.parts().requests.len();
+    let number = world.rest().requests.len();
     let text = accepted_text(alloc, number)?;
-    let world = world.submit(ask.sender, ask.callee, ask.method, ask.arg)?;
+    let world = world.submit(alloc, ask.sender, ask.callee, ask.method, ask.arg)?;
     Ok((world, text))
 }
 
-fn refuse(alloc: Global, world: World) -> Result<(World, Bytes), NotDone>
+fn refuse(alloc: Global, world: QueuedWorld) -> Result<(QueuedWorld, Bytes), NotDone>
     ensures { Acts (Ok (world, call_refused_text)) result }
 {
     let text = call_refused_text(alloc)?;
@@ -177,15 +178,15 @@ fn refuse(alloc: Global, world: World) -> Result<(World, Bytes), NotDone>
 fn answer(
     alloc: Global,
     options: &Options,
-    world: World,
+    world: QueuedWorld,
     ask: Ask,
-) -> Result<(World, Bytes), NotDone>
+) -> Result<(QueuedWorld, Bytes), NotDone>
     requires { HasBounds options.now }
     ensures { Acts (Ok (world, query_text (answer_now options.now world ask))) result }
 {
-    let mut parts = world.open();
-    let answered = answer_now(alloc, charge(options), &mut parts, ask);
-    let world = World::seal(parts);
+    let (mut rest, queues) = world.open();
+    let answered = answer_beside(alloc, charge(options), &mut rest, ask);
+    let world = QueuedWorld::seal(rest, queues);
     let response = answered?;
     let text = query_text(alloc, &response)?;
     Ok((world, text))
@@ -195,15 +196,15 @@ fn make_rounds<R: Threads + Sync, G: Gate + Sync>(
     alloc: Global,
     rt: &R,
     options: &Options,
-    world: World,
+    world: QueuedWorld,
     count: u32,
     gate: &G,
-) -> Result<(World, Bytes), NotDone>
+) -> Result<(QueuedWorld, Bytes), NotDone>
     requires { HasBounds options.now }
     ensures { Acts (Ok (after_rounds options.now count world, text_of_rounds options.now count world)) result }
 {
     let (world, made) = run_rounds_by(alloc, rt, options, world, count, gate)?;
-    let text = ran_text(alloc, made, world.parts().messages.items.len())?;
+    let text = ran_text(alloc, made, world.len())?;
     Ok((world, text))
 }
 
@@ -213,34 +214,34 @@ pub fn run_rounds_by<R: Threads + Sync, G: Gate + Sync>(
     alloc: Global,
     rt: &R,
     options: &Options,
-    world: World,
+    world: QueuedWorld,
     count: u32,
     gate: &G,
-) -> Result<(World, u32), NoMemory>
+) -> Result<(QueuedWorld, u32), NoMemory>
     requires { HasBounds options.now }
     ensures state { IfOk result (λ r. r.0 ≡ after_rounds options.now count world) }
     ensures made { IfOk result (λ r. r.1 ≡ length (rounds (rules_of options.now) count world)) }
 {
-    match run_rounds(
-        alloc,
+    let crew = Crew {
         rt,
-        world,
-        count,
-        options.workers,
-        options.limit,
-        options.price,
+        workers: options.workers,
         gate,
-    ) {
+    };
+    match rounds_in_queues(alloc, world, count, &crew, charge(options)) {
         Ok((world, made)) => Ok((world, made)),
         Err(error) => Err(error),
     }
 }
 
-fn set_time(alloc: Global, mut world: World, time: u64) -> Result<(World, Bytes), NotDone>
+fn set_time(
+    alloc: Global,
+    mut world: QueuedWorld,
+    time: u64,
+) -> Result<(QueuedWorld, Bytes), NotDone>
     requires { time ≤ 9223372036854775807 }
     ensures { Acts (unless (fault_of world (Command.Time time)) (timed world time, [])) result }
 {
-    if time < world.parts().time {
+    if time < world.rest().time {
         return Err(NotDone::Bad(LineCause::Back));
     }
     world.set_time(time);
@@ -253,18 +254,22 @@ fn set_time(alloc: Global, mut world: World, time: u64) -> Result<(World, Bytes)
 }
 
 // The world stays as it is.
-fn show_state(alloc: Global, world: World) -> Result<(World, Bytes), NotDone>
+fn show_state(alloc: Global, world: QueuedWorld) -> Result<(QueuedWorld, Bytes), NotDone>
     ensures { Acts (Ok (world, state_line world)) result }
 {
-    let text = state_line(alloc, &world)?;
+    let text = line_of_parts(alloc, world.rest(), world.len())?;
     Ok((world, text))
 }
 
 // The world stays as it is.
-fn show_witness(alloc: Global, world: World, paths: &Paths) -> Result<(World, Bytes), NotDone>
+fn show_witness(
+    alloc: Global,
+    world: QueuedWorld,
+    paths: &Paths,
+) -> Result<(QueuedWorld, Bytes), NotDone>
     ensures { Acts (Ok (world, witness_text world paths.now)) result }
 {
-    let text = witness_line(alloc, &world, &paths.items)?;
+    let text = witness_line_of_parts(alloc, world.rest(), &paths.items)?;
     Ok((world, text))
 }
 
@@ -272,9 +277,9 @@ fn show_witness(alloc: Global, world: World, paths: &Paths) -> Result<(World, By
 fn pick(
     alloc: Global,
     options: &Options,
-    world: World,
+    world: QueuedWorld,
     place: u32,
-) -> Result<(World, Bytes), NotDone>
+) -> Result<(QueuedWorld, Bytes), NotDone>
     requires { HasBounds options.now }
     ensures { Acts (after_command options.now world (Command.Pick place)) result }
 {
@@ -285,10 +290,10 @@ fn pick(
 
 fn decode(
     alloc: Global,
-    world: World,
+    world: QueuedWorld,
     expected: &Bytes,
     bytes: &Bytes,
-) -> Result<(World, Bytes), NotDone>
+) -> Result<(QueuedWorld, Bytes), NotDone>
     ensures { Acts (Ok (world, decode_text expected.now bytes.now)) result }
 {
     let text = decode_text(alloc, &expected.items, &bytes.items)?;
@@ -297,10 +302,10 @@ fn decode(
 
 fn show(
     alloc: Global,
-    world: World,
+    world: QueuedWorld,
     expected: &Bytes,
     bytes: &Bytes,
-) -> Result<(World, Bytes), NotDone>
+) -> Result<(QueuedWorld, Bytes), NotDone>
     ensures { Acts (Ok (world, show_text expected.now bytes.now)) result }
 {
     let text = show_text(alloc, &expected.items, &bytes.items)?;
@@ -309,17 +314,22 @@ fn show(
 
 fn encode(
     alloc: Global,
-    world: World,
+    world: QueuedWorld,
     expected: &Bytes,
     text: &Bytes,
-) -> Result<(World, Bytes), NotDone>
+) -> Result<(QueuedWorld, Bytes), NotDone>
     ensures { Acts (Ok (world, encode_text expected.now text.now)) result }
 {
     let printed = encode_text(alloc, &expected.items, &text.items)?;
     Ok((world, printed))
 }
 
-fn upgrade(alloc: Global, world: World, from: &Bytes, to: &Bytes) -> Result<(World, Bytes), NotDone>
+fn upgrade(
+    alloc: Global,
+    world: QueuedWorld,
+    from: &Bytes,
+    to: &Bytes,
+) -> Result<(QueuedWorld, Bytes), NotDone>
     requires from { length from.now ≤ 2097152 }
     requires to { length to.now ≤ 2097152 }
     ensures { Acts (Ok (world, upgrade_text from.now to.now)) result }

@@ -15,6 +15,7 @@ use ic_base::NoMemory;
 use ic_options::Options;
 use ic_output::{answer_text, closing, summary};
 use ic_outside::{Gate, Sink};
+use ic_queue_rounds::QueuedWorld;
 use ic_state::{Request, World};
 use std::alloc::Global;
 use std::thread::Threads;
@@ -23,7 +24,7 @@ use std::thread::Threads;
 pub fn finish<R: Threads + Sync, K: Sink, G: Gate + Sync>(
     alloc: Global,
     setting: &Setting<'_, R, G>,
-    world: World,
+    world: QueuedWorld,
     gathered: &mut Gathered,
     sink: &mut K,
 ) -> Status
@@ -42,14 +43,14 @@ fn end_world<R: Threads + Sync, G: Gate + Sync>(
     alloc: Global,
     rt: &R,
     options: &Options,
-    world: World,
+    world: QueuedWorld,
     gate: &G,
 ) -> Result<World, NoMemory>
     requires { HasBounds options.now }
     ensures { IfOk result (λ w. w ≡ end_state options.now world) }
 {
     match run_rounds_by(alloc, rt, options, world, options.rounds, gate) {
-        Ok((world, _)) => Ok(world),
+        Ok((world, _)) => world.into_world(alloc),
         Err(error) => Err(error),
     }
 }
@@ -104,7 +105,7 @@ pub fn finish_shortly<R: Threads + Sync, K: Sink, G: Gate + Sync>(
     alloc: Global,
     rt: &R,
     options: &Options,
-    world: World,
+    world: QueuedWorld,
     sink: &mut K,
     gate: &G,
 ) -> Status

@@ -17,6 +17,7 @@ use ic_options::Options;
 use ic_output::bad_text;
 use ic_outside::{Gate, Line, Lines, MemorySource, Sink};
 use ic_principal::Bytes;
+use ic_queue_rounds::QueuedWorld;
 use ic_script::LineCause;
 use ic_state::World;
 use std::alloc::Global;
@@ -57,13 +58,15 @@ fn do_lines<R: Threads + Sync, G: Gate + Sync>(
     options: &Options,
     text: Bytes,
     gate: &G,
-) -> Result<World, Status>
+) -> Result<QueuedWorld, Status>
     requires { HasBounds options.now }
     ensures { Ends (walk_of options.now text).last result }
 {
     let mut source = MemorySource::new(text.items, PIECE, Vec::new(alloc));
     let mut lines = Lines::new(alloc, LARGEST_LINE, LARGEST_SCRIPT);
-    let mut world = World::new(alloc);
+    let Ok(mut world) = QueuedWorld::new(alloc, World::new(alloc)) else {
+        return Err(Status::NoMemory);
+    };
     loop {
         match lines.next(&mut source) {
             Ok(Some(line)) => match do_unprinted(alloc, rt, options, world, &line, gate) {
@@ -81,10 +84,10 @@ fn do_unprinted<R: Threads + Sync, G: Gate + Sync>(
     alloc: Global,
     rt: &R,
     options: &Options,
-    world: World,
+    world: QueuedWorld,
     line: &Line,
     gate: &G,
-) -> Result<World, Status>
+) -> Result<QueuedWorld, Status>
     requires { HasBounds options.now }
     ensures { Does line.now.number (after_line options.now world line.now.bytes) result }
 {

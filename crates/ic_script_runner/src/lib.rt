@@ -11,7 +11,6 @@ mod doing;
 mod ending;
 mod gathered;
 mod generated;
-mod managing;
 mod picking;
 mod printing;
 mod running;

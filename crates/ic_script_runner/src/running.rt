@@ -15,6 +15,7 @@ use crate::status::Status;
 use ic_options::Options;
 use ic_output::bad_text;
 use ic_outside::{Gate, Line, LineFault, Lines, Sink, Source};
+use ic_queue_rounds::QueuedWorld;
 use ic_script::LineCause;
 use ic_state::World;
 use std::alloc::Global;
@@ -55,7 +56,9 @@ pub fn run_script<R: Threads + Sync, S: Source, K: Sink, G: Gate + Sync>(
         return Status::NoMemory;
     };
     let mut lines = Lines::new(alloc, LARGEST_LINE, LARGEST_SCRIPT);
-    let mut world = World::new(alloc);
+    let Ok(mut world) = QueuedWorld::new(alloc, World::new(alloc)) else {
+        return Status::NoMemory;
+    };
     let setting = Setting { rt, options, gate };
     loop {
         if let Err(status) = gathered.before_reading(&lines, sink) {
@@ -78,11 +81,11 @@ pub fn run_script<R: Threads + Sync, S: Source, K: Sink, G: Gate + Sync>(
 fn do_and_gather<R: Threads + Sync, K: Sink, G: Gate + Sync>(
     alloc: Global,
     setting: &Setting<'_, R, G>,
-    world: World,
+    world: QueuedWorld,
     line: &Line,
     gathered: &mut Gathered,
     sink: &mut K,
-) -> Result<World, Status>
+) -> Result<QueuedWorld, Status>
     requires { HasBounds setting.now.options.now }
     ensures does { DoesAndGathers (sink_at K.taken K.fits K.faults sink.old) (sink_at K.taken K.fits K.faults sink.new)
         gathered.old gathered.new line.now.number (after_line setting.now.options.now world line.now.bytes) result }

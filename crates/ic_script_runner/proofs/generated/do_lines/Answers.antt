@@ -28,7 +28,7 @@ loop-line-preserved g c =
     let walks = c.loop-line.invariant.0 in
     let reads = rw c.in-Ok-Some.field-0-is at (c.in-Ok-Some.ensures.reads walks.runs.fault) in (
       Walks-more c.args.options.now c.args.text c.loop-line.source.left c.next.new.source.left c.loop-line.world c.loop-line.lines c.next.new.self walks
-          c.in-Ok-Some.line c.in-Ok.next reads c.in-Ok.ensures,
+          c.in-Ok-Some.line c.in-Ok-do_unprinted.next reads c.in-Ok-do_unprinted.ensures,
       (c.in-Ok-Some.ensures.sure c.loop-line.invariant.1).0,
     )
 
