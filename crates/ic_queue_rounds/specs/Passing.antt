@@ -1,30 +1,28 @@
--- A second phase that takes the messages to no canister one after another. No standard has this.
-use Rattle.std.specs.Prelude.{◌≡◌, ℕ, Bool, true, not, List, ◌++◌}
-use Rattle.std.specs.List.{filter, AllByRecursion}
+-- A second phase that walks from one message to no canister to the next. No standard has this.
+use Rattle.std.specs.Prelude.{◌≡◌, ℕ, false, ◌∷◌}
 use Rattle.std.specs.Map.{keys_of}
 use Rattle.ic_behaviour.specs.declared.call.Message.{Message}
 use Rattle.ic_state.specs.declared.world.Parts.{Parts}
-use Rattle.ic_mgmt.specs.Sweeping.{Reaches}
-use Rattle.ic_queues.specs.Queued.{is_steady, is_inside}
+use Rattle.ic_mgmt.specs.Sweeping.{stays, Reaches}
+use Rattle.ic_queues.specs.Queued.{Walked}
 
--- whether a message is to one of the canisters that were there at the start
-abbrev pub is_in : (start : Parts) → Message → Bool
-is_in start m = is_inside (keys_of start.canisters.entries) m
-
--- A second phase began at a world and has passed some of its messages: those that stay are to canisters, and so are those that
--- are still to be passed, but for `outs`. `inside` is the list without these.
-pub record Passing (limit : ℕ) (start : Parts) (inside outs : List Message) (p : Parts) : Type 0 where
-  pub kept : List Message
-  pub todo : List Message
+-- a second phase that began at a world has come to where the walk is, and the canisters are those of the walk
+pub record Passing (limit : ℕ) (start : Parts) (w : Walked) (p : Parts) : Type 0 where
   pub count : ℕ
-  pub reaches : Reaches limit start kept todo p count
-  pub stay : AllByRecursion (λ m. is_in start m ≡ true) kept
-  pub left : kept ++ filter (is_in start) todo ≡ inside
-  pub coming : filter (λ m. not (is_in start m)) todo ≡ outs
-  pub steady : AllByRecursion (λ m. is_steady m ≡ true) outs
-  pub canisters : keys_of p.canisters.entries ≡ keys_of start.canisters.entries
+  pub reaches : Reaches limit start w.kept w.todo p count
+  pub canisters : keys_of p.canisters.entries ≡ w.canisters
 
-pub record IsPassing (limit : ℕ) (outs : List Message) (p : Parts) : Type 0 where
+pub record IsPassing (limit : ℕ) (w : Walked) (p : Parts) : Type 0 where
   pub start : Parts
-  pub inside : List Message
-  pub passing : Passing limit start inside outs p
+  pub passing : Passing limit start w p
+
+-- the walk has taken this message, which goes
+pub record Facing (limit : ℕ) (start : Parts) (w : Walked) (m : Message) (p : Parts) : Type 0 where
+  pub count : ℕ
+  pub reaches : Reaches limit start w.kept (m ∷ w.todo) p count
+  pub canisters : keys_of p.canisters.entries ≡ w.canisters
+  pub goes : stays w.kept p m ≡ false
+
+pub record IsFacing (limit : ℕ) (w : Walked) (m : Message) (p : Parts) : Type 0 where
+  pub start : Parts
+  pub facing : Facing limit start w m p

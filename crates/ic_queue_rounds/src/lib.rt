@@ -1,11 +1,11 @@
 //! Rounds: both phases, and rounds one after another until no message is under way.
 //!
-//! `round` goes through the list of messages. Where many rounds follow one another, `run_rounds` goes through queues, so
-//! that a round need not pass the messages that it leaves. Between these rounds the messages of the world are in the
-//! queues of `ic_queues`. The first phase takes the first message of each canister's queue; the second phase takes
-//! all messages to no canister. Only where one of these may make or delete a canister the second phase
-//! goes through the list, as that of `ic_mgmt` does, and the queues are made anew. That each phase is the
-//! phase that `ic_behaviour` defines over the list is proved. Which messages a round touches on the way no clause says.
+//! `round` goes through the list of messages. In a `QueuedWorld` the messages are in the queues of `ic_queues`, so that a
+//! round need not pass those that it leaves. The first phase takes the first message of each canister's queue; the second
+//! phase walks from one message to no canister to the next. Where one of these in truth makes or deletes a canister, the
+//! messages are put into queues anew, and the walk goes on from where it is. That each phase is the phase that
+//! `ic_behaviour` defines over the list is proved. Which messages a round touches on the way no clause says. `run_rounds`
+//! makes queues of a `World` where many rounds follow one another.
 #![tactic(auto)]
 
 mod drawn;

@@ -1,8 +1,7 @@
 ghost use Rattle.std.specs.Prelude.{◌≡◌, ◌==◌, ◌<◌, ◌≤◌, ◌^◌, true, [], length, take, slice_get, IfOk};
-ghost use Rattle.std.specs.List.{AllByRecursion};
 ghost use Rattle.std.specs.Map.{keys_of};
 ghost use Rattle.ic_behaviour.specs.Submitted.{submitted, timed};
-ghost use Rattle.ic_queues.specs.Queued.{is_steady, first_of_way};
+ghost use Rattle.ic_queues.specs.Queued.{first_of_way};
 ghost use Rattle.ic_queue_rounds.specs.InQueues.{IsInQueues, with_messages};
 ghost use Rattle.ic_state.specs.Seen.{state_of};
 ghost use Rattle.ic_state.specs.IsWorld.{IsWorld};
@@ -73,13 +72,6 @@ impl QueuedWorld {
         ensures { result ≡ (length self.now.messages == 0) }
     {
         self.queues.is_empty()
-    }
-
-    /// Whether no message makes or deletes a canister; `false` says nothing.
-    pub fn is_steady(&self) -> bool
-        ensures { result ≡ true → AllByRecursion (λ m. is_steady m ≡ true) self.now.messages }
-    {
-        self.queues.is_steady()
     }
 
     /// How many messages are under way.

@@ -9,11 +9,6 @@ use Rattle.std.specs.Map.{remove_entry, keys_of}
 use Rattle.std.specs.BTreeMap.{insert_entry}
 use Rattle.std.proofs.lemmas.Bool.{cases_Bool}
 
-module _ {X : Type 0} where
-  pub all_last : (P : X → Type 0) (xs : List X) (x : X) → AllByRecursion P xs → P x → AllByRecursion P (xs ++ x ∷ [])
-  all_last P [] x all here = (here, tt)
-  all_last P (y ∷ xs) x all here = (all.0, all_last P xs x all.1 here)
-
 module _ {K X : Type 0} (cmp : K → K → Ordering) where
   -- a key above all others comes last
   pub insert_last : (k : K) (x : X) (es : List (K × X)) → AllByRecursion (λ j. cmp k j ≡ Greater) (keys_of es) → insert_entry cmp es k x ≡ es ++ (k, x) ∷ []
@@ -35,10 +30,6 @@ module _ {K X : Type 0} (cmp : K → K → Ordering) where
   pub all_keys_removed : (P : K → Type 0) (test : K → Bool) (es : List (K × X)) → AllByRecursion P (keys_of es) → AllByRecursion P (keys_of (remove_entry test es))
   all_keys_removed P test [] all = tt
   all_keys_removed P test (e ∷ es) all = elim (cases_Bool (test e.0)) [ inl here ↦ rw here all.1 | inr there ↦ rw there (all.0, all_keys_removed P test es all.1) ]
-
-  pub all_removed : (P : K × X → Type 0) (test : K → Bool) (es : List (K × X)) → AllByRecursion P es → AllByRecursion P (remove_entry test es)
-  all_removed P test [] all = tt
-  all_removed P test (e ∷ es) all = elim (cases_Bool (test e.0)) [ inl here ↦ rw here all.1 | inr there ↦ rw there (all.0, all_removed P test es all.1) ]
 
   pub sorted_removed : (test : K → Bool) (es : List (K × X)) → IsStrictlySortedBy cmp (keys_of es) → IsStrictlySortedBy cmp (keys_of (remove_entry test es))
   unfolding IsStrictlySortedBy

@@ -3,4 +3,5 @@ pub mod Numbers
 pub mod Shelves
 pub mod Places
 pub mod Queueing
-pub mod Outsides
+pub mod Starts
+pub mod Walks

@@ -1,7 +1,6 @@
 -- Messages by number, and the numbers of those to some callee.
 use Rattle.std.proofs.Common.{◌≡◌, ◌<◌, ◌+◌, ℕ, Bool, true, false, cond, List, [], ◌∷◌, ◌++◌, None, refl, sym, ap, ◌∙◌, subst, inl, inr, arith}
-use Rattle.std.specs.Option.{option_to_list}
-use Rattle.std.specs.List.{filter, find, AllByRecursion}
+use Rattle.std.specs.List.{find, AllByRecursion}
 use Rattle.std.specs.List.Sorted.{IsStrictlySortedBy}
 use Rattle.std.specs.Cmp.{IsEquivalence}
 use Rattle.std.specs.Ordering.{nat_cmp, is_eq, eq_by_cmp}
@@ -40,10 +39,6 @@ pub record Pops (is : List ℕ → Bool) (n : ℕ) (ns : List ℕ) (es : List (�
   pub list : values_of (remove_entry (is_number n) es) ≡ remove_key (λ m. is (callee_of m)) (values_of es)
   pub own : numbers_to is (remove_entry (is_number n) es) ≡ ns
   pub others : (other : List ℕ → Bool) → ((k : List ℕ) → is k ≡ true → other k ≡ false) → numbers_to other (remove_entry (is_number n) es) ≡ numbers_to other es
-  pub passing : filter (λ m. is (callee_of m)) (values_of es)
-      ≡ option_to_list (lookup (is_number n) es) ++ filter (λ m. is (callee_of m)) (values_of (remove_entry (is_number n) es))
-  pub failing : (other : List ℕ → Bool) → ((k : List ℕ) → is k ≡ true → other k ≡ false)
-      → filter (λ m. other (callee_of m)) (values_of (remove_entry (is_number n) es)) ≡ filter (λ m. other (callee_of m)) (values_of es)
 
 pub pops : (is : List ℕ → Bool) (n : ℕ) (ns : List ℕ) (es : List (ℕ × Message)) → IsStrictlySortedBy nat_cmp (keys_of es) → numbers_to is es ≡ n ∷ ns → Pops is n ns es
 pops is n ns [] sorted some = absurd (cc)
@@ -59,8 +54,6 @@ pops is n ns (e ∷ es) sorted some =
             list = rw (same, here) refl;
             own = rw same rest;
             others = λ other apart. let fails : other (callee_of e.1) ≡ false = apart (callee_of e.1) here in rw (same, fails) refl;
-            passing = rw (same, here) refl;
-            failing = λ other apart. let fails : other (callee_of e.1) ≡ false = apart (callee_of e.1) here in rw (same, fails) refl;
           }
       | inr there ↦
           let later : numbers_to is es ≡ n ∷ ns = rw there at some in
@@ -77,12 +70,6 @@ pops is n ns (e ∷ es) sorted some =
                   | inl passes ↦ rw passes (ap (λ l. e.0 ∷ l) (rest.others other apart))
                   | inr fails ↦ rw fails (rest.others other apart)
                 ]);
-            passing = rw (differs, there) rest.passing;
-            failing = λ other apart. rw differs (
-                elim (cases_Bool (other (callee_of e.1))) [
-                  | inl passes ↦ rw passes (ap (λ l. e.1 ∷ l) (rest.failing other apart))
-                  | inr fails ↦ rw fails (rest.failing other apart)
-                ]);
           }
     ]
 
@@ -90,17 +77,16 @@ pops is n ns (e ∷ es) sorted some =
 pub record NoneWaits (is : List ℕ → Bool) (es : List (ℕ × Message)) : Type 0 where
   pub found : find (λ m. is (callee_of m)) (values_of es) ≡ None
   pub list : remove_key (λ m. is (callee_of m)) (values_of es) ≡ values_of es
-  pub passing : filter (λ m. is (callee_of m)) (values_of es) ≡ []
 
 pub none_waits : (is : List ℕ → Bool) (es : List (ℕ × Message)) → numbers_to is es ≡ [] → NoneWaits is es
-none_waits is [] none = record { found = refl; list = refl; passing = refl }
+none_waits is [] none = record { found = refl; list = refl }
 none_waits is (e ∷ es) none =
     elim (cases_Bool (is (callee_of e.1))) [
       | inl here ↦ let now : e.0 ∷ numbers_to is es ≡ [] = rw here at none in absurd (cc)
       | inr there ↦
           let later : numbers_to is es ≡ [] = rw there at none in
           let rest = none_waits is es later in
-          record { found = rw there rest.found; list = rw there (ap (λ l. e.1 ∷ l) rest.list); passing = rw there rest.passing }
+          record { found = rw there rest.found; list = rw there (ap (λ l. e.1 ∷ l) rest.list) }
     ]
 
 -- a message comes last, under a number above all others

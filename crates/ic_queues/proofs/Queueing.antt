@@ -1,5 +1,5 @@
 -- The queues after a message has left its queue, and after one has come last.
-use Rattle.std.proofs.Common.{◌≡◌, ◌<◌, ◌+◌, ℕ, Bool, true, false, cond, ◌&&◌, List, [], ◌∷◌, ◌++◌, Option, Some, None, refl, sym, ap, ◌∙◌, subst, append-nil, length, arith}
+use Rattle.std.proofs.Common.{◌≡◌, ◌<◌, ◌+◌, ℕ, Bool, true, false, cond, List, [], ◌∷◌, ◌++◌, Option, Some, None, refl, sym, ap, ◌∙◌, subst, append-nil, length, arith}
 use Rattle.std.specs.Prelude.{not, is_some, nat_eq, zip}
 use Rattle.std.specs.List.{list_any, list_all, find, AllByRecursion}
 use Rattle.std.specs.List.Sorted.{IsStrictlySortedBy}
@@ -13,9 +13,9 @@ use Rattle.std.proofs.lemmas.Map.Made.{is_some-lookup}
 use Rattle.ic_behaviour.specs.declared.call.Message.{Message}
 use Rattle.ic_behaviour.specs.State.{at, callee_of}
 use Rattle.ic_behaviour.proofs.Weights.{laws, at-is, at-self, at-back}
-use Rattle.ic_queues.specs.Queued.{Queued, is_steady, first_to, without_first, without_first_to, push}
+use Rattle.ic_queues.specs.Queued.{Queued, first_to, without_first, without_first_to, push}
 use Rattle.ic_queues.specs.Lines.{is_number, numbers_to, is_out, IsQueued, remove_number, numbered, line_at, popped_line, waiting_with, outside_with, without_number, waiting_without, outside_without}
-use Rattle.ic_queues.proofs.Entries.{all_last, insert_last, sorted_last, all_keys_removed, all_removed, sorted_removed}
+use Rattle.ic_queues.proofs.Entries.{insert_last, sorted_last, all_keys_removed, sorted_removed}
 use Rattle.ic_queues.proofs.Places.{line-without, line-same}
 use Rattle.ic_queues.proofs.Numbers.{pops, none_waits, numbers-last, values-last, keys_below, all_above, all_less}
 
@@ -23,7 +23,7 @@ use Rattle.ic_queues.proofs.Numbers.{pops, none_waits, numbers-last, values-last
 apart : (key other x : List ℕ) → at key other ≡ false → at key x ≡ true → at other x ≡ false
 apart key other x differ is = laws.symm other x ∙ sym (laws.congr key x other is) ∙ differ
 
-module _ (es : List (ℕ × Message)) (ws : List (List ℕ × List ℕ)) (outside : List ℕ) (next : ℕ) (steady : Bool) (is : IsQueued es ws outside next steady) where
+module _ (es : List (ℕ × Message)) (ws : List (List ℕ × List ℕ)) (outside : List ℕ) (next : ℕ) (is : IsQueued es ws outside next) where
   has : (key : List ℕ) (line : List ℕ) → lookup (at key) ws ≡ Some line → (list_any (at key) (keys_of ws) ≡ true) × (line ≡ numbers_to (at key) es)
   has key line there =
       let member : list_any (at key) (keys_of ws) ≡ true = sym (is_some-lookup (at key) ws) ∙ ap is_some there in
@@ -54,7 +54,7 @@ module _ (es : List (ℕ × Message)) (ws : List (List ℕ × List ℕ)) (outsid
 
   -- the first message to a canister has left
   pub record Popped (key : List ℕ) (o : Option (List ℕ)) : Type 0 where
-    pub queued : IsQueued (remove_number (line_at o) es) (popped_line ws key o) outside next steady
+    pub queued : IsQueued (remove_number (line_at o) es) (popped_line ws key o) outside next
     pub keys : keys_of (popped_line ws key o) ≡ keys_of ws
     pub list : values_of (remove_number (line_at o) es) ≡ cond (list_any (at key) (keys_of ws)) (without_first key (values_of es)) (values_of es)
     pub message : numbered (line_at o) es ≡ cond (list_any (at key) (keys_of ws)) (find (λ m. at key (callee_of m)) (values_of es)) None
@@ -75,7 +75,6 @@ module _ (es : List (ℕ × Message)) (ws : List (List ℕ × List ℕ)) (outsid
           queues = queues_stay key [];
           theirs = theirs_after key [] [] es there own (λ q differs. refl);
           others = is.others ∙ ap (λ ks. numbers_to (is_out ks) es) (sym keys);
-          steadies = is.steadies;
         };
         keys = keys;
         list = sym (cond-true _ _ _ member ∙ none.list);
@@ -96,7 +95,6 @@ module _ (es : List (ℕ × Message)) (ws : List (List ℕ × List ℕ)) (outsid
           theirs = theirs_after key (n ∷ line) line (remove_entry (is_number n) es) there (sym first.own) (λ q differs. first.others (at q) (λ k same. apart key q k differs same));
           others = is.others ∙ sym (first.others (is_out (keys_of ws)) apart_from)
               ∙ ap (λ ks. numbers_to (is_out ks) (remove_entry (is_number n) es)) (sym keys);
-          steadies = λ known. all_removed nat_cmp (λ e. is_steady e.1 ≡ true) (is_number n) es (is.steadies known);
         };
         keys = keys;
         list = first.list ∙ sym (cond-true _ _ _ member);
@@ -105,7 +103,7 @@ module _ (es : List (ℕ × Message)) (ws : List (List ℕ × List ℕ)) (outsid
 
   -- a message has come last
   pub record Pushed (m : Message) (o : Option (List ℕ)) : Type 0 where
-    pub queued : IsQueued (insert_entry nat_cmp es next m) (waiting_with ws (callee_of m) next o) (outside_with outside next o) (next + 1) (steady && is_steady m)
+    pub queued : IsQueued (insert_entry nat_cmp es next m) (waiting_with ws (callee_of m) next o) (outside_with outside next o) (next + 1)
     pub keys : keys_of (waiting_with ws (callee_of m) next o) ≡ keys_of ws
     pub list : values_of (insert_entry nat_cmp es next m) ≡ values_of es ++ m ∷ []
 
@@ -129,12 +127,6 @@ module _ (es : List (ℕ × Message)) (ws : List (List ℕ × List ℕ)) (outsid
     below_now : AllByRecursion (λ k. k < next + 1) (keys_of (insert_entry nat_cmp es next m))
     below_now = subst (λ (l : List (ℕ × Message)). AllByRecursion (λ k. k < next + 1) (keys_of l)) (sym last) (keys_below es next m is.below)
 
-    steadies_now : (steady && is_steady m) ≡ true → AllByRecursion (λ (e : ℕ × Message). is_steady e.1 ≡ true) (insert_entry nat_cmp es next m)
-    steadies_now known =
-        let parts = and_parts steady (is_steady m) known in
-        subst (λ (l : List (ℕ × Message)). AllByRecursion (λ (e : ℕ × Message). is_steady e.1 ≡ true) l) (sym last)
-        (all_last (λ (e : ℕ × Message). is_steady e.1 ≡ true) es (next, m) (is.steadies parts.0) parts.1)
-
     list_now : values_of (insert_entry nat_cmp es next m) ≡ values_of es ++ m ∷ []
     list_now = ap values_of last ∙ values-last es next m
 
@@ -152,7 +144,6 @@ module _ (es : List (ℕ × Message)) (ws : List (List ℕ × List ℕ)) (outsid
                 (λ q differs. numbers_same (at q) (at-back (callee_of m) q differs));
             others = is.others ∙ sym (numbers_same (is_out (keys_of ws)) (ap not (has (callee_of m) line there).0))
                 ∙ ap (λ ks. numbers_to (is_out ks) (insert_entry nat_cmp es next m)) (sym keys);
-            steadies = steadies_now;
           };
           keys = keys;
           list = list_now;
@@ -166,7 +157,6 @@ module _ (es : List (ℕ × Message)) (ws : List (List ℕ × List ℕ)) (outsid
             queues = is.queues;
             theirs = λ q. is.theirs q ∙ same none q (list_any (at q) (keys_of ws)) refl (at q (callee_of m)) refl;
             others = ap (λ l. l ++ next ∷ []) is.others ∙ sym (numbers_with (is_out (keys_of ws)) (ap not none));
-            steadies = steadies_now;
           };
           keys = refl;
           list = list_now;
@@ -180,73 +170,71 @@ module _ (es : List (ℕ × Message)) (ws : List (List ℕ × List ℕ)) (outsid
             absurd (false≢true (sym none ∙ subst (λ (k : List ℕ). list_any (at k) (keys_of ws) ≡ true) (at-is q (callee_of m) callee) here))
 
 -- the same, of the values that the code has
-abbrev pub view : List (ℕ × Message) → List (List ℕ × List ℕ) → Bool → Queued
-view es ws steady = record { canisters = keys_of ws; messages = values_of es; steady = steady }
+abbrev pub view : List (ℕ × Message) → List (List ℕ × List ℕ) → Queued
+view es ws = record { canisters = keys_of ws; messages = values_of es }
 
-pub record PopEnds (es : List (ℕ × Message)) (ws : List (List ℕ × List ℕ)) (outside : List ℕ) (next : ℕ) (steady : Bool) (key : List ℕ) (m : Option Message) (es' : List (ℕ × Message)) (ws' : List (List ℕ × List ℕ)) : Type 0 where
-  pub queued : IsQueued es' ws' outside next steady
-  pub queues : view es' ws' steady ≡ without_first_to key (view es ws steady)
-  pub message : m ≡ first_to key (view es ws steady)
+pub record PopEnds (es : List (ℕ × Message)) (ws : List (List ℕ × List ℕ)) (outside : List ℕ) (next : ℕ) (key : List ℕ) (m : Option Message) (es' : List (ℕ × Message)) (ws' : List (List ℕ × List ℕ)) : Type 0 where
+  pub queued : IsQueued es' ws' outside next
+  pub queues : view es' ws' ≡ without_first_to key (view es ws)
+  pub message : m ≡ first_to key (view es ws)
 
-abbrev with_list : List (List ℕ) → Bool → List Message → Queued
-with_list keys steady messages = record { canisters = keys; messages = messages; steady = steady }
+abbrev with_list : List (List ℕ) → List Message → Queued
+with_list keys messages = record { canisters = keys; messages = messages }
 
-popped_view : (b : Bool) (keys : List (List ℕ)) (steady : Bool) (xs ys : List Message) → with_list keys steady (cond b xs ys) ≡ cond b (with_list keys steady xs) (with_list keys steady ys)
-popped_view true keys steady xs ys = refl
-popped_view false keys steady xs ys = refl
+popped_view : (b : Bool) (keys : List (List ℕ)) (xs ys : List Message) → with_list keys (cond b xs ys) ≡ cond b (with_list keys xs) (with_list keys ys)
+popped_view true keys xs ys = refl
+popped_view false keys xs ys = refl
 
-pub pop_ends : (es : List (ℕ × Message)) (ws : List (List ℕ × List ℕ)) (outside : List ℕ) (next : ℕ) (steady : Bool) (key : List ℕ) (n : Option ℕ) (m : Option Message) (es' : List (ℕ × Message)) (ws' : List (List ℕ × List ℕ))
-    → IsQueued es ws outside next steady
+pub pop_ends : (es : List (ℕ × Message)) (ws : List (List ℕ × List ℕ)) (outside : List ℕ) (next : ℕ) (key : List ℕ) (n : Option ℕ) (m : Option Message) (es' : List (ℕ × Message)) (ws' : List (List ℕ × List ℕ))
+    → IsQueued es ws outside next
     → n ≡ line_at (lookup (at key) ws) → ws' ≡ popped_line ws key (lookup (at key) ws) → es' ≡ remove_number n es → m ≡ numbered n es
-    → PopEnds es ws outside next steady key m es' ws'
-pop_ends es ws outside next steady key n m es' ws' is e1 e2 e3 e4 =
+    → PopEnds es ws outside next key m es' ws'
+pop_ends es ws outside next key n m es' ws' is e1 e2 e3 e4 =
     let o = lookup (at key) ws in
-    let got = popped es ws outside next steady is key o refl in
+    let got = popped es ws outside next is key o refl in
     let entries : es' ≡ remove_number (line_at o) es = e3 ∙ ap (λ k. remove_number k es) e1 in
     record {
-      queued = subst (λ (l : List (List ℕ × List ℕ)). IsQueued es' l outside next steady) (sym e2)
-          (subst (λ (l : List (ℕ × Message)). IsQueued l (popped_line ws key o) outside next steady) (sym entries) got.queued);
-      queues = ap (λ l. record { canisters = l; messages = values_of es'; steady = steady }) (ap keys_of e2 ∙ got.keys)
-          ∙ ap (λ l. record { canisters = keys_of ws; messages = l; steady = steady }) (ap values_of entries ∙ got.list)
-          ∙ popped_view (list_any (at key) (keys_of ws)) (keys_of ws) steady (without_first key (values_of es)) (values_of es);
+      queued = subst (λ (l : List (List ℕ × List ℕ)). IsQueued es' l outside next) (sym e2)
+          (subst (λ (l : List (ℕ × Message)). IsQueued l (popped_line ws key o) outside next) (sym entries) got.queued);
+      queues = ap (λ l. record { canisters = l; messages = values_of es' }) (ap keys_of e2 ∙ got.keys)
+          ∙ ap (λ l. record { canisters = keys_of ws; messages = l }) (ap values_of entries ∙ got.list)
+          ∙ popped_view (list_any (at key) (keys_of ws)) (keys_of ws) (without_first key (values_of es)) (values_of es);
       message = e4 ∙ ap (λ k. numbered k es) e1 ∙ got.message;
     }
 
-pub record PushEnds (es : List (ℕ × Message)) (ws : List (List ℕ × List ℕ)) (m : Message) (steady : Bool) (es' : List (ℕ × Message)) (ws' : List (List ℕ × List ℕ)) (outside' : List ℕ) (next' : ℕ) (steady' : Bool) : Type 0 where
-  pub queued : IsQueued es' ws' outside' next' steady'
-  pub queues : view es' ws' steady' ≡ push (view es ws steady) m
+pub record PushEnds (es : List (ℕ × Message)) (ws : List (List ℕ × List ℕ)) (m : Message) (es' : List (ℕ × Message)) (ws' : List (List ℕ × List ℕ)) (outside' : List ℕ) (next' : ℕ) : Type 0 where
+  pub queued : IsQueued es' ws' outside' next'
+  pub queues : view es' ws' ≡ push (view es ws) m
 
-pub push_ends : (es : List (ℕ × Message)) (ws : List (List ℕ × List ℕ)) (outside : List ℕ) (next : ℕ) (steady : Bool) (m : Message) (callee : List ℕ)
-    (es' : List (ℕ × Message)) (ws' : List (List ℕ × List ℕ)) (outside' : List ℕ) (next' : ℕ) (steady' : Bool)
-    → IsQueued es ws outside next steady → callee ≡ callee_of m → es' ≡ insert_entry nat_cmp es next m
-    → ws' ≡ waiting_with ws callee next (lookup (at callee) ws) → outside' ≡ outside_with outside next (lookup (at callee) ws) → next' ≡ next + 1 → steady' ≡ (steady && is_steady m)
-    → PushEnds es ws m steady es' ws' outside' next' steady'
-push_ends es ws outside next steady m callee es' ws' outside' next' steady' is e0 e1 e2 e3 e4 e5 =
+pub push_ends : (es : List (ℕ × Message)) (ws : List (List ℕ × List ℕ)) (outside : List ℕ) (next : ℕ) (m : Message) (callee : List ℕ)
+    (es' : List (ℕ × Message)) (ws' : List (List ℕ × List ℕ)) (outside' : List ℕ) (next' : ℕ)
+    → IsQueued es ws outside next → callee ≡ callee_of m → es' ≡ insert_entry nat_cmp es next m
+    → ws' ≡ waiting_with ws callee next (lookup (at callee) ws) → outside' ≡ outside_with outside next (lookup (at callee) ws) → next' ≡ next + 1
+    → PushEnds es ws m es' ws' outside' next'
+push_ends es ws outside next m callee es' ws' outside' next' is e0 e1 e2 e3 e4 =
     let o = lookup (at (callee_of m)) ws in
-    let got = pushed es ws outside next steady is m o refl in
+    let got = pushed es ws outside next is m o refl in
     let waits : ws' ≡ waiting_with ws (callee_of m) next o = e2 ∙ ap (λ k. waiting_with ws k next (lookup (at k) ws)) e0 in
     let outs : outside' ≡ outside_with outside next o = e3 ∙ ap (λ k. outside_with outside next (lookup (at k) ws)) e0 in
-    let q1 : IsQueued es' (waiting_with ws (callee_of m) next o) (outside_with outside next o) (next + 1) (steady && is_steady m) =
-    subst (λ (l : List (ℕ × Message)). IsQueued l (waiting_with ws (callee_of m) next o) (outside_with outside next o) (next + 1) (steady && is_steady m)) (sym e1) got.queued in
-    let q2 : IsQueued es' ws' (outside_with outside next o) (next + 1) (steady && is_steady m) =
-    subst (λ (l : List (List ℕ × List ℕ)). IsQueued es' l (outside_with outside next o) (next + 1) (steady && is_steady m)) (sym waits) q1 in
-    let q3 : IsQueued es' ws' outside' (next + 1) (steady && is_steady m) = subst (λ (l : List ℕ). IsQueued es' ws' l (next + 1) (steady && is_steady m)) (sym outs) q2 in
-    let q4 : IsQueued es' ws' outside' next' (steady && is_steady m) = subst (λ (n : ℕ). IsQueued es' ws' outside' n (steady && is_steady m)) (sym e4) q3 in
+    let q1 : IsQueued es' (waiting_with ws (callee_of m) next o) (outside_with outside next o) (next + 1) =
+    subst (λ (l : List (ℕ × Message)). IsQueued l (waiting_with ws (callee_of m) next o) (outside_with outside next o) (next + 1)) (sym e1) got.queued in
+    let q2 : IsQueued es' ws' (outside_with outside next o) (next + 1) =
+    subst (λ (l : List (List ℕ × List ℕ)). IsQueued es' l (outside_with outside next o) (next + 1)) (sym waits) q1 in
+    let q3 : IsQueued es' ws' outside' (next + 1) = subst (λ (l : List ℕ). IsQueued es' ws' l (next + 1)) (sym outs) q2 in
     record {
-      queued = subst (λ (b : Bool). IsQueued es' ws' outside' next' b) (sym e5) q4;
-      queues = ap (λ l. record { canisters = l; messages = values_of es'; steady = steady' }) (ap keys_of waits ∙ got.keys)
-          ∙ ap (λ l. record { canisters = keys_of ws; messages = l; steady = steady' }) (ap values_of e1 ∙ got.list)
-          ∙ ap (λ b. record { canisters = keys_of ws; messages = values_of es ++ m ∷ []; steady = b }) e5;
+      queued = subst (λ (n : ℕ). IsQueued es' ws' outside' n) (sym e4) q3;
+      queues = ap (λ l. record { canisters = l; messages = values_of es' }) (ap keys_of waits ∙ got.keys)
+          ∙ ap (λ l. record { canisters = keys_of ws; messages = l }) (ap values_of e1 ∙ got.list);
     }
 
 -- ---- a message at a place of the list leaves
 
-module _ (es : List (ℕ × Message)) (ws : List (List ℕ × List ℕ)) (outside : List ℕ) (next : ℕ) (steady : Bool) (is : IsQueued es ws outside next steady) (n : ℕ) (m : Message) (found : lookup (is_number n) es ≡ Some m) where
+module _ (es : List (ℕ × Message)) (ws : List (List ℕ × List ℕ)) (outside : List ℕ) (next : ℕ) (is : IsQueued es ws outside next) (n : ℕ) (m : Message) (found : lookup (is_number n) es ≡ Some m) where
   abbrev without : List (ℕ × Message)
   without = remove_entry (is_number n) es
 
   pub record Leaves (o : Option (List ℕ)) : Type 0 where
-    pub queued : IsQueued without (waiting_without ws (callee_of m) n o) (outside_without outside n o) next steady
+    pub queued : IsQueued without (waiting_without ws (callee_of m) n o) (outside_without outside n o) next
     pub keys : keys_of (waiting_without ws (callee_of m) n o) ≡ keys_of ws
 
   own : (test : List ℕ → Bool) → numbers_to test without ≡ without_number n (numbers_to test es)
@@ -255,23 +243,19 @@ module _ (es : List (ℕ × Message)) (ws : List (List ℕ × List ℕ)) (outsid
   other : (test : List ℕ → Bool) → test (callee_of m) ≡ false → numbers_to test without ≡ numbers_to test es
   other test fails = line-same test n m es found fails
 
-  steadies_then : steady ≡ true → AllByRecursion (λ (e : ℕ × Message). is_steady e.1 ≡ true) without
-  steadies_then known = all_removed nat_cmp (λ e. is_steady e.1 ≡ true) (is_number n) es (is.steadies known)
-
   pub leaves : (o : Option (List ℕ)) → lookup (at (callee_of m)) ws ≡ o → Leaves o
   leaves (Some line) there =
-      let own_line = (has es ws outside next steady is (callee_of m) line there).1 in
-      let keys = keys_stay es ws outside next steady is (callee_of m) (without_number n line) in
+      let own_line = (has es ws outside next is (callee_of m) line there).1 in
+      let keys = keys_stay es ws outside next is (callee_of m) (without_number n line) in
       record {
         queued = record {
           ordered = sorted_removed nat_cmp (is_number n) es is.ordered;
           below = all_keys_removed nat_cmp (λ k. k < next) (is_number n) es is.below;
-          queues = queues_stay es ws outside next steady is (callee_of m) (without_number n line);
-          theirs = theirs_after es ws outside next steady is (callee_of m) line (without_number n line) without there
+          queues = queues_stay es ws outside next is (callee_of m) (without_number n line);
+          theirs = theirs_after es ws outside next is (callee_of m) line (without_number n line) without there
               (ap (without_number n) own_line ∙ sym (own (at (callee_of m)))) (λ q differs. other (at q) (at-back (callee_of m) q differs));
-          others = is.others ∙ sym (other (is_out (keys_of ws)) (ap not (has es ws outside next steady is (callee_of m) line there).0))
+          others = is.others ∙ sym (other (is_out (keys_of ws)) (ap not (has es ws outside next is (callee_of m) line there).0))
               ∙ ap (λ ks. numbers_to (is_out ks) without) (sym keys);
-          steadies = steadies_then;
         };
         keys = keys;
       }
@@ -284,7 +268,6 @@ module _ (es : List (ℕ × Message)) (ws : List (List ℕ × List ℕ)) (outsid
           queues = is.queues;
           theirs = λ q. is.theirs q ∙ same none q (list_any (at q) (keys_of ws)) refl (at q (callee_of m)) refl;
           others = ap (without_number n) is.others ∙ sym (own (is_out (keys_of ws)));
-          steadies = steadies_then;
         };
         keys = refl;
       }
@@ -297,24 +280,24 @@ module _ (es : List (ℕ × Message)) (ws : List (List ℕ × List ℕ)) (outsid
           absurd (false≢true (sym none ∙ subst (λ (k : List ℕ). list_any (at k) (keys_of ws) ≡ true) (at-is q (callee_of m) callee) here))
 
 -- the same, of the values that the code has
-pub record LeaveEnds (es : List (ℕ × Message)) (ws : List (List ℕ × List ℕ)) (outside : List ℕ) (next : ℕ) (steady : Bool) (es' : List (ℕ × Message)) (ws' : List (List ℕ × List ℕ)) (outside' : List ℕ) : Type 0 where
-  pub queued : IsQueued es' ws' outside' next steady
-  pub rest : view es' ws' steady ≡ record (view es ws steady) { messages = values_of es' }
+pub record LeaveEnds (es : List (ℕ × Message)) (ws : List (List ℕ × List ℕ)) (outside : List ℕ) (next : ℕ) (es' : List (ℕ × Message)) (ws' : List (List ℕ × List ℕ)) (outside' : List ℕ) : Type 0 where
+  pub queued : IsQueued es' ws' outside' next
+  pub rest : view es' ws' ≡ record (view es ws) { messages = values_of es' }
 
-pub leave_ends : (es : List (ℕ × Message)) (ws : List (List ℕ × List ℕ)) (outside : List ℕ) (next : ℕ) (steady : Bool) (n : ℕ) (m : Message) (callee : List ℕ) (es' : List (ℕ × Message)) (ws' : List (List ℕ × List ℕ)) (outside' : List ℕ)
-    → IsQueued es ws outside next steady → lookup (is_number n) es ≡ Some m → callee ≡ callee_of m → es' ≡ remove_entry (is_number n) es
+pub leave_ends : (es : List (ℕ × Message)) (ws : List (List ℕ × List ℕ)) (outside : List ℕ) (next : ℕ) (n : ℕ) (m : Message) (callee : List ℕ) (es' : List (ℕ × Message)) (ws' : List (List ℕ × List ℕ)) (outside' : List ℕ)
+    → IsQueued es ws outside next → lookup (is_number n) es ≡ Some m → callee ≡ callee_of m → es' ≡ remove_entry (is_number n) es
     → ws' ≡ waiting_without ws callee n (lookup (at callee) ws) → outside' ≡ outside_without outside n (lookup (at callee) ws)
-    → LeaveEnds es ws outside next steady es' ws' outside'
-leave_ends es ws outside next steady n m callee es' ws' outside' is found e0 e1 e2 e3 =
+    → LeaveEnds es ws outside next es' ws' outside'
+leave_ends es ws outside next n m callee es' ws' outside' is found e0 e1 e2 e3 =
     let o = lookup (at (callee_of m)) ws in
-    let got = leaves es ws outside next steady is n m found o refl in
+    let got = leaves es ws outside next is n m found o refl in
     let waits : ws' ≡ waiting_without ws (callee_of m) n o = e2 ∙ ap (λ k. waiting_without ws k n (lookup (at k) ws)) e0 in
     let outs : outside' ≡ outside_without outside n o = e3 ∙ ap (λ k. outside_without outside n (lookup (at k) ws)) e0 in
     record {
-      queued = subst (λ (l : List (ℕ × Message)). IsQueued l ws' outside' next steady) (sym e1)
-          (subst (λ (l : List (List ℕ × List ℕ)). IsQueued (remove_entry (is_number n) es) l outside' next steady) (sym waits)
-          (subst (λ (l : List ℕ). IsQueued (remove_entry (is_number n) es) (waiting_without ws (callee_of m) n o) l next steady) (sym outs) got.queued));
-      rest = ap (λ l. record { canisters = l; messages = values_of es'; steady = steady }) (ap keys_of waits ∙ got.keys);
+      queued = subst (λ (l : List (ℕ × Message)). IsQueued l ws' outside' next) (sym e1)
+          (subst (λ (l : List (List ℕ × List ℕ)). IsQueued (remove_entry (is_number n) es) l outside' next) (sym waits)
+          (subst (λ (l : List ℕ). IsQueued (remove_entry (is_number n) es) (waiting_without ws (callee_of m) n o) l next) (sym outs) got.queued));
+      rest = ap (λ l. record { canisters = l; messages = values_of es' }) (ap keys_of waits ∙ got.keys);
     }
 
 pub same_keys : {X Y : Type 0} (es : List (List ℕ × X)) (fs : List (List ℕ × Y)) → length es ≡ length fs

@@ -5,7 +5,8 @@ use Rattle.std.specs.Option.{is_some, option_to_list}
 use Rattle.std.specs.declared.cmp.Ordering.TheVariants.{Less, Greater}
 use Rattle.std.specs.Ordering.{is_eq}
 use Rattle.std.specs.Cmp.{nat_cmp_is}
-use Rattle.std.specs.Map.{lookup, remove_entry, values_of}
+use Rattle.std.specs.List.{AllByRecursion}
+use Rattle.std.specs.Map.{lookup, remove_entry, keys_of, values_of}
 use Rattle.std.proofs.lemmas.Bool.{false≢true}
 use Rattle.ic_behaviour.specs.declared.call.Message.{Message}
 use Rattle.ic_queues.specs.Lines.{is_number}
@@ -131,6 +132,12 @@ pub few_messages : (n : ℕ) (ps : List (Option Message)) → length (entries_fr
 few_messages n [] = omega arith
 few_messages n (None ∷ ps) = omega (arith, few_messages (suc n) ps)
 few_messages n (Some m ∷ ps) = omega (arith, few_messages (suc n) ps)
+
+-- no number is below the first
+pub from_first : (first n : ℕ) (ps : List (Option Message)) → first ≤ n → AllByRecursion (λ k. first ≤ k) (keys_of (entries_from n ps))
+from_first first n [] upto = tt
+from_first first n (None ∷ ps) upto = from_first first (suc n) ps (omega (arith, upto))
+from_first first n (Some m ∷ ps) upto = (upto, from_first first (suc n) ps (omega (arith, upto)))
 
 -- ---- shelves
 

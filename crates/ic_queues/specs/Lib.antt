@@ -1,5 +1,6 @@
 pub mod Queued
 pub mod Lines
 pub mod Shelved
+pub mod Walking
 pub mod InLists
 pub mod Holding

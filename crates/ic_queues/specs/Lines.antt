@@ -1,6 +1,5 @@
 -- How queues are in memory: messages under numbers that rise, and queues of numbers. No standard has this.
-use Rattle.std.specs.Prelude.{◌≡◌, ℕ, ◌<◌, Bool, true, cond, not, List, [], ◌∷◌, ◌++◌, drop, slice_get, Option, Some, None}
-use Rattle.std.specs.Option.{option_to_list}
+use Rattle.std.specs.Prelude.{◌≡◌, ℕ, ◌<◌, Bool, cond, not, List, [], ◌∷◌, ◌++◌, drop, slice_get, Option, Some, None}
 use Rattle.std.specs.List.{fold, AllByRecursion}
 use Rattle.std.specs.List.Sorted.{IsStrictlySortedBy}
 use Rattle.std.specs.Map.{lookup, remove_entry, set_value, keys_of}
@@ -10,7 +9,7 @@ use Rattle.std.specs.Ordering.{nat_cmp}
 use Rattle.std.specs.Cmp.Lexicographic.{slice_cmp}
 use Rattle.ic_behaviour.specs.declared.call.Message.{Message}
 use Rattle.ic_behaviour.specs.State.{at, callee_of}
-use Rattle.ic_queues.specs.Queued.{is_steady, has_queue}
+use Rattle.ic_queues.specs.Queued.{has_queue}
 
 -- whether a number is this one, as a map looks it up
 abbrev pub is_number : ℕ → ℕ → Bool
@@ -25,13 +24,12 @@ abbrev pub is_out : (canisters : List (List ℕ)) → List ℕ → Bool
 is_out canisters key = not (has_queue canisters key)
 
 -- the messages by number, the numbers that wait for each canister and for none, and the number of the next message
-pub record IsQueued (entries : List (ℕ × Message)) (waiting : List (List ℕ × List ℕ)) (outside : List ℕ) (next : ℕ) (steady : Bool) : Type 0 where
+pub record IsQueued (entries : List (ℕ × Message)) (waiting : List (List ℕ × List ℕ)) (outside : List ℕ) (next : ℕ) : Type 0 where
   pub ordered : IsStrictlySortedBy nat_cmp (keys_of entries)
   pub below : AllByRecursion (λ n. n < next) (keys_of entries)
   pub queues : IsStrictlySortedBy (slice_cmp nat_cmp) (keys_of waiting)
   pub theirs : (key : List ℕ) → lookup (at key) waiting ≡ cond (has_queue (keys_of waiting) key) (Some (numbers_to (at key) entries)) None
   pub others : outside ≡ numbers_to (is_out (keys_of waiting)) entries
-  pub steadies : steady ≡ true → AllByRecursion (λ e. is_steady e.1 ≡ true) entries
 
 -- ---- one message
 
@@ -73,21 +71,6 @@ waiting_without waiting key n (Some line) = set_value (at key) waiting (without_
 abbrev pub outside_without : List ℕ → ℕ → Option (List ℕ) → List ℕ
 outside_without outside n None = without_number n outside
 outside_without outside n (Some line) = outside
-
--- ---- many messages
-
--- messages under their numbers, and those that were taken out
-pub record Gathering : Type 0 where
-  pub entries : List (ℕ × Message)
-  pub next : ℕ
-  pub taken : List Message
-
-abbrev pub gather : Gathering → ℕ → Gathering
-gather w n = record {
-  entries = remove_entry (is_number n) w.entries;
-  next = w.next;
-  taken = w.taken ++ option_to_list (lookup (is_number n) w.entries);
-}
 
 -- an empty queue for each of these
 abbrev pub empty_lines : List (List ℕ) → List (List ℕ × List ℕ)

@@ -1,6 +1,6 @@
 -- Messages in queues: one for each canister, and one for those to no canister. No standard has this.
-use Rattle.std.specs.Prelude.{ℕ, Bool, true, false, cond, not, ◌&&◌, ◌||◌, List, [], ◌∷◌, ◌++◌, codes, Option, Some, None}
-use Rattle.std.specs.List.{list_any, filter, find, remove}
+use Rattle.std.specs.Prelude.{◌≡◌, ℕ, Bool, true, false, cond, not, ◌&&◌, ◌||◌, List, [], ◌∷◌, ◌++◌, codes, Option, Some, None}
+use Rattle.std.specs.List.{list_any, find, remove}
 use Rattle.std.specs.Set.{remove_key}
 use Rattle.std.specs.Str.{bytes_eq}
 use Rattle.ic_behaviour.specs.declared.call.Message.{Message}
@@ -23,11 +23,10 @@ is_steady (Answer from sender response refund) = true
 
 -- ---- the list
 
--- the list of messages, the canisters that have a queue, and whether each message is known to make and delete no canister
+-- the list of messages, and the canisters that have a queue
 pub record Queued : Type 0 where
   pub canisters : List (List ℕ)
   pub messages : List Message
-  pub steady : Bool
 
 abbrev pub has_queue : (canisters : List (List ℕ)) → List ℕ → Bool
 has_queue canisters key = list_any (at key) canisters
@@ -48,7 +47,7 @@ without_first_to key w = cond (has_queue w.canisters key) (record w { messages =
 
 -- a message comes last
 abbrev pub push : Queued → Message → Queued
-push w m = record w { messages = w.messages ++ m ∷ []; steady = w.steady && is_steady m }
+push w m = record w { messages = w.messages ++ m ∷ [] }
 
 -- the message at a place leaves
 abbrev pub without_at : (place : ℕ) → Queued → Queued
@@ -59,12 +58,36 @@ abbrev pub first_of_way : (earlier : List Message) → Option Message → Bool
 first_of_way earlier None = false
 first_of_way earlier (Some m) = not (list_any (same_way m) earlier)
 
--- the messages to no canister, and the list without them
-abbrev pub outs : Queued → List Message
-outs w = filter (λ m. not (is_inside w.canisters m)) w.messages
-
-abbrev pub without_outs : Queued → Queued
-without_outs w = record w { messages = filter (is_inside w.canisters) w.messages }
-
 abbrev pub no_messages : (canisters : List (List ℕ)) → Queued
-no_messages canisters = record { canisters = canisters; messages = []; steady = true }
+no_messages canisters = record { canisters = canisters; messages = [] }
+
+-- ---- a walk down the list
+
+-- the messages that were gone past, and those to come
+pub record Walked : Type 0 where
+  pub canisters : List (List ℕ)
+  pub kept : List Message
+  pub todo : List Message
+
+-- each of these, met after those that were kept, stays: its callee is a canister, or one of its sender to its callee has stayed
+abbrev pub AllStay : (canisters : List (List ℕ)) (kept : List Message) → List Message → Type 0
+AllStay canisters kept [] = Unit {0}
+AllStay canisters kept (m ∷ messages) = ((is_inside canisters m || list_any (same_way m) kept) ≡ true) × AllStay canisters (kept ++ m ∷ []) messages
+
+-- some of the messages to come were gone past, and they stay
+pub record GoesPast (w v : Walked) : Type 0 where
+  pub front : List Message
+  pub stay : AllStay w.canisters w.kept front
+  pub kept : v.kept ≡ w.kept ++ front
+  pub todo : w.todo ≡ front ++ v.todo
+  pub canisters : v.canisters ≡ w.canisters
+
+-- then one goes, which leaves
+pub record Takes (w : Walked) (m : Message) (v : Walked) : Type 0 where
+  pub past : GoesPast w (record v { todo = m ∷ v.todo })
+  pub goes : (is_inside w.canisters m || list_any (same_way m) v.kept) ≡ false
+
+-- what comes of a step of a walk
+abbrev pub Steps : Walked → Walked → Option Message → Type 0
+Steps w v None = GoesPast w v
+Steps w v (Some m) = Takes w m v

@@ -6,11 +6,14 @@
 //! take one out touches no other message. Contracts see the list.
 #![tactic(auto)]
 
-mod gathered;
 mod held;
 mod line;
 mod lists;
 mod queues;
 mod shelf;
+mod steady;
+mod walk;
 
 pub use queues::Queues;
+pub use steady::is_steady;
+pub use walk::Walk;

@@ -1,4 +1,4 @@
-ghost use Rattle.std.specs.Prelude.{◌≡◌, ◌++◌, ◌∷◌, [], drop, slice_get, OnOk};
+ghost use Rattle.std.specs.Prelude.{◌≡◌, ◌<◌, ◌==◌, ◌++◌, ◌∷◌, [], length, drop, slice_get, slice_index_or, OnOk};
 ghost use Rattle.ic_queues.specs.Lines.{without_number};
 
 use ic_base::NoMemory;
@@ -57,6 +57,28 @@ impl Line {
         {
             self.numbers.remove(place);
         }
+    }
+
+    /// How many numbers wait.
+    pub fn len(&self) -> usize
+        ensures { result ≡ length self.now }
+    {
+        self.numbers.len()
+    }
+
+    /// Whether no number waits.
+    pub fn is_empty(&self) -> bool
+        ensures { result ≡ (length self.now == 0) }
+    {
+        self.numbers.is_empty()
+    }
+
+    /// The number at a place of the queue.
+    pub fn get(&self, place: usize) -> u64
+        requires { place < length self.now }
+        ensures { result ≡ slice_index_or self.now place result }
+    {
+        self.numbers[place]
     }
 
     /// The numbers.

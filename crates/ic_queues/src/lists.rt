@@ -1,7 +1,7 @@
-ghost use Rattle.std.specs.Prelude.{◌≡◌, ◌&&◌, slice_get, OnOk};
+ghost use Rattle.std.specs.Prelude.{◌≡◌, slice_get, OnOk};
 ghost use Rattle.std.specs.Map.{lookup, remove_entry, values_of};
 ghost use Rattle.ic_behaviour.specs.State.{at};
-ghost use Rattle.ic_queues.specs.Queued.{may_change_canisters, is_steady, first_to, without_first_to, without_at, push};
+ghost use Rattle.ic_queues.specs.Queued.{first_to, without_first_to, without_at, push};
 ghost use Rattle.ic_queues.specs.Lines.{is_number, remove_number, numbered, waiting_with, outside_with, waiting_without, outside_without, popped_line, line_at};
 ghost use Rattle.ic_queues.specs.InLists.{queued_of, AreQueued};
 
@@ -9,7 +9,7 @@ use crate::held::Held;
 use crate::line::Line;
 use crate::shelf::Shelf;
 use ic_base::NoMemory;
-use ic_calls::{callee, is_management};
+use ic_calls::callee;
 use ic_principal::Principal;
 use ic_state::Message;
 use std::alloc::Global;
@@ -24,39 +24,6 @@ pub struct Lists {
     pub waiting: BTreeMap<Principal, Line>,
     /// The numbers of the messages to no canister.
     pub outside: Line,
-    /// `true` where no message may make or delete a canister.
-    pub steady: bool,
-}
-
-// Whether a message makes and deletes no canister: only some calls to the management canister may.
-fn is_steady(message: &Message) -> bool
-    ensures { result ≡ is_steady message.now }
-{
-    match message {
-        Message::Call { callee, method, .. } => {
-            !(is_management(callee) && may_change_canisters(&method.items))
-        }
-        Message::Answer { .. } => true,
-    }
-}
-
-// Whether a method of the management canister makes or deletes canisters.
-fn may_change_canisters(method: &str) -> bool
-    ensures { result ≡ may_change_canisters method.now }
-{
-    match method {
-        "create_canister" => true,
-        "provisional_create_canister_with_cycles" => true,
-        "delete_canister" => true,
-        _ => false,
-    }
-}
-
-// Whether each message is known to make and delete no canister, with one more.
-fn still_steady(steady: bool, message: &Message) -> bool
-    ensures { result ≡ (steady && is_steady message.now) }
-{
-    steady && is_steady(message)
 }
 
 // The message of a number leaves, if there is one.
@@ -79,8 +46,8 @@ fn pop_number(waiting: &mut BTreeMap<Principal, Line>, key: &Principal) -> Optio
     }
 }
 
-// A number comes last in the queue of its callee.
-fn line_up(
+/// A number comes last in the queue of its callee.
+pub fn line_up(
     waiting: &mut BTreeMap<Principal, Line>,
     outside: &mut Line,
     callee: &Principal,
@@ -160,7 +127,6 @@ impl Lists {
         ensures keeps { OnOk result (AreQueued self.new) }
         ensures queues { OnOk result (queued_of self.new ≡ push (queued_of self.old) message) }
     {
-        self.steady = still_steady(self.steady, &message);
         let callee = callee(&message);
         let number = self.messages.push(alloc, message)?;
         line_up(&mut self.waiting, &mut self.outside, &callee, number)?;

@@ -5,14 +5,14 @@ ghost use Rattle.std.specs.Map.{lookup, keys_of};
 ghost use Rattle.std.specs.Ordering.{nat_cmp};
 ghost use Rattle.std.specs.Cmp.Lexicographic.{slice_cmp};
 ghost use Rattle.ic_behaviour.specs.State.{at};
-ghost use Rattle.ic_behaviour.specs.Deliver.{is_management};
-ghost use Rattle.ic_queues.specs.Queued.{may_change_canisters, is_steady, first_to, without_first_to, without_at, first_of_way, push, outs, without_outs, no_messages};
+ghost use Rattle.ic_queues.specs.Queued.{first_to, without_first_to, without_at, first_of_way, push, no_messages};
+ghost use Rattle.ic_queues.specs.InLists.{queued_of, AreQueued};
 ghost use Rattle.ic_queues.specs.Lines.{remove_number, numbered, waiting_with, outside_with, empty_lines, popped_line, line_at};
 
-use crate::gathered::gather_all;
 use crate::line::Line;
 use crate::lists::Lists;
 use crate::shelf::Shelf;
+use crate::walk::Walk;
 use ic_base::NoMemory;
 use ic_principal::Principal;
 use ic_state::{CanisterPlace, Message, MessagePlace, Messages};
@@ -43,8 +43,22 @@ impl Model for Queues {
     ghost invariant = { λ w. AreQueued w.lists };
 }
 
-// An empty queue for each canister.
-fn empty_lines(
+/// Whether each of these canisters has a queue, and nobody else.
+pub fn have_queues(
+    waiting: &BTreeMap<Principal, Line>,
+    canisters: &BTreeMap<Principal, CanisterPlace>,
+) -> bool
+    ensures { result ≡ true → keys_of waiting.now.entries ≡ keys_of canisters.now.entries }
+{
+    waiting.len() == canisters.len()
+        && waiting
+            .keys()
+            .zip(canisters.keys())
+            .all(|(key, other)| *key == *other)
+}
+
+/// An empty queue for each canister.
+pub fn empty_lines(
     alloc: Global,
     canisters: Vec<Principal>,
 ) -> Result<BTreeMap<Principal, Line>, NoMemory>
@@ -67,7 +81,6 @@ impl Queues {
             messages: Shelf::new(alloc),
             waiting: empty_lines(alloc, canisters)?,
             outside: Line::new(alloc),
-            steady: true,
         };
         Ok(Queues { lists })
     }
@@ -90,19 +103,7 @@ impl Queues {
     pub fn are_of(&self, canisters: &BTreeMap<Principal, CanisterPlace>) -> bool
         ensures { result ≡ true → self.now.canisters ≡ keys_of canisters.now.entries }
     {
-        let waiting = &self.lists.waiting;
-        waiting.len() == canisters.len()
-            && waiting
-                .keys()
-                .zip(canisters.keys())
-                .all(|(key, other)| *key == *other)
-    }
-
-    /// Whether no message makes or deletes a canister; `false` says nothing.
-    pub fn is_steady(&self) -> bool
-        ensures { result ≡ true → AllByRecursion (λ m. is_steady m ≡ true) self.now.messages }
-    {
-        self.lists.steady
+        have_queues(&self.lists.waiting, canisters)
     }
 
     /// Takes the first message to a canister.
@@ -157,26 +158,20 @@ impl Queues {
         Ok(Queues { lists })
     }
 
-    /// Takes the messages to no canister.
-    pub fn take_outside(self, alloc: Global) -> Result<(Queues, Messages), NoMemory>
-        ensures queues { IfOk result (λ r. r.0 ≡ without_outs self) }
-        ensures messages { IfOk result (λ r. r.1 ≡ outs self) }
+    /// Before the first message of the list.
+    pub fn walk(self, alloc: Global) -> Walk
+        ensures { result ≡ record { canisters = self.canisters; kept = []; todo = self.messages } }
     {
         let Queues { lists } = self;
-        let Lists {
-            messages,
-            waiting,
-            outside,
-            steady,
-        } = lists;
-        let (messages, taken) = gather_all(alloc, messages, outside)?.open();
-        let lists = Lists {
-            messages,
-            waiting,
-            outside: Line::new(alloc),
-            steady,
-        };
-        Ok((Queues { lists }, taken))
+        Walk::start(alloc, lists)
+    }
+
+    // The queues of these parts.
+    pub fn of(lists: Lists) -> Queues
+        requires { AreQueued lists }
+        ensures { result ≡ queued_of lists }
+    {
+        Queues { lists }
     }
 
     /// The list of the messages.

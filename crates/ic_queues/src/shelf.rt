@@ -1,14 +1,16 @@
-ghost use Rattle.std.specs.Prelude.{◌≡◌, ◌+◌, ◌++◌, ◌∷◌, ◌==◌, ◌<◌, ◌≤◌, ◌^◌, [], false, length, take, slice_get, IfOk, OnOk};
+ghost use Rattle.std.specs.Prelude.{◌≡◌, ◌+◌, ◌++◌, ◌∷◌, ◌==◌, ◌<◌, ◌≤◌, ◌^◌, [], false, length, take, slice_get, option_map, IfOk, OnOk};
 ghost use Rattle.std.specs.Option.{option_to_list};
 ghost use Rattle.std.specs.Map.{lookup, remove_entry, keys_of, values_of};
-ghost use Rattle.std.specs.List.{list_any};
+ghost use Rattle.std.specs.List.{list_any, AllByRecursion};
 ghost use Rattle.ic_behaviour.specs.Steps.{same_way};
 ghost use Rattle.ic_queues.specs.Queued.{first_of_way};
 ghost use Rattle.ic_queues.specs.Lines.{is_number};
+ghost use Rattle.ic_queues.specs.Walking.{way_of};
 ghost use Rattle.ic_queues.specs.Shelved.{entries_from, starts_empty, emptied, message_at, messages_of, index_at, has_way};
 
 use crate::held::Held;
 use ic_base::NoMemory;
+use ic_principal::Principal;
 use ic_state::{Message, Messages};
 use std::alloc::{AllocError, Global};
 use std::collections::VecDeque;
@@ -32,6 +34,7 @@ pub struct Shelf {
 }
 
 impl Model for Shelf {
+    ghost use Rattle.ic_queues.specs.Walking.{way_of};
     ghost use Rattle.ic_queues.specs.Shelved.{Shelved, entries_from, IsShelf};
 
     ghost Value = { Shelved };
@@ -90,6 +93,27 @@ fn index_at(places: &VecDeque<Option<Held>>, place: usize) -> Option<usize>
         }
     }
     None
+}
+
+// The sender and the callee of the message of a place, if there is one of that index.
+fn way_at(places: &VecDeque<Option<Held>>, place: usize) -> Option<(Principal, Principal)>
+    ensures { result ≡ option_map way_of (message_at place places.now.items) }
+{
+    if place < places.len() {
+        way_of(&places[place])
+    } else {
+        None
+    }
+}
+
+// The sender and the callee of a message, if there is one.
+fn way_of(place: &Option<Held>) -> Option<(Principal, Principal)>
+    ensures { result ≡ option_map way_of place.now }
+{
+    match place {
+        Some(held) => Some((held.sender(), held.callee())),
+        None => None,
+    }
 }
 
 // Whether a place has a message of the same way.
@@ -215,6 +239,30 @@ impl Shelf {
         trim(&mut self.first, &mut self.places);
         self.count = count_without(self.count, &message);
         message
+    }
+
+    /// No message has a lower number.
+    pub fn first(&self) -> u64
+        ensures { AllByRecursion (λ n. result ≤ n) (keys_of self.now.entries) }
+    {
+        self.first
+    }
+
+    /// The number of the next message.
+    pub fn next(&self) -> u64
+        ensures { result ≡ self.now.next }
+    {
+        self.next
+    }
+
+    /// The sender and the callee of the message of a number, if it is there.
+    pub fn way(&self, number: u64) -> Option<(Principal, Principal)>
+        ensures { result ≡ option_map way_of (lookup (is_number number) self.now.entries) }
+    {
+        if number < self.first {
+            return None;
+        }
+        way_at(&self.places, (number - self.first) as usize)
     }
 
     /// The number of the message at a place of the list, if there is one.

@@ -1,5 +1,5 @@
 use crate::digest::digest_with;
-use crate::queues::asks::{fanning, managing, some_canister, to_canister, to_management};
+use crate::queues::asks::{creation, fanning, managing, some_canister, to_canister, to_management};
 use crate::queues::dice::Dice;
 use crate::queues::worlds::{Body, asked, begun, rounds};
 use ic_principal::Principal;
@@ -68,6 +68,28 @@ fn fanned<R: Threads + Sync>(alloc: Global, rt: &R, body: Body, world: World) ->
     rounds(alloc, rt, body, world, 1)
 }
 
+// A canister is made, stopped and deleted, with so many calls to it before its deletion and one after that. It handles the first
+// one; the last one goes back in the same round, unless another one stays before it.
+fn parted<R: Threads + Sync>(
+    alloc: Global,
+    rt: &R,
+    body: Body,
+    world: World,
+    before: u32,
+) -> Option<World> {
+    let id = Principal::canister_id(world.parts().next_canister);
+    let world = asked(world, creation(alloc))?;
+    let world = rounds(alloc, rt, body, world, 1)?;
+    let world = asked(world, managing(alloc, "stop_canister", id))?;
+    let mut world = rounds(alloc, rt, body, world, 1)?;
+    for _ in 0..before {
+        world = asked(world, fanning(alloc, id))?;
+    }
+    let world = asked(world, managing(alloc, "delete_canister", id))?;
+    let world = asked(world, fanning(alloc, id))?;
+    rounds(alloc, rt, body, world, 1)
+}
+
 // Calls and some rounds in turn, and then all rounds.
 fn script<R: Threads + Sync>(alloc: Global, rt: &R, body: Body, seed: u64) -> Option<Left> {
     let mut dice = Dice::new(seed);
@@ -81,6 +103,10 @@ fn script<R: Threads + Sync>(alloc: Global, rt: &R, body: Body, seed: u64) -> Op
             _ => 20,
         };
         world = rounds(alloc, rt, body, world, count)?;
+        digest = digest_with(alloc, digest, &world);
+    }
+    for before in 1..3 {
+        world = parted(alloc, rt, body, world, before)?;
         digest = digest_with(alloc, digest, &world);
     }
     let world = fanned(alloc, rt, body, world)?;

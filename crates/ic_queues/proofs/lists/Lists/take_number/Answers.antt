@@ -8,16 +8,16 @@ use Rattle.ic_queues.proofs.Queueing.{LeaveEnds, leave_ends}
 use Rattle.ic_queues.proofs.lists.Lists.take_number.Goals as goal
 
 ends : (c : goal.After-take-in-Some)
-    → LeaveEnds c.args.self.now.messages.entries c.args.self.now.waiting.entries c.args.self.now.outside c.args.self.now.messages.next c.args.self.now.steady c.take.new.self.entries c.leave_line.new.waiting.entries c.leave_line.new.outside
+    → LeaveEnds c.args.self.now.messages.entries c.args.self.now.waiting.entries c.args.self.now.outside c.args.self.now.messages.next c.take.new.self.entries c.leave_line.new.waiting.entries c.leave_line.new.outside
 ends c =
     let before = c.args.self.now in
-    leave_ends before.messages.entries before.waiting.entries before.outside before.messages.next before.steady c.args.number c.in-Some.held c.callee-callee.result
+    leave_ends before.messages.entries before.waiting.entries before.outside before.messages.next c.args.number c.in-Some.held c.callee-callee.result
     c.take.new.self.entries c.leave_line.new.waiting.entries c.leave_line.new.outside c.requires (sym c.take.ensures.message ∙ c.in-Some.is) c.callee-callee.ensures
     (ap (λ (s : Shelved). s.entries) c.take.ensures.rest) c.leave_line.ensures.waiting c.leave_line.ensures.outside
 
 pub returns-in-Some-clause-keeps : goal.returns-in-Some-clause-keeps
 returns-in-Some-clause-keeps c =
-    subst (λ (n : ℕ). IsQueued c.take.new.self.entries c.leave_line.new.waiting.entries c.leave_line.new.outside n c.args.self.now.steady) (sym (ap (λ (s : Shelved). s.next) c.take.ensures.rest)) (ends c).queued
+    subst (λ (n : ℕ). IsQueued c.take.new.self.entries c.leave_line.new.waiting.entries c.leave_line.new.outside n) (sym (ap (λ (s : Shelved). s.next) c.take.ensures.rest)) (ends c).queued
 
 pub returns-in-Some-clause-messages : goal.returns-in-Some-clause-messages
 returns-in-Some-clause-messages c = ap (λ (s : Shelved). values_of s.entries) c.take.ensures.rest
@@ -31,5 +31,5 @@ returns-in-None-clause-keeps c =
     let same = not-found c.args.number before.messages.entries (sym c.take.ensures.message ∙ c.in-None.is) in
     let entries : before.messages.entries ≡ c.take.new.self.entries = sym (ap (λ (s : Shelved). s.entries) c.take.ensures.rest ∙ same) in
     let next : before.messages.next ≡ c.take.new.self.next = sym (ap (λ (s : Shelved). s.next) c.take.ensures.rest) in
-    subst (λ (n : ℕ). IsQueued c.take.new.self.entries before.waiting.entries before.outside n before.steady) next
-    (subst (λ (l : List (ℕ × Message)). IsQueued l before.waiting.entries before.outside before.messages.next before.steady) entries c.requires)
+    subst (λ (n : ℕ). IsQueued c.take.new.self.entries before.waiting.entries before.outside n) next
+    (subst (λ (l : List (ℕ × Message)). IsQueued l before.waiting.entries before.outside before.messages.next) entries c.requires)

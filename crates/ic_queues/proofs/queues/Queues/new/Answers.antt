@@ -1,7 +1,7 @@
-use Rattle.std.proofs.Common.{ℕ, true, sym, ap, subst}
+use Rattle.std.proofs.Common.{ℕ, sym, ap, subst}
 use Rattle.ic_queues.specs.Lines.{IsQueued}
 use Rattle.ic_queues.specs.Shelved.{Shelved}
-use Rattle.ic_queues.proofs.Outsides.{NewEnd, new_end}
+use Rattle.ic_queues.proofs.Starts.{NewEnd, new_end}
 use Rattle.ic_queues.proofs.queues.Queues.new.Goals as goal
 
 ends : (c : goal.After-new-2) → NewEnd c.args.canisters.items c.in_ok-empty_lines.field-0.entries c.new.result.entries c.new-2.result
@@ -10,7 +10,7 @@ ends c =
 
 pub invariant_of-result : goal.invariant_of-result
 invariant_of-result c =
-    subst (λ (n : ℕ). IsQueued c.new.result.entries c.in_ok-empty_lines.field-0.entries c.new-2.result n true) (sym (ap (λ (s : Shelved). s.next) c.new.ensures)) (ends c).queued
+    subst (λ (n : ℕ). IsQueued c.new.result.entries c.in_ok-empty_lines.field-0.entries c.new-2.result n) (sym (ap (λ (s : Shelved). s.next) c.new.ensures)) (ends c).queued
 
 pub returns : goal.returns
 returns c = (ends c).queues
