@@ -51,6 +51,7 @@ printed_over limits choices.All tests printed status (told, counts, tells, text,
 printed_over limits (choices.Only part) tests printed status (told, counts, tells, text, inl (is, failed, undecided)) = inl is
 printed_over limits (choices.Only part) tests printed status (told, counts, tells, text, inr (is, some)) = inr is
 printed_over limits (choices.Script wanted) tests printed status is = inl is
+printed_over limits (choices.Picture wanted) tests printed status is = inl is
 
 runs_over : (gives : Gives) (options : TestOptions) (before after : Option (List ℕ)) (status : Status) → RunsTests gives options before after status → IsOver status
 runs_over gives options before after status (suites, limits, are, given, (some, (printed, is, took))) =

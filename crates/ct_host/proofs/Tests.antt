@@ -5,18 +5,24 @@ use Rattle.std.proofs.lemmas.List.{append-nil}
 use Rattle.std.specs.Io.KnownBytes.{append_known}
 use Rattle.ct_check.specs.Moving.{Moving}
 use Rattle.ct_check.specs.declared.checked.CheckedStep.{CheckedStep}
+use Rattle.ct_check.specs.declared.checked.CheckedStep.TheVariants.{Interleave}
 use Rattle.ct_check.specs.declared.checked.CheckedTest.{CheckedTest}
 use Rattle.ct_outcomes.specs.declared.came.Came.{Came}
 use Rattle.ct_outcomes.specs.declared.named.Named.{Named}
 use Rattle.ct_run.specs.Statements.{Setting}
-use Rattle.ct_orders.specs.Verdicts.{FailsFirst, HasTooMany, Passes}
+use Rattle.ct_orders.specs.Verdicts.{FailsFirst, HasTooMany, IsAt, Passes, whole}
+use Rattle.ct_orders.specs.declared.verdict.Ended.{Ended}
+use Rattle.ct_orders.specs.declared.verdict.NotMet.{NotMet}
+use Rattle.ct_orders.specs.declared.verdict.TooMany.{TooMany}
+use Rattle.ct_orders.specs.declared.verdict.Verdict.TheVariants as verdicts
+use Rattle.ct_report.specs.declared.tap.Block.{Block}
 use Rattle.ct_report.specs.declared.tap.Counts.{Counts}
-use Rattle.ct_report.specs.Texts.{block_text, counts_text, failed_text, next_number, passed_text, place_text, plan_text, undecided_text}
+use Rattle.ct_report.specs.Texts.{block_text, counts_text, failed_text, next_number, place_text, plan_text}
 use Rattle.ct_report.specs.Told.{Tells}
 use Rattle.ct_words.specs.declared.Choice.{Choice}
 use Rattle.ct_host.specs.Chosen.{Chosen, chosen_in, chosen_tests, is_chosen, parts_of}
 use Rattle.ct_host.specs.Looking.{Suite}
-use Rattle.ct_host.specs.Reports.{IsReport, IsVerdict, TellsTest, TellsTests, chosen_setting, no_counts, place_in}
+use Rattle.ct_host.specs.Reports.{HasEnded, IsReport, IsVerdict, TellsTest, TellsTests, TellsVerdict, chosen_setting, no_counts, place_in}
 use Rattle.ct_host.specs.declared.running.Limits.{Limits}
 use Rattle.ct_host.specs.declared.status.Status.{Status}
 
@@ -101,31 +107,41 @@ reported limits tests before first second after plan text start counts status pl
       ∙ known_more before plan (told ++ text),
 )
 
--- what is told of a test that ended so, run with this and with these parts
-module _ (limits : Limits) (chosen : Chosen) (counts next : Counts) (setting : Setting) (steps : List CheckedStep) (number : ℕ) (title : List ℕ) where
-  pub told_passed : {E : Type 0} (r : Result (List ℕ) E) → setting ≡ chosen_setting limits chosen → steps ≡ parts_of chosen → number ≡ next_number counts → title ≡ chosen.test.name
-      → Passes setting steps → next ≡ record counts { passed = counts.passed + 1 } → IfOk r (λ told. told ≡ passed_text number title) → IfOk r (λ told. TellsTest limits chosen counts told next)
-  told_passed (Err e) set parted numbered titled passes counted is = tt
-  told_passed (Ok told) set parted numbered titled passes counted is = inl (rw (set, parted) at passes, rw (numbered, titled) at is, counted)
+-- ---- what is told of one
 
-  pub told_failed : {E : Type 0} (r : Result (List ℕ) E) (place start most : ℕ) (order : List ℕ) (names : List Named) (came : Came) (name text : List ℕ)
-      → setting ≡ chosen_setting limits chosen → steps ≡ parts_of chosen → number ≡ next_number counts → title ≡ chosen.test.name
-      → name ≡ chosen.suite.sourced.name → text ≡ chosen.suite.sourced.text → most ≡ limits.states
-      → FailsFirst setting most steps place order names came → next ≡ record counts { failed = counts.failed + 1 }
-      → IfOk r (λ told. (expected : List ℕ) × (got : List ℕ) × (lines : List (List ℕ)) × Tells came got × (told ≡ failed_text number title ++ block_text (place_text name text start) expected got lines))
-      → IfOk r (λ told. TellsTest limits chosen counts told next)
-  told_failed (Err e) place start most order names came name text set parted numbered titled named written mosts fails counted is = tt
-  told_failed (Ok told) place start most order names came name text set parted numbered titled named written mosts fails counted (expected, got, lines, tells, is) =
-      let block = block_text (place_in chosen.suite.sourced start) expected got lines in
-      let here : told ≡ failed_text (next_number counts) chosen.test.name ++ block = rw (numbered, titled, named, written) at is in
-      inr (inl (place, order, names, came, block, rw (set, parted, mosts) at fails, (start, expected, got, lines, tells, refl), here, counted))
+-- what is told of a test that failed
+pub told_failed : {E : Type 0} (limits : Limits) (chosen : Chosen) (counts next : Counts) (number : ℕ) (title : List ℕ) (r : Result (List ℕ) E)
+    (place start : ℕ) (order : List ℕ) (names : List Named) (came : Came) (name text : List ℕ)
+    → number ≡ next_number counts → title ≡ chosen.test.name → name ≡ chosen.suite.sourced.name → text ≡ chosen.suite.sourced.text
+    → FailsFirst (chosen_setting limits chosen) limits.states (parts_of chosen) place order names came → next ≡ record counts { failed = counts.failed + 1 }
+    → IfOk r (λ told. (block : Block) × Tells came block.got × (block.at ≡ place_text name text start) × (told ≡ failed_text number title ++ block_text block))
+    → IfOk r (λ told. TellsVerdict limits chosen counts told next)
+told_failed limits chosen counts next number title (Err e) place start order names came name text numbered titled named written fails counted is = tt
+told_failed limits chosen counts next number title (Ok told) place start order names came name text numbered titled named written fails counted (block, tells, at_place, is) =
+    let there : block.at ≡ place_in chosen.suite.sourced start = rw (named, written) at at_place in
+    let here : told ≡ failed_text (next_number counts) chosen.test.name ++ block_text block = rw (numbered, titled) at is in
+    inr (inl (place, order, names, came, block_text block, fails, (start, block, tells, there, refl), here, counted))
 
-  pub told_undecided : {E : Type 0} (r : Result (List ℕ) E) (place most states : ℕ) (name text : List ℕ)
-      → setting ≡ chosen_setting limits chosen → steps ≡ parts_of chosen → number ≡ next_number counts → title ≡ chosen.test.name
-      → name ≡ chosen.suite.sourced.name → text ≡ chosen.suite.sourced.text → most ≡ limits.states → states ≡ limits.states
-      → ((left : List CheckedStep) × (moves : List Moving) × HasTooMany setting steps left moves most) → next ≡ record counts { undecided = counts.undecided + 1 }
-      → IfOk r (λ told. told ≡ failed_text number title ++ undecided_text (place_text name text place) states)
-      → IfOk r (λ told. TellsTest limits chosen counts told next)
-  told_undecided (Err e) place most states name text set parted numbered titled named written mosts stated more counted is = tt
-  told_undecided (Ok told) place most states name text set parted numbered titled named written mosts stated (left, moves, more) counted is =
-      inr (inr (place, left, moves, rw (set, parted, mosts) at more, rw (numbered, titled, named, written, stated) at is, counted))
+-- the parts of a test that is in a file are those of the test that is meant
+pub parts : (suite other : Suite) (inside chosen : Chosen) → suite ≡ other → inside ≡ chosen → other ≡ inside.suite → whole suite.checked.preamble inside.test.steps ≡ parts_of chosen
+parts suite other inside chosen first second same =
+    ap (λ (s : Suite). whole s.checked.preamble inside.test.steps) (first ∙ same) ∙ ap (λ (x : Chosen). parts_of x) second
+
+-- how a test ended, run with the parts of the test that is meant
+module _ (limits : Limits) (chosen : Chosen) (setting : Setting) (most : ℕ) (steps : List CheckedStep)
+    (set : setting ≡ chosen_setting limits chosen) (mosts : most ≡ limits.states) (parted : steps ≡ parts_of chosen) where
+  meant_by : (P : Setting → ℕ → List CheckedStep → Type 0) → P setting most steps → P (chosen_setting limits chosen) limits.states (parts_of chosen)
+  meant_by P holds =
+      subst (λ (s : Setting). P s limits.states (parts_of chosen)) set
+      (subst (λ (n : ℕ). P setting n (parts_of chosen)) mosts (subst (λ (l : List CheckedStep). P setting most l) parted holds))
+
+  pub has_ended : (ended : Ended) → (ended.verdict ≡ verdicts.Passed → Passes setting steps)
+      → ((unmet : NotMet) → ended.verdict ≡ verdicts.Failed unmet → FailsFirst setting most steps unmet.failure.place ended.way.order.items unmet.names unmet.failure.unmet.came)
+      → ((first : TooMany) → ended.verdict ≡ verdicts.Undecided first
+      → (left : List CheckedStep) × (moves : List Moving) × HasTooMany setting steps left moves most × IsAt steps first.part (Interleave moves ∷ left))
+      → HasEnded limits chosen ended
+  has_ended ended passed failed undecided = record {
+    passed = λ e. meant_by (λ s n l. Passes s l) (passed e);
+    failed = λ unmet e. meant_by (λ s n l. FailsFirst s n l unmet.failure.place ended.way.order.items unmet.names unmet.failure.unmet.came) (failed unmet e);
+    undecided = λ first e. meant_by (λ s n l. (left : List CheckedStep) × (moves : List Moving) × HasTooMany s l left moves n × IsAt l first.part (Interleave moves ∷ left)) (undecided first e);
+  }

@@ -5,7 +5,7 @@ use Rattle.std.specs.Str.{bytes_eq}
 use Rattle.ct_check.specs.declared.checked.CheckedStep.{CheckedStep}
 use Rattle.ct_check.specs.declared.checked.CheckedTest.{CheckedTest}
 use Rattle.ct_words.specs.declared.Choice.{Choice}
-use Rattle.ct_words.specs.declared.Choice.TheVariants.{All, Only, Script}
+use Rattle.ct_words.specs.declared.Choice.TheVariants.{All, Only, Script, Picture}
 use Rattle.ct_orders.specs.Verdicts.{whole}
 use Rattle.ct_host.specs.Looking.{Suite}
 
@@ -19,6 +19,7 @@ abbrev pub is_chosen : Choice → (name : List ℕ) → Bool
 is_chosen All name = true
 is_chosen (Only part) name = has_part part name
 is_chosen (Script wanted) name = bytes_eq name wanted
+is_chosen (Picture wanted) name = bytes_eq name wanted
 
 -- a test of a file
 pub record Chosen : Type 0 where
@@ -45,3 +46,4 @@ abbrev pub AreSome : Choice → List Chosen → Type 0
 AreSome All chosen = Unit {0}
 AreSome (Only part) chosen = chosen ≢ []
 AreSome (Script wanted) chosen = chosen ≢ []
+AreSome (Picture wanted) chosen = chosen ≢ []

@@ -41,6 +41,7 @@ pub record AreOf (options : TestOptions) (limits : Limits) : Type 0 where
   pub limit : limits.charge.limit ≡ options.limit
   pub price : limits.charge.price ≡ options.price
   pub states : limits.states ≡ options.states
+  pub trace : limits.trace ≡ options.trace
 
 -- of all files all holds that must, and the tests that are meant are run as the words say
 abbrev pub RunsTests : Gives → TestOptions → (before after : Option (List ℕ)) → Status → Type 0

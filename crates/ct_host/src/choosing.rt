@@ -34,6 +34,7 @@ fn is_chosen(choice: &Choice, test: &CheckedTest<'_, '_, '_>) -> bool
         Choice::All => true,
         Choice::Only(part) => name.contains(part.items.as_str()),
         Choice::Script(wanted) => name == wanted.items.as_str(),
+        Choice::Picture(wanted) => name == wanted.items.as_str(),
     }
 }
 
@@ -94,7 +95,7 @@ pub(crate) fn are_some(
             let told = bad_words(alloc, "no test has this text in its name\n")?;
             Err(Stop::Told(told))
         }
-        Choice::Script(_) => {
+        Choice::Script(_) | Choice::Picture(_) => {
             let told = bad_words(alloc, "no test has this name\n")?;
             Err(Stop::Told(told))
         }

@@ -1,13 +1,16 @@
-ghost use Rattle.std.specs.Prelude.{◌≡◌, List, ℕ, IfOk, OnOk};
+ghost use Rattle.std.specs.Prelude.{◌≡◌, List, [], ℕ, false, IfOk, OnOk};
 ghost use Rattle.std.specs.Io.KnownBytes.{append_known};
+ghost use Rattle.ct_report.specs.Texts.{comments_text};
 ghost use Rattle.ct_host.specs.Ends.{faults_after};
-ghost use Rattle.ct_host.specs.Reports.{IsReport, IsVerdict, Prints, TellsTest, TellsTests, chosen_setting};
+ghost use Rattle.ct_host.specs.Reports.{HasEnded, IsReport, IsVerdict, Prints, TellsTest, TellsTests, TellsVerdict, chosen_setting};
 
 use crate::choosing::Chosen;
 use crate::outputs::Outputs;
 use crate::status::Status;
 use crate::stop::Broken;
-use ct_orders::{Ended, Retold, Tester, Verdict};
+use ct_cases::Tester;
+use ct_orders::{Ended, Retold, Verdict, Way, retell, retell_traced};
+use ct_picture::picture;
 use ct_report::{Counts, TestFile, delivery_text, passed, plan};
 use ct_run::Runner;
 use ct_script::Script;
@@ -19,11 +22,13 @@ use ic_state::Charge;
 use std::alloc::Global;
 use std::thread::Threads;
 
-/// The limit and the price of instructions, and the most states that an interleave may meet.
+/// The limit and the price of instructions, the most states that an interleave may meet, and whether it is told what each
+/// test did.
 #[derive(Clone, Copy)]
 pub(crate) struct Limits {
     pub(crate) charge: Charge,
     pub(crate) states: u32,
+    pub(crate) trace: bool,
 }
 
 /// What tests are run with.
@@ -65,33 +70,84 @@ impl<'i, R: Threads + Sync, G: Gate + Sync> Session<'i, R, G> {
         }
     }
 
-    // Runs a test, and says what is printed of it.
-    fn test(&self, chosen: &Chosen<'_, 'i, '_>, counts: &mut Counts) -> Result<Bytes, NoMemory>
-        ensures { IfOk result (λ told. TellsTest self.now.limits chosen.now counts.old told counts.new) }
+    // Runs a test anew, along a way.
+    fn retold(&self, chosen: &Chosen<'_, 'i, '_>, way: &Way) -> Result<Retold<'i>, NoMemory> {
+        let suite = chosen.suite;
+        let tester = self.tester(chosen);
+        retell_traced(&tester, &suite.checked.preamble, chosen.test, way)
+    }
+
+    // Says what came of a test that ended so.
+    fn verdict_of(
+        &self,
+        chosen: &Chosen<'_, 'i, '_>,
+        ended: &Ended<'i>,
+        counts: &mut Counts,
+    ) -> Result<Bytes, NoMemory>
+        requires { HasEnded self.now.limits chosen.now ended.now }
+        ensures { IfOk result (λ told. TellsVerdict self.now.limits chosen.now counts.old told counts.new) }
     {
         let alloc = self.alloc;
         let number = counts.next()?;
         let name = &chosen.test.name;
         let suite = chosen.suite;
         let file = suite.test_file();
-        let preamble = &suite.checked.preamble;
-        let tester = self.tester(chosen);
-        let Ended { verdict, way } = tester.test(preamble, chosen.test)?;
-        match verdict {
+        match &ended.verdict {
             Verdict::Passed => {
                 counts.pass()?;
                 passed(alloc, number, name)
             }
             Verdict::Failed(not_met) => {
                 counts.fail()?;
-                let told = tester.deliveries(preamble, chosen.test, &way)?;
-                file.not_passed(alloc, number, name, &not_met, &told)
+                let told = self.retold(chosen, &ended.way)?;
+                file.not_passed(alloc, number, name, not_met, &told)
             }
-            Verdict::Undecided(place) => {
+            Verdict::Undecided(first) => {
                 counts.leave()?;
-                file.not_decided(alloc, number, name, place, self.limits.states)
+                file.not_decided(alloc, number, name, first.place, self.limits.states)
             }
         }
+    }
+
+    // What a test did on a way, as comments, where that is wanted.
+    fn comments(&self, chosen: &Chosen<'_, 'i, '_>, way: &Way) -> Result<Bytes, NoMemory>
+        ensures { IfOk result (λ told. (comments : List (List ℕ)) × (self.now.limits.trace ≡ false → comments ≡ []) × (told ≡ comments_text comments)) }
+    {
+        if !self.limits.trace {
+            return Ok(Bytes {
+                items: Vec::new(self.alloc),
+            });
+        }
+        let suite = chosen.suite;
+        let told = self.retold(chosen, way)?;
+        let text = suite.test_file().traced(self.alloc, &told)?;
+        Ok(text)
+    }
+
+    // Says what is printed of a test that ended so.
+    fn told(
+        &self,
+        chosen: &Chosen<'_, 'i, '_>,
+        ended: &Ended<'i>,
+        counts: &mut Counts,
+    ) -> Result<Bytes, NoMemory>
+        requires { HasEnded self.now.limits chosen.now ended.now }
+        ensures { IfOk result (λ told. TellsTest self.now.limits chosen.now counts.old told counts.new) }
+    {
+        let mut text = self.verdict_of(chosen, ended, counts)?;
+        let comments = self.comments(chosen, &ended.way)?;
+        text.items.extend_from_slice(&comments.items)?;
+        Ok(text)
+    }
+
+    // Runs a test, and says what is printed of it.
+    fn test(&self, chosen: &Chosen<'_, 'i, '_>, counts: &mut Counts) -> Result<Bytes, NoMemory>
+        ensures { IfOk result (λ told. TellsTest self.now.limits chosen.now counts.old told counts.new) }
+    {
+        let suite = chosen.suite;
+        let tester = self.tester(chosen);
+        let ended = ct_orders::test(&tester, &suite.checked.preamble, chosen.test)?;
+        self.told(chosen, &ended, counts)
     }
 
     // Runs a test, and prints it when it ends.
@@ -174,8 +230,8 @@ impl<'i, R: Threads + Sync, G: Gate + Sync> Session<'i, R, G> {
         let suite = chosen.suite;
         let preamble = &suite.checked.preamble;
         let tester = self.tester(chosen);
-        let Ended { way, .. } = tester.test(preamble, chosen.test)?;
-        let retold = tester.retell(preamble, chosen.test, &way, &mut script)?;
+        let Ended { way, .. } = ct_orders::test(&tester, preamble, chosen.test)?;
+        let retold = retell(&tester, preamble, chosen.test, &way, &mut script)?;
         self.push_cut(&suite.test_file(), &retold, &mut script)?;
         Ok(Bytes {
             items: script.into_lines().unwrap_or(Vec::new(alloc)),
@@ -198,6 +254,39 @@ impl<'i, R: Threads + Sync, G: Gate + Sync> Session<'i, R, G> {
         Ok(Status::Passed)
     }
 
+    // The order of a test, drawn.
+    fn picture_of(&self, chosen: &Chosen<'_, 'i, '_>) -> Result<Bytes, NoMemory> {
+        let suite = chosen.suite;
+        let tester = self.tester(chosen);
+        let Ended { verdict, way } = ct_orders::test(
+            &tester,
+            &suite.checked.preamble,
+            chosen.test,
+        )?;
+        let told = self.retold(chosen, &way)?;
+        let not_met = match &verdict {
+            Verdict::Failed(not_met) => Some(not_met),
+            Verdict::Passed | Verdict::Undecided(_) => None,
+        };
+        picture(self.alloc, &suite.test_file(), &told, not_met)
+    }
+
+    // Prints the picture of the first test.
+    fn print_picture<K: Sink + Drop, E: Sink + Drop>(
+        &self,
+        tests: &[Chosen<'_, 'i, '_>],
+        outputs: &mut Outputs<K, E>,
+    ) -> Result<Status, Broken>
+        ensures printed { IfOk result (λ status. (picture : List ℕ) × (status ≡ Status.Passed)
+            × (K.taken outputs.new.out ≡ append_known (K.taken outputs.old.out) picture)) }
+        ensures counted { K.faults outputs.new.out ≡ faults_after (K.faults outputs.old.out) result }
+    {
+        if let Some(first) = tests.first() {
+            outputs.print(&self.picture_of(first)?)?;
+        }
+        Ok(Status::Passed)
+    }
+
     /// Runs tests and reports what came of them, or prints the script of the first.
     pub(crate) fn perform<K: Sink + Drop, E: Sink + Drop>(
         &self,
@@ -212,6 +301,7 @@ impl<'i, R: Threads + Sync, G: Gate + Sync> Session<'i, R, G> {
             Choice::All => self.report(tests, outputs),
             Choice::Only(_) => self.report(tests, outputs),
             Choice::Script(_) => self.print_script(tests, outputs),
+            Choice::Picture(_) => self.print_picture(tests, outputs),
         }
     }
 }

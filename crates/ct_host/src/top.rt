@@ -36,6 +36,7 @@ fn limits_of(options: &TestOptions) -> Limits
             price: options.price,
         },
         states: options.states,
+        trace: options.trace,
     }
 }
 

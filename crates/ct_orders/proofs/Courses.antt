@@ -18,15 +18,17 @@ use Rattle.ct_run.specs.Called.{after_acts}
 use Rattle.ct_run.specs.Statements.{Setting, IsMet, IsUnmet, first_names}
 use Rattle.ct_run.specs.Runs.{Runs, Stops}
 use Rattle.ct_run.proofs.One.{MeetsOnce, met_once}
-use Rattle.ct_orders.specs.Interleaves.{IsOnWay, IsEnd, CallsAreMet}
-use Rattle.ct_orders.specs.Meanings.{Meaning}
-use Rattle.ct_orders.specs.Reached.{Reached, IsBegun}
+use Rattle.ct_cases.specs.Interleaves.{IsOnWay, IsEnd, CallsAreMet}
+use Rattle.ct_cases.specs.Meanings.{Meaning}
+use Rattle.ct_cases.specs.Reached.{Reached, IsBegun}
 use Rattle.ct_orders.specs.Ways.{Comes, begins, states, leaves}
-use Rattle.ct_orders.specs.Verdicts.{CanBegin, EndsWithin, HoldsTo, OnEachWayTo, AllHolds, Holds, HoldsBefore, IsAt, Passes, Fails, FailsFirst, IsStart, HasTooMany}
+use Rattle.ct_cases.specs.Holding.{CanBegin, EndsWithin, HoldsTo}
+use Rattle.ct_orders.specs.Verdicts.{OnEachWayTo, AllHolds, Holds, HoldsBefore, IsAt, Passes, Fails, FailsFirst, IsStart, HasTooMany}
 use Rattle.ct_orders.specs.Verdicts as fails
-use Rattle.ct_orders.specs.Cases.{first_case, IsAfter, AreAfter, IsUnmetIn, AreBegun, Begins, IsStuckIn, IsRefutedFrom, HoldsToFrom, IsBehind, HasCase, HoldsFrom, HasMore, Leads}
+use Rattle.ct_orders.specs.declared.verdict.TooMany.{TooMany}
+use Rattle.ct_cases.specs.Cases.{first_case, IsAfter, AreAfter, IsUnmetIn, AreBegun, Begins, IsStuckIn, IsRefutedFrom, HoldsToFrom, IsBehind, HasCase, HoldsFrom, HasMore, Leads}
 use Rattle.ct_orders.specs.Course.{first_undecided, HadTooMany, IsWhole, IsDecided, IsSoFar}
-use Rattle.ct_orders.proofs.Lists.{any_first, any_later, any_split, any_as, all_as, all_first, all_later, all_none, all_cons, front_is, none_of, found}
+use Rattle.ct_cases.proofs.Lists.{any_first, any_later, any_split, any_as, all_as, all_first, all_later, all_none, all_cons, front_is, none_of, found}
 use Rattle.ct_orders.proofs.Parts.{Came, at_first, by_statement, by_interleave, came, one_left, few_left}
 
 module _ (setting : Setting) (most : ℕ) (steps : List CheckedStep) where
@@ -83,12 +85,12 @@ module _ (setting : Setting) (most : ℕ) (steps : List CheckedStep) where
   -- ---- all that comes before holds
 
   module _ (left : List CheckedStep) (cs : List Reached) (place : ℕ) (at : IsAt steps place left) where
-    held_before : (undecided : Option ℕ) → IsDecided setting most steps left cs undecided → HoldsBefore setting most steps place
+    held_before : (undecided : Option TooMany) → IsDecided setting most steps left cs undecided → HoldsBefore setting most steps place
     held_before None whole =
         inl (whole.longest, λ s names rest order comes more. whole.before s names rest order comes (omega (arith, at, more)))
-    held_before (Some first) (rest, moves, more, within) = inr (rest, moves, more, omega (arith, at, within))
+    held_before (Some first) (rest, moves, more, within, there) = inr (rest, moves, more, omega (arith, at, within))
 
-    pub fails_first : (undecided : Option ℕ) (order : List ℕ) (names : List Named) (came : What) → IsSoFar setting most steps left cs undecided
+    pub fails_first : (undecided : Option TooMany) (order : List ℕ) (names : List Named) (came : What) → IsSoFar setting most steps left cs undecided
         → Fails setting most steps place order names came → FailsFirst setting most steps place order names came
     fails_first undecided order names came so_far fails = record { fails = fails; before = held_before undecided so_far.decided }
 
@@ -173,11 +175,11 @@ module _ (setting : Setting) (most : ℕ) (steps : List CheckedStep) where
       }
 
     decided_after : MeetsOnce → (done : List CheckedStep) → steps ≡ done ++ Statement statement ∷ left → (cs ds : List Reached) → AreAfter setting statement cs ds
-        → (undecided : Option ℕ) → IsDecided setting most steps (Statement statement ∷ left) cs undecided → IsDecided setting most steps left ds undecided
+        → (undecided : Option TooMany) → IsDecided setting most steps (Statement statement ∷ left) cs undecided → IsDecided setting most steps left ds undecided
     decided_after meeting_once done parts cs ds after None decided = whole_after meeting_once done parts cs ds after decided
-    decided_after meeting_once done parts cs ds after (Some place) (rest, moves, more, within) = (rest, moves, more, omega (arith, within))
+    decided_after meeting_once done parts cs ds after (Some first) (rest, moves, more, within, there) = (rest, moves, more, omega (arith, within), there)
 
-    pub statement_goes_on : MeetsOnce → (cs ds : List Reached) (undecided : Option ℕ) → IsSoFar setting most steps (Statement statement ∷ left) cs undecided → AreAfter setting statement cs ds
+    pub statement_goes_on : MeetsOnce → (cs ds : List Reached) (undecided : Option TooMany) → IsSoFar setting most steps (Statement statement ∷ left) cs undecided → AreAfter setting statement cs ds
         → IsSoFar setting most steps left ds undecided
     statement_goes_on meeting_once cs ds undecided so_far after = record {
       done = so_far.done ++ Statement statement ∷ [];
@@ -186,7 +188,7 @@ module _ (setting : Setting) (most : ℕ) (steps : List CheckedStep) where
       decided = decided_after meeting_once so_far.done so_far.parts cs ds after undecided so_far.decided;
     }
 
-    pub statement_fails : (cs : List Reached) (undecided : Option ℕ) (place : ℕ) (order : List ℕ) (names : List Named) (came : What) → IsSoFar setting most steps (Statement statement ∷ left) cs undecided
+    pub statement_fails : (cs : List Reached) (undecided : Option TooMany) (place : ℕ) (order : List ℕ) (names : List Named) (came : What) → IsSoFar setting most steps (Statement statement ∷ left) cs undecided
         → IsAt steps place (Statement statement ∷ left) → Any (IsUnmetIn setting statement order names came) cs → FailsFirst setting most steps place order names came
     statement_fails cs undecided place order names came so_far at some =
         fails_first (Statement statement ∷ left) cs place at undecided order names came so_far
@@ -220,9 +222,9 @@ module _ (setting : Setting) (most : ℕ) (steps : List CheckedStep) where
     starts_begun meanings (c ∷ cs) [] sound begun = absurd begun
 
     -- more cases than that can be met in it
-    too_many : (cs : List Reached) → All (Reaches (Interleave moves ∷ left)) cs → HasMore setting moves most cs
-        → HadTooMany setting most steps left
-    too_many cs sound more = (
+    too_many : (cs : List Reached) (part : ℕ) → IsAt steps part (Interleave moves ∷ left) → All (Reaches (Interleave moves ∷ left)) cs → HasMore setting moves most cs
+        → HadTooMany setting most steps left part
+    too_many cs part at sound more = (
       left,
       moves,
       record {
@@ -233,16 +235,17 @@ module _ (setting : Setting) (most : ℕ) (steps : List CheckedStep) where
         more = more.more;
       },
       omega arith,
+      at,
     )
 
     -- what holds from each case holds on each way that comes here
     each_way : (P : List Named → State → Type 0) (cs : List Reached) (place count : ℕ) → IsAt steps place (Interleave moves ∷ left) → place ≤ count → All (λ (c : Reached). P c.names c.state) cs
-        → (undecided : Option ℕ) → IsDecided setting most steps (Interleave moves ∷ left) cs undecided → OnEachWayTo setting most steps moves left count P
+        → (undecided : Option TooMany) → IsDecided setting most steps (Interleave moves ∷ left) cs undecided → OnEachWayTo setting most steps moves left count P
     each_way P cs place count at few hold None whole =
         inl (λ s names order comes.
         let it = found (λ (c : Reached). P c.names c.state) (λ (c : Reached). (c.state ≡ s) × (c.names ≡ names)) cs hold (whole.comes s names order comes) in
         subst (λ (x : State). P names x) it.2.0 (subst (λ (ns : List Named). P ns it.0.state) it.2.1 it.1))
-    each_way P cs place count at few hold (Some first) (rest, others, more, within) = inr (rest, others, more, omega (arith, at, few, within))
+    each_way P cs place count at few hold (Some first) (rest, others, more, within, there) = inr (rest, others, more, omega (arith, at, few, within))
 
     module _ (done : List CheckedStep) (parts : steps ≡ done ++ Interleave moves ∷ left) (cs ends : List Reached) (longest : ℕ) (hold : All (HoldsFrom setting moves longest ends) cs)
         (so_far : IsWhole setting steps (Interleave moves ∷ left) cs) where
@@ -296,21 +299,21 @@ module _ (setting : Setting) (most : ℕ) (steps : List CheckedStep) where
       }
 
     decided_behind : (done : List CheckedStep) → steps ≡ done ++ Interleave moves ∷ left → (cs ends : List Reached) → All (Reaches (Interleave moves ∷ left)) cs
-        → (undecided : Option ℕ) (all : Bool) (place : ℕ) → IsDecided setting most steps (Interleave moves ∷ left) cs undecided → Leads setting moves most cs ends all
-        → IsDecided setting most steps left ends (first_undecided undecided all place)
-    decided_behind done parts cs ends sound (Some first) all place (rest, others, more, within) leads = (rest, others, more, omega (arith, within))
-    decided_behind done parts cs ends sound None true place decided leads =
+        → (undecided : Option TooMany) (all : Bool) (here : TooMany) → IsAt steps here.part (Interleave moves ∷ left) → IsDecided setting most steps (Interleave moves ∷ left) cs undecided
+        → Leads setting moves most cs ends all → IsDecided setting most steps left ends (first_undecided undecided all here)
+    decided_behind done parts cs ends sound (Some first) all here at (rest, others, more, within, there) leads = (rest, others, more, omega (arith, within), there)
+    decided_behind done parts cs ends sound None true here at decided leads =
         let complete = leads.complete in
         whole_behind done parts cs ends complete.0 complete.1 decided
-    decided_behind done parts cs ends sound None false place decided leads = too_many cs sound leads.more
+    decided_behind done parts cs ends sound None false here at decided leads = too_many cs here.part at sound leads.more
 
-    pub interleave_goes_on : (cs ends : List Reached) (undecided : Option ℕ) (all : Bool) (place : ℕ) → IsSoFar setting most steps (Interleave moves ∷ left) cs undecided → Leads setting moves most cs ends all
-        → IsSoFar setting most steps left ends (first_undecided undecided all place)
-    interleave_goes_on cs ends undecided all place so_far leads = record {
+    pub interleave_goes_on : (cs ends : List Reached) (undecided : Option TooMany) (all : Bool) (here : TooMany) → IsAt steps here.part (Interleave moves ∷ left)
+        → IsSoFar setting most steps (Interleave moves ∷ left) cs undecided → Leads setting moves most cs ends all → IsSoFar setting most steps left ends (first_undecided undecided all here)
+    interleave_goes_on cs ends undecided all here at so_far leads = record {
       done = so_far.done ++ Interleave moves ∷ [];
       parts = parts_more so_far.done (Interleave moves) left so_far.parts;
       sound = behind_sound cs ends so_far.sound leads.sound;
-      decided = decided_behind so_far.done so_far.parts cs ends so_far.sound undecided all place so_far.decided leads;
+      decided = decided_behind so_far.done so_far.parts cs ends so_far.sound undecided all here at so_far.decided leads;
     }
 
     -- where it begins with no case
@@ -321,14 +324,17 @@ module _ (setting : Setting) (most : ℕ) (steps : List CheckedStep) where
       more = tt;
     }
 
-    as_before : (undecided : Option ℕ) → first_undecided undecided true 0 ≡ undecided
-    as_before None = refl
-    as_before (Some first) = refl
+    as_before : (undecided : Option TooMany) (here : TooMany) → first_undecided undecided true here ≡ undecided
+    as_before None here = refl
+    as_before (Some first) here = refl
 
-    pub none_goes_on : (undecided : Option ℕ) → IsSoFar setting most steps (Interleave moves ∷ left) [] undecided → IsSoFar setting most steps left [] undecided
-    none_goes_on undecided so_far = subst (IsSoFar setting most steps left []) (as_before undecided) (interleave_goes_on [] [] undecided true 0 so_far leads_nowhere)
+    pub none_goes_on : (undecided : Option TooMany) → IsSoFar setting most steps (Interleave moves ∷ left) [] undecided → IsSoFar setting most steps left [] undecided
+    none_goes_on undecided so_far =
+        let here : TooMany = record { part = length so_far.done; place = 0 } in
+        let at : IsAt steps here.part (Interleave moves ∷ left) = ap length so_far.parts ∙ length-append so_far.done (Interleave moves ∷ left) in
+        subst (IsSoFar setting most steps left []) (as_before undecided here) (interleave_goes_on [] [] undecided true here at so_far leads_nowhere)
 
-    module _ (cs : List Reached) (undecided : Option ℕ) (place : ℕ) (order : List ℕ) (names : List Named) (came : What)
+    module _ (cs : List Reached) (undecided : Option TooMany) (place : ℕ) (order : List ℕ) (names : List Named) (came : What)
         (so_far : IsSoFar setting most steps (Interleave moves ∷ left) cs undecided) (at : IsAt steps place (Interleave moves ∷ left)) where
       pub stuck_fails : (count : ℕ) → Any (IsStuckIn setting moves count order names came) cs → All (Begins setting moves count) cs → FailsFirst setting most steps place order names came
       stuck_fails count some begin =
@@ -348,7 +354,7 @@ module _ (setting : Setting) (most : ℕ) (steps : List CheckedStep) where
           → OnEachWayTo setting most steps moves left (place + 1) (λ known u. HoldsTo setting known u moves count)
       each_or true count complete more = each_way (λ known u. HoldsTo setting known u moves count) cs place (place + 1) at (omega arith) complete undecided so_far.decided
       each_or false count complete more =
-          let here = too_many cs so_far.sound more in
+          let here = too_many cs place at so_far.sound more in
           inr (here.0, here.1, here.2, omega (arith, at, here.3))
 
       pub refuted_fails : (all : Bool) (count : ℕ) → Any (IsRefutedFrom setting moves count order names came) cs

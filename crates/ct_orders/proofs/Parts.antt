@@ -11,7 +11,7 @@ use Rattle.ct_check.specs.declared.checked.CheckedStep.TheVariants.{Statement, I
 use Rattle.ct_outcomes.specs.declared.named.Named.{Named}
 use Rattle.ct_run.specs.Called.{after_acts}
 use Rattle.ct_run.specs.Statements.{Setting, IsMet, first_names}
-use Rattle.ct_orders.specs.Interleaves.{IsOnWay, IsEnd, CallsAreMet}
+use Rattle.ct_cases.specs.Interleaves.{IsOnWay, IsEnd, CallsAreMet}
 use Rattle.ct_orders.specs.Ways.{Comes, begins, states, leaves}
 
 -- ends of one list that are equally long

@@ -14,34 +14,35 @@ use Rattle.ct_outcomes.specs.declared.came.Came.{Came}
 use Rattle.ct_run.specs.Statements.{Setting, first_names}
 use Rattle.ct_run.specs.Runs.{Runs, Stops as StopsAt, Walks, without_interleaves}
 use Rattle.ct_run.proofs.One.{MeetsOnce}
-use Rattle.ct_orders.specs.declared.case.Case.{Case}
-use Rattle.ct_orders.specs.declared.case.Tables.{Tables}
-use Rattle.ct_orders.specs.declared.statement.Going.{Going}
-use Rattle.ct_orders.specs.declared.statement.Going.TheVariants as going
+use Rattle.ct_cases.specs.declared.case.Case.{Case}
+use Rattle.ct_cases.specs.declared.case.Tables.{Tables}
+use Rattle.ct_cases.specs.declared.statement.Going.{Going}
+use Rattle.ct_cases.specs.declared.statement.Going.TheVariants as going
 use Rattle.ct_orders.specs.declared.tester.Course.{Course}
 use Rattle.ct_orders.specs.declared.tester.Next.{Next}
 use Rattle.ct_orders.specs.declared.tester.Next.TheVariants.{On, Fails as Stops}
 use Rattle.ct_orders.specs.declared.verdict.Ended.{Ended}
 use Rattle.ct_orders.specs.declared.verdict.NotMet.{NotMet}
+use Rattle.ct_orders.specs.declared.verdict.TooMany.{TooMany}
 use Rattle.ct_orders.specs.declared.verdict.Verdict.{Verdict}
 use Rattle.ct_orders.specs.declared.verdict.Verdict.TheVariants.{Passed, Failed, Undecided}
-use Rattle.ct_orders.specs.declared.verdict.Failing.{Failing}
-use Rattle.ct_orders.specs.Reached.{Reached}
+use Rattle.ct_cases.specs.declared.failing.Failing.{Failing}
+use Rattle.ct_cases.specs.Reached.{Reached}
 use Rattle.ct_orders.specs.Verdicts.{IsAt, FailsFirst, Passes, HasTooMany, whole}
-use Rattle.ct_orders.specs.Cases.{AreHeld, AreAfter, IsUnmetIn, reached, all_reached, first_case}
-use Rattle.ct_orders.specs.Answers.{GoesOn, IsInterleaved}
+use Rattle.ct_cases.specs.Cases.{AreHeld, AreAfter, IsUnmetIn, reached, all_reached, first_case}
+use Rattle.ct_cases.specs.Answers.{GoesOn, IsInterleaved}
 use Rattle.ct_orders.specs.Course.{first_undecided, is_interleave, ended_with, IsDecided, IsWhole, IsSoFar, IsNext, IsVerdict}
 use Rattle.ct_orders.proofs.Courses.{statement_goes_on, statement_fails, interleave_goes_on, none_goes_on, stuck_fails, refuted_fails, walks_on, stops_at, at_start, passes, one}
 
 module _ (setting : Setting) (most : ℕ) (steps left : List CheckedStep) where
   -- ---- an interleave
 
-  module _ (old new : Tables) (cases ends : List Case) (moves : List Moving) (all : Bool) (undecided : Option ℕ)
+  module _ (old new : Tables) (cases ends : List Case) (moves : List Moving) (all : Bool) (undecided : Option TooMany)
       (so_far : IsSoFar setting most steps (Interleave moves ∷ left) (all_reached old cases) undecided) where
-    pub interleave_next : (failing : Option Failing) → failing ≡ None → IsInterleaved setting most old new cases moves ends failing all → (place : ℕ)
-        → IsSoFar setting most steps left (all_reached new ends) (first_undecided undecided all place)
-    interleave_next None is done place = interleave_goes_on setting most steps moves left (all_reached old cases) (all_reached new ends) undecided all place so_far done.1
-    interleave_next (Some f) is done place = cc
+    pub interleave_next : (failing : Option Failing) → failing ≡ None → IsInterleaved setting most old new cases moves ends failing all → (here : TooMany) → IsAt steps here.part (Interleave moves ∷ left)
+        → IsSoFar setting most steps left (all_reached new ends) (first_undecided undecided all here)
+    interleave_next None is done here at = interleave_goes_on setting most steps moves left (all_reached old cases) (all_reached new ends) undecided all here at so_far done.1
+    interleave_next (Some f) is done here at = cc
 
     stuck_or_refuted : (f : Failing) (place : ℕ) → IsInterleaved setting most old new cases moves ends (Some f) all → IsAt steps place (Interleave moves ∷ left)
         → FailsFirst setting most steps place f.order.items f.names f.unmet.came
@@ -54,14 +55,14 @@ module _ (setting : Setting) (most : ℕ) (steps left : List CheckedStep) where
         → IsAt steps place (Interleave moves ∷ left) → FailsFirst setting most steps place f.order.items f.names f.unmet.came
     interleave_fails failing f is done place at = stuck_or_refuted f place (subst (λ (o : Option Failing). IsInterleaved setting most old new cases moves ends o all) is done) at
 
-  pub no_cases : (t : Tables) (cases : List Case) (moves : List Moving) (undecided : Option ℕ) → cases ≡ [] → IsSoFar setting most steps (Interleave moves ∷ left) (all_reached t cases) undecided
+  pub no_cases : (t : Tables) (cases : List Case) (moves : List Moving) (undecided : Option TooMany) → cases ≡ [] → IsSoFar setting most steps (Interleave moves ∷ left) (all_reached t cases) undecided
       → IsSoFar setting most steps left (all_reached t cases) undecided
   no_cases t [] moves undecided is so_far = none_goes_on setting most steps moves left undecided so_far
   no_cases t (c ∷ cases) moves undecided is so_far = cc
 
   -- ---- a statement
 
-  module _ (old new : Tables) (cases : List Case) (statement : CheckedKind) (undecided : Option ℕ)
+  module _ (old new : Tables) (cases : List Case) (statement : CheckedKind) (undecided : Option TooMany)
       (so_far : IsSoFar setting most steps (Statement statement ∷ left) (all_reached old cases) undecided) where
     pub statement_next : MeetsOnce → (after : List Case) → AreHeld new after × AreAfter setting statement (all_reached old cases) (all_reached new after)
         → IsSoFar setting most steps left (all_reached new after) undecided
@@ -82,77 +83,76 @@ interleave_held setting most old new cases ends moves all (Some f) is done = cc
 pub one_reached : (t : Tables) (cases : List Case) (c : Case) (first : Reached) → cases ≡ c ∷ [] → reached t c ≡ first → all_reached t cases ≡ first ∷ []
 one_reached t cases c first only is = ap (all_reached t) only ∙ ap (λ (r : Reached). r ∷ []) is
 
-module _ (setting : Setting) (most : ℕ) (parts : List CheckedStep) (start : List Reached) where
-  abbrev pub Still : Tables → List CheckedStep → List Case → Option ℕ → Type 0
-  Still t left cases undecided = (all : List CheckedStep) → IsSoFar setting most all parts start None → IsSoFar setting most all left (all_reached t cases) undecided
+module _ (setting : Setting) (most : ℕ) (parts : List CheckedStep) (start : List Reached) (before : ℕ) where
+  abbrev pub Still : Tables → List CheckedStep → List Case → Option TooMany → Type 0
+  Still t left cases undecided =
+      (all : List CheckedStep) → IsSoFar setting most all parts start None → IsAt all before parts → IsSoFar setting most all left (all_reached t cases) undecided
 
-  pub at_first : (t : Tables) (cases : List Case) (undecided : Option ℕ) → all_reached t cases ≡ start → undecided ≡ None → Still t parts cases undecided
-  at_first t cases undecided same none all so_far =
+  pub at_first : (t : Tables) (cases : List Case) (undecided : Option TooMany) → all_reached t cases ≡ start → undecided ≡ None → Still t parts cases undecided
+  at_first t cases undecided same none all so_far at =
       subst (λ (cs : List Reached). IsSoFar setting most all parts cs undecided) (sym same) (subst (IsSoFar setting most all parts start) (sym none) so_far)
 
   -- the place of what is left
-  place_of : (all : List CheckedStep) (before i : ℕ) → i ≤ length parts → IsAt all before parts → IsAt all (before + i) (drop i parts)
-  place_of all before i few at = omega (arith, few, at, length-drop i parts)
+  place_of : (all : List CheckedStep) (i : ℕ) → i ≤ length parts → IsAt all before parts → IsAt all (before + i) (drop i parts)
+  place_of all i few at = omega (arith, few, at, length-drop i parts)
 
-  module _ (old new : Tables) (i : ℕ) (step : CheckedStep) (lt : i < length parts) (split : drop i parts ≡ step ∷ drop (i + 1) parts) (cases : List Case) (undecided : Option ℕ)
+  module _ (old new : Tables) (i : ℕ) (step : CheckedStep) (lt : i < length parts) (split : drop i parts ≡ step ∷ drop (i + 1) parts) (cases : List Case) (undecided : Option TooMany)
       (still : Still old (drop i parts) cases undecided) (next : Next)
-      (goes : (steps left : List CheckedStep) (place : ℕ) → IsSoFar setting most steps (step ∷ left) (all_reached old cases) undecided → IsAt steps place (step ∷ left) → IsNext setting most steps left place new next) where
+      (goes : (steps left : List CheckedStep) → IsSoFar setting most steps (step ∷ left) (all_reached old cases) undecided → IsAt steps (before + i) (step ∷ left)
+      → IsNext setting most steps left (before + i) new next) where
     -- what comes of the part at this place
-    comes : (all : List CheckedStep) (before : ℕ) → IsSoFar setting most all parts start None → IsAt all before parts → IsNext setting most all (drop (i + 1) parts) (before + i) new next
-    comes all before so_far at =
-        goes all (drop (i + 1) parts) (before + i) (subst (λ (l : List CheckedStep). IsSoFar setting most all l (all_reached old cases) undecided) split (still all so_far))
-        (subst (IsAt all (before + i)) split (place_of all before i (omega (arith, lt)) at))
+    comes : (all : List CheckedStep) → IsSoFar setting most all parts start None → IsAt all before parts → IsNext setting most all (drop (i + 1) parts) (before + i) new next
+    comes all so_far at =
+        goes all (drop (i + 1) parts) (subst (λ (l : List CheckedStep). IsSoFar setting most all l (all_reached old cases) undecided) split (still all so_far at))
+        (subst (IsAt all (before + i)) split (place_of all i (omega (arith, lt)) at))
 
-    pub still_on : (course : Course) → next ≡ On course → ((all : List CheckedStep) → IsSoFar setting most all parts start None → (before : ℕ) × IsAt all before parts) → Still new (drop (i + 1) parts) course.cases.items course.undecided
-    still_on course is placed all so_far =
-        let at = placed all so_far in
-        subst (λ (n : Next). IsNext setting most all (drop (i + 1) parts) (at.0 + i) new n) is (comes all at.0 so_far at.1)
+    pub still_on : (course : Course) → next ≡ On course → Still new (drop (i + 1) parts) course.cases.items course.undecided
+    still_on course is all so_far at = subst (λ (n : Next). IsNext setting most all (drop (i + 1) parts) (before + i) new n) is (comes all so_far at)
 
-    pub stops_there : (f : Failing) → next ≡ Stops f → (all : List CheckedStep) (before : ℕ) → IsSoFar setting most all parts start None → IsAt all before parts
+    pub stops_there : (f : Failing) → next ≡ Stops f → (all : List CheckedStep) → IsSoFar setting most all parts start None → IsAt all before parts
         → FailsFirst setting most all (before + i) f.order.items f.names f.unmet.came
-    stops_there f is all before so_far at = subst (λ (n : Next). IsNext setting most all (drop (i + 1) parts) (before + i) new n) is (comes all before so_far at)
-
--- how many parts come before these
-pub placed : (setting : Setting) (most : ℕ) (all parts : List CheckedStep) (cases : List Reached) (undecided : Option ℕ) → IsSoFar setting most all parts cases undecided → (before : ℕ) × IsAt all before parts
-placed setting most all parts cases undecided so_far = (length so_far.done, ap length so_far.parts ∙ length-append so_far.done parts)
+    stops_there f is all so_far at = subst (λ (n : Next). IsNext setting most all (drop (i + 1) parts) (before + i) new n) is (comes all so_far at)
 
 -- ---- the end
 
 abbrev kind : Verdict → ℕ
 kind Passed = 0
 kind (Failed f) = 1
-kind (Undecided place) = 2
+kind (Undecided first) = 2
 
 not_passed : (f : NotMet) → Failed f ≡ Passed → ⊥
 not_passed f same = let e : 1 ≡ 0 = ap kind same in omega (arith, e)
 
-not_undecided : (place : ℕ) → Undecided place ≡ Passed → ⊥
-not_undecided place same = let e : 2 ≡ 0 = ap kind same in omega (arith, e)
+not_undecided : (first : TooMany) → Undecided first ≡ Passed → ⊥
+not_undecided first same = let e : 2 ≡ 0 = ap kind same in omega (arith, e)
 
-not_both : (f : NotMet) (place : ℕ) → Failed f ≡ Undecided place → ⊥
-not_both f place same = let e : 1 ≡ 2 = ap kind same in omega (arith, e)
+not_both : (f : NotMet) (first : TooMany) → Failed f ≡ Undecided first → ⊥
+not_both f first same = let e : 1 ≡ 2 = ap kind same in omega (arith, e)
 
 module _ (setting : Setting) (most : ℕ) (steps : List CheckedStep) where
   passed_so : (cases : List Reached) (ended : Ended) → IsWhole setting steps [] cases → ended.verdict ≡ Passed → IsVerdict setting most steps ended
   passed_so cases ended whole is = record {
     passed = λ same. passes setting most steps cases whole;
     failed = λ unmet same. absurd (not_passed unmet (sym same ∙ is));
-    undecided = λ place same. absurd (not_undecided place (sym same ∙ is));
+    undecided = λ first same. absurd (not_undecided first (sym same ∙ is));
   }
 
-  undecided_so : (first : ℕ) (ended : Ended) → (left : List CheckedStep) × (moves : List Moving) × HasTooMany setting steps left moves most → ended.verdict ≡ Undecided first
-      → IsVerdict setting most steps ended
+  undecided_so : (first : TooMany) (ended : Ended) → (left : List CheckedStep) × (moves : List Moving) × HasTooMany setting steps left moves most × IsAt steps first.part (Interleave moves ∷ left)
+      → ended.verdict ≡ Undecided first → IsVerdict setting most steps ended
   undecided_so first ended more is = record {
     passed = λ same. absurd (not_undecided first (sym is ∙ same));
     failed = λ unmet same. absurd (not_both unmet first (sym same ∙ is));
-    undecided = λ place same. more;
+    undecided = λ other same.
+        let both : Undecided first ≡ Undecided other = sym is ∙ same in
+        let one : first ≡ other = cc in
+        subst (λ (x : TooMany). (left : List CheckedStep) × (moves : List Moving) × HasTooMany setting steps left moves most × IsAt steps x.part (Interleave moves ∷ left)) one more;
   }
 
-  ended_by : (undecided : Option ℕ) (cases : List Reached) (ended : Ended) → IsDecided setting most steps [] cases undecided → ended.verdict ≡ ended_with undecided → IsVerdict setting most steps ended
+  ended_by : (undecided : Option TooMany) (cases : List Reached) (ended : Ended) → IsDecided setting most steps [] cases undecided → ended.verdict ≡ ended_with undecided → IsVerdict setting most steps ended
   ended_by None cases ended decided is = passed_so cases ended decided is
-  ended_by (Some first) cases ended (left, moves, more, within) is = undecided_so first ended (left, moves, more) is
+  ended_by (Some first) cases ended (left, moves, more, within, there) is = undecided_so first ended (left, moves, more, there) is
 
-  pub ended_so : (left : List CheckedStep) (cases : List Reached) (undecided : Option ℕ) (ended : Ended) → left ≡ [] → IsSoFar setting most steps left cases undecided
+  pub ended_so : (left : List CheckedStep) (cases : List Reached) (undecided : Option TooMany) (ended : Ended) → left ≡ [] → IsSoFar setting most steps left cases undecided
       → ended.verdict ≡ ended_with undecided → IsVerdict setting most steps ended
   ended_so left cases undecided ended none so_far is =
       ended_by undecided cases ended (subst (λ (l : List CheckedStep). IsDecided setting most steps l cases undecided) none so_far.decided) is
@@ -164,14 +164,14 @@ module _ (setting : Setting) (most : ℕ) (steps : List CheckedStep) where
         let both : Failed f ≡ Failed unmet = sym is ∙ same in
         let one : f ≡ unmet = cc in
         subst (λ (x : NotMet). FailsFirst setting most steps x.failure.place ended.way.order.items x.names x.failure.unmet.came) one fails;
-    undecided = λ place same. absurd (not_both f place (sym is ∙ same));
+    undecided = λ first same. absurd (not_both f first (sym is ∙ same));
   }
 
 pub all_ended : {E : Type 0} (setting : Setting) (most : ℕ) (parts left : List CheckedStep) (start : List Reached) (t : Tables) (course : Course) (before : ℕ) (r : Result Ended E) → left ≡ []
-    → Still setting most parts start t left course.cases.items course.undecided → IfOk r (λ ended. ended.verdict ≡ ended_with course.undecided)
+    → Still setting most parts start before t left course.cases.items course.undecided → IfOk r (λ ended. ended.verdict ≡ ended_with course.undecided)
     → IfOk r (λ ended. (all : List CheckedStep) → IsSoFar setting most all parts start None → IsAt all before parts → IsVerdict setting most all ended)
 all_ended setting most parts left start t course before (Ok ended) none still is = λ all so_far at.
-    ended_so setting most all left (all_reached t course.cases.items) course.undecided ended none (still all so_far) is
+    ended_so setting most all left (all_reached t course.cases.items) course.undecided ended none (still all so_far at) is
 all_ended setting most parts left start t course before (Err e) none still is = tt
 
 -- ---- the statements before the first interleave

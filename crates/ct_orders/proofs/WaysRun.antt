@@ -20,7 +20,7 @@ use Rattle.ct_outcomes.specs.declared.named.Named.{Named}
 use Rattle.ct_run.specs.Called.{rules_of, with_call, call_act, after_acts, if_accepted}
 use Rattle.ct_run.specs.Statements.{Setting}
 use Rattle.ct_run.proofs.Acts.{met_allowed}
-use Rattle.ct_orders.specs.Interleaves.{is_query, Choose, IsCallSubmitted, AreSubmitted, Deliver}
+use Rattle.ct_cases.specs.Interleaves.{is_query, Choose, IsCallSubmitted, AreSubmitted, Deliver}
 use Rattle.ct_orders.specs.Ways.{Comes, begins, states, leaves}
 
 module _ (setting : Setting) where

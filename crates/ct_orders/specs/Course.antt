@@ -7,28 +7,29 @@ use Rattle.ct_check.specs.declared.checked.CheckedStep.{CheckedStep}
 use Rattle.ct_check.specs.declared.checked.CheckedStep.TheVariants.{Statement, Interleave}
 use Rattle.ct_outcomes.specs.declared.named.Named.{Named}
 use Rattle.ct_run.specs.Statements.{Setting, IsMet}
-use Rattle.ct_orders.specs.declared.case.Tables.{Tables}
+use Rattle.ct_cases.specs.declared.case.Tables.{Tables}
 use Rattle.ct_orders.specs.declared.tester.Course.{Course}
 use Rattle.ct_orders.specs.declared.tester.Next.{Next}
 use Rattle.ct_orders.specs.declared.tester.Next.TheVariants.{On, Fails as Stops}
 use Rattle.ct_orders.specs.declared.verdict.Ended.{Ended}
 use Rattle.ct_orders.specs.declared.verdict.NotMet.{NotMet}
+use Rattle.ct_orders.specs.declared.verdict.TooMany.{TooMany}
 use Rattle.ct_orders.specs.declared.verdict.Verdict.{Verdict}
 use Rattle.ct_orders.specs.declared.verdict.Verdict.TheVariants.{Passed, Failed, Undecided}
-use Rattle.ct_orders.specs.Reached.{Reached}
+use Rattle.ct_cases.specs.Reached.{Reached}
 use Rattle.ct_orders.specs.Ways.{Comes}
 use Rattle.ct_orders.specs.Verdicts.{Holds, IsAt, Passes, FailsFirst, HasTooMany}
-use Rattle.ct_orders.specs.Cases.{HasCase, AreHeld, all_reached}
+use Rattle.ct_cases.specs.Cases.{HasCase, AreHeld, all_reached}
 
 abbrev pub is_interleave : CheckedStep → Bool
 is_interleave (Statement statement) = false
 is_interleave (Interleave moves) = true
 
--- the place of the first interleave that has too many cases
-abbrev pub first_undecided : Option ℕ → (all : Bool) → (place : ℕ) → Option ℕ
-first_undecided (Some first) all place = Some first
-first_undecided None true place = None
-first_undecided None false place = Some place
+-- the first interleave that has too many cases
+abbrev pub first_undecided : Option TooMany → (all : Bool) → (here : TooMany) → Option TooMany
+first_undecided (Some first) all here = Some first
+first_undecided None true here = None
+first_undecided None false here = Some here
 
 -- where nothing was left out: each way comes to one of the cases, and all holds that comes before these parts
 pub record IsWhole (setting : Setting) (steps left : List CheckedStep) (cases : List Reached) : Type 0 where
@@ -37,17 +38,18 @@ pub record IsWhole (setting : Setting) (steps left : List CheckedStep) (cases : 
   pub before : (s : State) (names : List Named) (rest : List CheckedStep) (order : List ℕ) → Comes setting steps s names rest order → length left < length rest
       → Holds setting longest s names rest
 
--- too many cases are in an interleave before these parts
-abbrev pub HadTooMany : Setting → (most : ℕ) → (steps left : List CheckedStep) → Type 0
-HadTooMany setting most steps left = (rest : List CheckedStep) × (moves : List Moving) × HasTooMany setting steps rest moves most × (length left ≤ length rest)
+-- too many cases are in an interleave before these parts, which has a place among all
+abbrev pub HadTooMany : Setting → (most : ℕ) → (steps left : List CheckedStep) → (part : ℕ) → Type 0
+HadTooMany setting most steps left part =
+    (rest : List CheckedStep) × (moves : List Moving) × HasTooMany setting steps rest moves most × (length left ≤ length rest) × IsAt steps part (Interleave moves ∷ rest)
 
 -- or nothing was left out
-abbrev pub IsDecided : Setting → (most : ℕ) → List CheckedStep → List CheckedStep → List Reached → (undecided : Option ℕ) → Type 0
+abbrev pub IsDecided : Setting → (most : ℕ) → List CheckedStep → List CheckedStep → List Reached → (undecided : Option TooMany) → Type 0
 IsDecided setting most steps left cases None = IsWhole setting steps left cases
-IsDecided setting most steps left cases (Some place) = HadTooMany setting most steps left
+IsDecided setting most steps left cases (Some first) = HadTooMany setting most steps left first.part
 
 -- a test has come to these parts, with these cases
-pub record IsSoFar (setting : Setting) (most : ℕ) (steps left : List CheckedStep) (cases : List Reached) (undecided : Option ℕ) : Type 0 where
+pub record IsSoFar (setting : Setting) (most : ℕ) (steps left : List CheckedStep) (cases : List Reached) (undecided : Option TooMany) : Type 0 where
   pub done : List CheckedStep
   pub parts : steps ≡ done ++ left
   pub sound : All (λ (c : Reached). Comes setting steps c.state c.names left c.order) cases
@@ -67,11 +69,11 @@ IsNext setting most steps left place t (Stops f) = FailsFirst setting most steps
 pub record IsVerdict (setting : Setting) (most : ℕ) (steps : List CheckedStep) (ended : Ended) : Type 0 where
   pub passed : ended.verdict ≡ Passed → Passes setting steps
   pub failed : (unmet : NotMet) → ended.verdict ≡ Failed unmet → FailsFirst setting most steps unmet.failure.place ended.way.order.items unmet.names unmet.failure.unmet.came
-  pub undecided : (place : ℕ) → ended.verdict ≡ Undecided place → (left : List CheckedStep) × (moves : List Moving) × HasTooMany setting steps left moves most
+  pub undecided : (first : TooMany) → ended.verdict ≡ Undecided first → (left : List CheckedStep) × (moves : List Moving) × HasTooMany setting steps left moves most × IsAt steps first.part (Interleave moves ∷ left)
 
-abbrev pub ended_with : (undecided : Option ℕ) → Verdict
+abbrev pub ended_with : (undecided : Option TooMany) → Verdict
 ended_with None = Passed
-ended_with (Some place) = Undecided place
+ended_with (Some first) = Undecided first
 
 -- the verdict where all that was seen is met
 abbrev pub IsEnded : Course → Ended → Type 0

@@ -10,7 +10,7 @@ use Rattle.ct_check.specs.declared.checked.CheckedStep.TheVariants.{Statement, I
 use Rattle.ct_outcomes.specs.declared.named.Named.{Named}
 use Rattle.ct_run.specs.Called.{after_acts}
 use Rattle.ct_run.specs.Statements.{Setting, IsMet, first_names}
-use Rattle.ct_orders.specs.Interleaves.{IsOnWay, IsEnd, CallsAreMet}
+use Rattle.ct_cases.specs.Interleaves.{IsOnWay, IsEnd, CallsAreMet}
 
 -- a state that a test comes to, what names stand for there, the parts that are left, and the deliveries of its interleaves so far
 pub data Comes (setting : Setting) (steps : List CheckedStep) : State → List Named → (left : List CheckedStep) → (order : List ℕ) → Type 0 where

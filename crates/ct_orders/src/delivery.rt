@@ -1,5 +1,6 @@
 use crate::interfaces::Interfaces;
 use ct_outcomes::{At, Named};
+use ct_script::{CallName, Sent};
 use ct_sources::Sources;
 use ic_base::NoMemory;
 use ic_principal::{Bytes, Principal, Text};
@@ -27,15 +28,15 @@ pub enum Delivery<'i> {
     },
 }
 
-/// A call of a canister that was delivered in an interleave.
+/// A call that was delivered.
 #[derive(Drop)]
 struct Called {
+    name: CallName,
     caller: Principal,
-    number: u64,
     method: Text,
 }
 
-/// The calls of canisters that were delivered in the interleaves of a test.
+/// Calls that were delivered: those of canisters in the interleaves of a test, or all that a trace has.
 #[derive(Drop)]
 pub(crate) struct CalledList {
     items: Vec<Called>,
@@ -107,11 +108,52 @@ fn answer_of<'i>(
     })
 }
 
+// A call, as it is told.
+fn call_of<'i>(
+    naming: Naming<'_, 'i>,
+    sender: Principal,
+    callee: Principal,
+    method: &Text,
+    arg: &Bytes,
+) -> Result<Delivery<'i>, NoMemory> {
+    Ok(Delivery::Call {
+        sender,
+        callee,
+        method: method.copy()?,
+        arg: arg.copy()?,
+        at: naming.at(&callee, method, Part::Arguments),
+    })
+}
+
+fn is_same(name: &CallName, other: &CallName) -> bool {
+    match (name, other) {
+        (CallName::User(number), CallName::User(also)) => number == also,
+        (CallName::Query, CallName::Query) => true,
+        (
+            CallName::Canister { caller, number },
+            CallName::Canister {
+                caller: by,
+                number: also,
+            },
+        ) => number == also && caller == by,
+        _ => false,
+    }
+}
+
 impl CalledList {
     pub(crate) fn new(alloc: Global) -> CalledList {
         CalledList {
             items: Vec::new(alloc),
         }
+    }
+
+    fn push(&mut self, name: CallName, caller: Principal, method: &Text) -> Result<(), NoMemory> {
+        self.items.push(Called {
+            name,
+            caller,
+            method: method.copy()?,
+        })?;
+        Ok(())
     }
 
     /// After a delivery.
@@ -122,24 +164,44 @@ impl CalledList {
                 method,
                 ..
             } => {
-                self.items.push(Called {
+                let name = CallName::Canister {
                     caller: *caller,
                     number: *number,
-                    method: method.copy()?,
-                })?;
-                Ok(())
+                };
+                self.push(name, *caller, method)
             }
             _ => Ok(()),
         }
     }
 
-    fn find(&self, wanted: &Principal, number: u64) -> Result<Option<Text>, NoMemory> {
-        for called in &self.items {
-            if called.number == number && called.caller.cmp(wanted).is_eq() {
-                return Ok(Some(called.method.copy()?));
+    /// After a delivery of a trace.
+    pub(crate) fn pass_sent(&mut self, sent: &Sent) -> Result<(), NoMemory> {
+        match sent {
+            Sent::Call {
+                name,
+                sender,
+                method,
+                ..
+            } => self.push(*name, *sender, method),
+            Sent::Reply { .. } | Sent::Reject { .. } => Ok(()),
+        }
+    }
+
+    // The last call of that name.
+    fn find(&self, name: &CallName) -> Option<&Called> {
+        for place in (0..self.items.len()).rev() {
+            if is_same(&self.items[place].name, name) {
+                return Some(&self.items[place]);
             }
         }
-        Ok(None)
+        None
+    }
+
+    fn method_of(&self, name: &CallName) -> Result<Option<Text>, NoMemory> {
+        match self.find(name) {
+            None => Ok(None),
+            Some(called) => Ok(Some(called.method.copy()?)),
+        }
     }
 
     /// A delivery that is to be made, as it is told.
@@ -155,26 +217,74 @@ impl CalledList {
                 method,
                 arg,
                 ..
-            } => Ok(Some(Delivery::Call {
-                sender: *sender,
-                callee: *callee,
-                method: method.copy()?,
-                arg: arg.copy()?,
-                at: naming.at(callee, method, Part::Arguments),
-            })),
+            } => Ok(Some(call_of(naming, *sender, *callee, method, arg)?)),
             Message::Answer {
                 origin: Origin::Canister { caller, number, .. },
                 sender,
                 response,
                 ..
             } => {
-                let method = self.find(caller, *number)?;
+                let name = CallName::Canister {
+                    caller: *caller,
+                    number: *number,
+                };
+                let method = self.method_of(&name)?;
                 Ok(Some(answer_of(naming, *caller, *sender, method, response)?))
             }
             Message::Answer {
                 origin: Origin::Ingress(_),
                 ..
             } => Ok(None),
+        }
+    }
+
+    // Who is answered, where a call of that name was delivered.
+    fn caller_of(&self, name: &CallName, other: Principal) -> Principal {
+        if let CallName::Canister { caller, .. } = name {
+            return *caller;
+        }
+        match self.find(name) {
+            None => other,
+            Some(called) => called.caller,
+        }
+    }
+
+    /// A delivery of a trace, as it is told.
+    pub(crate) fn delivery_of<'i>(
+        &self,
+        naming: Naming<'_, 'i>,
+        sent: &Sent,
+    ) -> Result<Delivery<'i>, NoMemory> {
+        match sent {
+            Sent::Call {
+                sender,
+                callee,
+                method,
+                arg,
+                ..
+            } => call_of(naming, *sender, *callee, method, arg),
+            Sent::Reply {
+                name,
+                sender,
+                reply,
+            } => {
+                let response = Response::Reply(reply.copy()?);
+                let caller = self.caller_of(name, *sender);
+                answer_of(naming, caller, *sender, self.method_of(name)?, &response)
+            }
+            Sent::Reject {
+                name,
+                sender,
+                code,
+                text,
+            } => {
+                let response = Response::Reject {
+                    code: *code,
+                    message: text.copy()?,
+                };
+                let caller = self.caller_of(name, *sender);
+                answer_of(naming, caller, *sender, self.method_of(name)?, &response)
+            }
         }
     }
 }

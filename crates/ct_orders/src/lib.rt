@@ -5,21 +5,16 @@
 //! `ct_search` looks for. The first statement that is not met in some case ends the test.
 #![tactic(auto)]
 
-mod case;
 mod delivery;
 mod interfaces;
-mod interleaving;
-mod judging;
 pub mod laws;
-mod meanings;
-mod orders;
 mod retelling;
-mod statement;
-mod submitting;
 mod tester;
+mod tracing;
 mod verdict;
 
 pub use delivery::Delivery;
-pub use retelling::{Retold, Told};
-pub use tester::Tester;
-pub use verdict::{Ended, Last, NotMet, Verdict, Way};
+pub use retelling::{Retold, Told, retell, retell_traced};
+pub use tester::test;
+pub use tracing::{Traced, TracedStatement};
+pub use verdict::{Ended, Last, NotMet, TooMany, Verdict, Way};

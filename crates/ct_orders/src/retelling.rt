@@ -1,21 +1,21 @@
-ghost use Rattle.std.specs.Prelude.{◌<◌, length, IfSome};
+ghost use Rattle.std.specs.Prelude.{◌<◌, ◌≤◌, length, IfSome};
 
 use crate::delivery::{CalledList, Delivery, Naming};
 use crate::interfaces::Interfaces;
-use crate::meanings::copied_names;
-use crate::submitting::{Submitted, is_query};
-use crate::tester::Tester;
+use crate::tracing::{TracedStatement, all_traced};
 use crate::verdict::{Last, Way};
+use ct_cases::{Submitted, Tester, copied_names, is_query};
 use ct_check::{
     CheckedInterleave, CheckedMove, CheckedStatement, CheckedStatements, CheckedStep, CheckedTest,
 };
+use ct_file::Span;
 use ct_run::Names;
-use ct_script::Script;
-use ct_worlds::delivered;
+use ct_script::{Script, Trace};
+use ct_sources::Sources;
 use ic_base::NoMemory;
 use ic_outside::Gate;
 use ic_schedule::eligible;
-use ic_state::World;
+use ic_state::{Message, World};
 use std::alloc::Global;
 use std::thread::Threads;
 
@@ -32,19 +32,26 @@ pub struct Told<'i> {
 pub struct Retold<'i> {
     pub interleaves: Vec<Told<'i>>,
     pub is_cut: bool,
+    /// What canisters said, and where they trapped, where that is wanted; and the statements with their deliveries.
+    pub trace: Option<Trace>,
+    pub statements: Vec<TracedStatement<'i>>,
 }
 
 /// A test that is run along a way: how far it has come, and what was told.
 #[derive(Drop)]
 struct Course<'w, 'i> {
     alloc: Global,
+    sources: &'i Sources,
     way: &'w Way,
     // How many places of the way are passed.
     count: usize,
     names: Names,
     interfaces: Interfaces,
+    // The calls of canisters that were delivered in interleaves, and all that a trace has.
     called: CalledList,
+    traced: CalledList,
     told: Vec<Told<'i>>,
+    statements: Vec<TracedStatement<'i>>,
     is_cut: bool,
 }
 
@@ -56,15 +63,22 @@ enum Next {
 }
 
 impl<'w, 'i> Course<'w, 'i> {
-    fn begin(alloc: Global, way: &'w Way) -> Result<Course<'w, 'i>, NoMemory> {
+    fn begin(
+        alloc: Global,
+        sources: &'i Sources,
+        way: &'w Way,
+    ) -> Result<Course<'w, 'i>, NoMemory> {
         Ok(Course {
             alloc,
+            sources,
             way,
             count: 0,
             names: Names::start(alloc)?,
             interfaces: Interfaces::start(alloc)?,
             called: CalledList::new(alloc),
+            traced: CalledList::new(alloc),
             told: Vec::new(alloc),
+            statements: Vec::new(alloc),
             is_cut: false,
         })
     }
@@ -80,8 +94,72 @@ impl<'w, 'i> Course<'w, 'i> {
         }
     }
 
+    // A statement with the deliveries that began since the last, where they are wanted.
+    fn trace(&mut self, span: Span, script: &mut Script) -> Result<(), NoMemory> {
+        let Some(taken) = script.take_deliveries() else {
+            return Ok(());
+        };
+        let names = copied_names(self.alloc, &self.names)?;
+        let naming = Naming {
+            sources: self.sources,
+            names: &names.items,
+            interfaces: &self.interfaces,
+        };
+        let deliveries = all_traced(self.alloc, &mut self.traced, naming, taken.items)?;
+        self.statements.push(TracedStatement {
+            span,
+            names,
+            deliveries,
+            earlier: taken.earlier,
+        })?;
+        Ok(())
+    }
+
+    // Moves, the last of them with the deliveries that began since the last.
+    fn trace_moves(
+        &mut self,
+        moves: &[CheckedMove<'_, 'i, '_>],
+        script: &mut Script,
+    ) -> Result<(), NoMemory> {
+        for made in moves {
+            self.trace(made.span, script)?;
+        }
+        Ok(())
+    }
+
+    // The delivery that is to be made.
+    fn tell(
+        &mut self,
+        message: &Message,
+        deliveries: &mut Vec<Delivery<'i>>,
+    ) -> Result<(), NoMemory> {
+        let naming = Naming {
+            sources: self.sources,
+            names: &self.names.items,
+            interfaces: &self.interfaces,
+        };
+        if let Some(delivery) = self.called.delivery(naming, message)? {
+            deliveries.push(delivery)?;
+        }
+        self.called.pass(message)
+    }
+
+    // After a statement.
+    fn pass_statement(
+        &mut self,
+        statement: &CheckedStatement<'_, 'i, '_>,
+        is_met: bool,
+        script: &mut Script,
+    ) -> Result<(), NoMemory> {
+        if is_met {
+            let slot = self.names.items.len().saturating_sub(1);
+            self.interfaces.pass_statement(&statement.kind, slot)?;
+        }
+        self.trace(statement.span, script)
+    }
+
     // After an interleave.
-    fn pass(&mut self, moves: &[CheckedMove<'_, 'i, '_>]) {
+    fn pass_moves(&mut self, moves: &[CheckedMove<'_, 'i, '_>]) {
         for made in moves {
             self.interfaces.pass_move(made);
         }
@@ -91,6 +169,8 @@ impl<'w, 'i> Course<'w, 'i> {
         Retold {
             interleaves: self.told,
             is_cut: self.is_cut,
+            trace: None,
+            statements: self.statements,
         }
     }
 }
@@ -106,204 +186,223 @@ fn last_of<'m, 'f, 'i, 'a>(
     }
 }
 
-impl<'i, R: Threads + Sync, G: Gate + Sync> Tester<'i, R, G> {
-    fn retell_statement(
-        &self,
-        world: World,
-        course: &mut Course<'_, 'i>,
-        statement: &CheckedStatement<'_, 'i, '_>,
-        script: &mut Script,
-    ) -> Result<Next, NoMemory> {
-        let (world, unmet) = self
-            .runner
-            .statement(world, &mut course.names, statement, script)?;
-        if unmet.is_some() {
-            return Ok(Next::Ends);
-        }
-        let slot = course.names.items.len().saturating_sub(1);
-        course.interfaces.pass_statement(&statement.kind, slot)?;
+fn retell_statement<'i, R: Threads + Sync, G: Gate + Sync>(
+    tester: &Tester<'i, R, G>,
+    world: World,
+    course: &mut Course<'_, 'i>,
+    statement: &CheckedStatement<'_, 'i, '_>,
+    script: &mut Script,
+) -> Result<Next, NoMemory> {
+    let (world, unmet) = tester
+        .runner
+        .statement(world, &mut course.names, statement, script)?;
+    let is_met = unmet.is_none();
+    course.pass_statement(statement, is_met, script)?;
+    if is_met {
         Ok(Next::On(world))
+    } else {
+        Ok(Next::Ends)
     }
+}
 
-    // The next delivery: it is told, and then made. None is made where a script is wanted, and no pick takes it.
-    fn retell_delivery(
-        &self,
-        world: World,
-        course: &mut Course<'_, 'i>,
-        place: usize,
-        deliveries: &mut Vec<Delivery<'i>>,
-        script: &mut Script,
-    ) -> Result<World, NoMemory>
-        requires there { place < length world.messages }
-        requires left { course.old.count < length course.old.way.now.order.items }
-    {
-        let message = &world.parts().messages.items[place];
-        let naming = Naming {
-            sources: self.runner.sources,
-            names: &course.names.items,
-            interfaces: &course.interfaces,
+// The next delivery: it is told, and then made. None is made where a script is wanted, and no pick takes it.
+fn retell_delivery<'i, R: Threads + Sync, G: Gate + Sync>(
+    tester: &Tester<'i, R, G>,
+    world: World,
+    course: &mut Course<'_, 'i>,
+    place: usize,
+    deliveries: &mut Vec<Delivery<'i>>,
+    script: &mut Script,
+) -> Result<World, NoMemory>
+    requires there { place < length world.messages }
+    requires left { course.old.count < length course.old.way.now.order.items }
+{
+    course.count += 1;
+    course.tell(&world.parts().messages.items[place], deliveries)?;
+    course.is_cut = script.is_wanted() && !eligible(&world, place);
+    if course.is_cut {
+        return Ok(world);
+    }
+    script.pick(place)?;
+    tester.runner.delivered(world, place, script)
+}
+
+// The deliveries of an interleave, which ends where no message is left, or with the way.
+fn retell_deliveries<'i, R: Threads + Sync, G: Gate + Sync>(
+    tester: &Tester<'i, R, G>,
+    world: World,
+    course: &mut Course<'_, 'i>,
+    script: &mut Script,
+) -> Result<World, NoMemory> {
+    let mut world = world;
+    let mut deliveries = Vec::new(tester.alloc());
+    for _ in course.count..course.way.order.len() {
+        let Some(place) = course.next(&world) else {
+            break;
         };
-        if let Some(delivery) = course.called.delivery(naming, message)? {
-            deliveries.push(delivery)?;
-        }
-        course.called.pass(message)?;
-        course.is_cut = script.is_wanted() && !eligible(&world, place);
+        world = retell_delivery(tester, world, course, place, &mut deliveries, script)?;
         if course.is_cut {
-            return Ok(world);
+            break;
         }
-        script.pick(place)?;
-        course.count += 1;
-        delivered(self.alloc(), world, place, self.runner.charge)
     }
+    let names = copied_names(tester.alloc(), &course.names)?;
+    course.told.push(Told { names, deliveries })?;
+    Ok(world)
+}
 
-    // The deliveries of an interleave, which ends where no message is left, or with the way.
-    fn retell_deliveries(
-        &self,
-        world: World,
-        course: &mut Course<'_, 'i>,
-        script: &mut Script,
-    ) -> Result<World, NoMemory> {
-        let mut world = world;
-        let mut deliveries = Vec::new(self.alloc());
-        for _ in course.count..course.way.order.len() {
-            let Some(place) = course.next(&world) else {
-                break;
-            };
-            world = self.retell_delivery(world, course, place, &mut deliveries, script)?;
-            if course.is_cut {
-                break;
-            }
-        }
-        let names = copied_names(self.alloc(), &course.names)?;
-        course.told.push(Told { names, deliveries })?;
-        Ok(world)
-    }
+// The same, and the moves as a trace has them: the last comes with the deliveries.
+fn retell_moves<'i, R: Threads + Sync, G: Gate + Sync>(
+    tester: &Tester<'i, R, G>,
+    world: World,
+    course: &mut Course<'_, 'i>,
+    moves: &[CheckedMove<'_, 'i, '_>],
+    script: &mut Script,
+) -> Result<World, NoMemory> {
+    let count = moves.len().saturating_sub(1);
+    course.trace_moves(&moves[..count], script)?;
+    let world = retell_deliveries(tester, world, course, script)?;
+    course.trace_moves(&moves[count..], script)?;
+    Ok(world)
+}
 
-    // The move with which the way ends: a query is asked.
-    fn retell_last(
-        &self,
-        world: World,
-        names: &mut Names,
-        made: &CheckedMove<'_, 'i, '_>,
-        script: &mut Script,
-    ) -> Result<(), NoMemory> {
-        if is_query(&made.action) {
-            self.runner.comment(made.span, script)?;
-            self.runner.moved(world, names, made, script)?;
-        }
-        Ok(())
+// The move with which the way ends: a query is asked.
+fn retell_last<'i, R: Threads + Sync, G: Gate + Sync>(
+    tester: &Tester<'i, R, G>,
+    world: World,
+    course: &mut Course<'_, 'i>,
+    made: &CheckedMove<'_, 'i, '_>,
+    script: &mut Script,
+) -> Result<(), NoMemory> {
+    if is_query(&made.action) {
+        tester.runner.comment(made.span, script)?;
+        tester.runner.moved(world, &mut course.names, made, script)?;
+        course.trace(made.span, script)?;
     }
+    Ok(())
+}
 
-    fn retell_interleave(
-        &self,
-        world: World,
-        course: &mut Course<'_, 'i>,
-        interleave: &CheckedInterleave<'_, 'i, '_>,
-        script: &mut Script,
-    ) -> Result<Next, NoMemory> {
-        let moves = &interleave.items;
-        let Submitted {
-            world,
-            accepted,
-            unsent,
-        } = self.submit(world, &course.names.items, moves, script)?;
-        if unsent.is_some() || course.way.last == Last::Calls(interleave.place) {
-            return Ok(Next::Ends);
-        }
-        let world = self.retell_deliveries(world, course, script)?;
-        if course.is_cut {
-            return Ok(Next::Ends);
-        }
-        if let Some(made) = last_of(moves, course.way.last) {
-            self.retell_last(world, &mut course.names, made, script)?;
-            return Ok(Next::Ends);
-        }
-        let (world, _) = self.judge_moves(world, &mut course.names, moves, &accepted)?;
-        course.pass(moves);
-        Ok(Next::On(world))
+// An interleave whose moves are submitted.
+fn retell_submitted<'i, R: Threads + Sync, G: Gate + Sync>(
+    tester: &Tester<'i, R, G>,
+    world: World,
+    course: &mut Course<'_, 'i>,
+    moves: &[CheckedMove<'_, 'i, '_>],
+    accepted: &[Option<u32>],
+    script: &mut Script,
+) -> Result<Next, NoMemory>
+    requires { length moves.now ≤ length accepted.now }
+{
+    let world = retell_moves(tester, world, course, moves, script)?;
+    if course.is_cut {
+        return Ok(Next::Ends);
     }
+    if let Some(made) = last_of(moves, course.way.last) {
+        retell_last(tester, world, course, made, script)?;
+        return Ok(Next::Ends);
+    }
+    let (world, _) = tester.judge_moves(world, &mut course.names, moves, accepted)?;
+    course.pass_moves(moves);
+    Ok(Next::On(world))
+}
 
-    fn retell_step(
-        &self,
-        world: World,
-        course: &mut Course<'_, 'i>,
-        step: &CheckedStep<'_, 'i, '_>,
-        script: &mut Script,
-    ) -> Result<Next, NoMemory> {
-        match step {
-            CheckedStep::Statement(statement) => {
-                self.retell_statement(world, course, statement, script)
-            }
-            CheckedStep::Interleave(interleave) => {
-                self.retell_interleave(world, course, interleave, script)
-            }
-        }
+fn retell_interleave<'i, R: Threads + Sync, G: Gate + Sync>(
+    tester: &Tester<'i, R, G>,
+    world: World,
+    course: &mut Course<'_, 'i>,
+    interleave: &CheckedInterleave<'_, 'i, '_>,
+    script: &mut Script,
+) -> Result<Next, NoMemory> {
+    let moves = &interleave.items;
+    let Submitted {
+        world,
+        accepted,
+        unsent,
+    } = tester.submit(world, &course.names.items, moves, script)?;
+    if unsent.is_some() || course.way.last == Last::Calls(interleave.place) {
+        return Ok(Next::Ends);
     }
+    retell_submitted(tester, world, course, moves, &accepted, script)
+}
 
-    fn retell_preamble(
-        &self,
-        course: &mut Course<'_, 'i>,
-        preamble: &CheckedStatements<'_, 'i, '_>,
-        script: &mut Script,
-    ) -> Result<Next, NoMemory> {
-        let mut world = World::new(self.alloc());
-        for statement in &preamble.items {
-            match self.retell_statement(world, course, statement, script)? {
-                Next::On(next) => world = next,
-                Next::Ends => return Ok(Next::Ends),
-            }
+fn retell_step<'i, R: Threads + Sync, G: Gate + Sync>(
+    tester: &Tester<'i, R, G>,
+    world: World,
+    course: &mut Course<'_, 'i>,
+    step: &CheckedStep<'_, 'i, '_>,
+    script: &mut Script,
+) -> Result<Next, NoMemory> {
+    match step {
+        CheckedStep::Statement(statement) => {
+            retell_statement(tester, world, course, statement, script)
         }
-        Ok(Next::On(world))
+        CheckedStep::Interleave(interleave) => {
+            retell_interleave(tester, world, course, interleave, script)
+        }
     }
+}
 
-    fn retell_steps(
-        &self,
-        world: World,
-        course: &mut Course<'_, 'i>,
-        steps: &[CheckedStep<'_, 'i, '_>],
-        script: &mut Script,
-    ) -> Result<(), NoMemory> {
-        let mut world = world;
-        for step in steps {
-            match self.retell_step(world, course, step, script)? {
-                Next::On(next) => world = next,
-                Next::Ends => return Ok(()),
-            }
+fn retell_preamble<'i, R: Threads + Sync, G: Gate + Sync>(
+    tester: &Tester<'i, R, G>,
+    course: &mut Course<'_, 'i>,
+    preamble: &CheckedStatements<'_, 'i, '_>,
+    script: &mut Script,
+) -> Result<Next, NoMemory> {
+    let mut world = World::new(tester.alloc());
+    for statement in &preamble.items {
+        match retell_statement(tester, world, course, statement, script)? {
+            Next::On(next) => world = next,
+            Next::Ends => return Ok(Next::Ends),
         }
-        Ok(())
     }
+    Ok(Next::On(world))
+}
 
-    /// The deliveries of a way on which a test went.
-    pub fn deliveries(
-        &self,
-        preamble: &CheckedStatements<'_, 'i, '_>,
-        test: &CheckedTest<'_, 'i, '_>,
-        way: &Way,
-    ) -> Result<Vec<Told<'i>>, NoMemory> {
-        if way.order.is_empty() {
-            return Ok(Vec::new(self.alloc()));
+fn retell_steps<'i, R: Threads + Sync, G: Gate + Sync>(
+    tester: &Tester<'i, R, G>,
+    world: World,
+    course: &mut Course<'_, 'i>,
+    steps: &[CheckedStep<'_, 'i, '_>],
+    script: &mut Script,
+) -> Result<(), NoMemory> {
+    let mut world = world;
+    for step in steps {
+        match retell_step(tester, world, course, step, script)? {
+            Next::On(next) => world = next,
+            Next::Ends => return Ok(()),
         }
-        let mut script = Script::unwanted(self.alloc());
-        let retold = self.retell(preamble, test, way, &mut script)?;
-        Ok(retold.interleaves)
     }
+    Ok(())
+}
 
-    /// Runs a test anew, along a way on which it went, and tells its deliveries. It is written to a script that is
-    /// wanted, as far as picks take the deliveries.
-    pub fn retell(
-        &self,
-        preamble: &CheckedStatements<'_, 'i, '_>,
-        test: &CheckedTest<'_, 'i, '_>,
-        way: &Way,
-        script: &mut Script,
-    ) -> Result<Retold<'i>, NoMemory> {
-        let mut course = Course::begin(self.alloc(), way)?;
-        match self.retell_preamble(&mut course, preamble, script)? {
-            Next::On(world) => {
-                self.retell_steps(world, &mut course, &test.steps.items, script)?;
-            }
-            Next::Ends => {}
+/// Runs a test anew, along a way on which it went, and tells its deliveries. It is written to a script that is
+/// wanted, as far as picks take the deliveries.
+pub fn retell<'i, R: Threads + Sync, G: Gate + Sync>(
+    tester: &Tester<'i, R, G>,
+    preamble: &CheckedStatements<'_, 'i, '_>,
+    test: &CheckedTest<'_, 'i, '_>,
+    way: &Way,
+    script: &mut Script,
+) -> Result<Retold<'i>, NoMemory> {
+    let mut course = Course::begin(tester.alloc(), tester.runner.sources, way)?;
+    match retell_preamble(tester, &mut course, preamble, script)? {
+        Next::On(world) => {
+            retell_steps(tester, world, &mut course, &test.steps.items, script)?;
         }
-        Ok(course.retold())
+        Next::Ends => {}
     }
+    Ok(course.retold())
+}
+
+/// Runs a test anew, along a way on which it went, and tells its deliveries, and what canisters said and where they
+/// trapped.
+pub fn retell_traced<'i, R: Threads + Sync, G: Gate + Sync>(
+    tester: &Tester<'i, R, G>,
+    preamble: &CheckedStatements<'_, 'i, '_>,
+    test: &CheckedTest<'_, 'i, '_>,
+    way: &Way,
+) -> Result<Retold<'i>, NoMemory> {
+    let mut script = Script::tracing(tester.alloc());
+    let mut retold = retell(tester, preamble, test, way, &mut script)?;
+    retold.trace = script.into_trace();
+    Ok(retold)
 }

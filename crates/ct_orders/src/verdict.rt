@@ -4,14 +4,22 @@ ghost use Rattle.ct_run.specs.Statements.{Setting};
 ghost use Rattle.ct_orders.specs.Verdicts.{FailsFirst};
 ghost use Rattle.ct_orders.specs.Course.{IsVerdict};
 
-use ct_file::Span;
-use ct_run::{Failure, Names, Unmet};
+use ct_cases::Failing;
+use ct_run::{Failure, Names};
 
 /// A statement that is not met in a case, and what names stand for there.
 #[derive(Drop)]
 pub struct NotMet<'i> {
     pub failure: Failure<'i>,
     pub names: Names,
+}
+
+/// An interleave that has more cases than may be met: how many parts of the test come before it, and its place in the
+/// text.
+#[derive(Clone, Copy, Debug)]
+pub struct TooMany {
+    pub part: usize,
+    pub place: usize,
 }
 
 /// What comes of a test.
@@ -21,9 +29,8 @@ pub enum Verdict<'i> {
     Passed,
     /// One is not, in the first such case.
     Failed(NotMet<'i>),
-    /// All that was seen is met, but an interleave has more cases than may be met: the place of the first
-    /// that has.
-    Undecided(usize),
+    /// All that was seen is met, but an interleave has more cases than may be met: the first that has.
+    Undecided(TooMany),
 }
 
 /// Where a way through a test ends.
@@ -51,32 +58,20 @@ pub struct Ended<'i> {
     pub way: Way,
 }
 
-/// A case in which a statement is not met: where that is, what is told of it, what names stand for, and the deliveries
-/// that led there.
-#[derive(Drop)]
-pub(crate) struct Failing<'i> {
-    pub(crate) span: Span,
-    pub(crate) unmet: Unmet<'i>,
-    pub(crate) names: Names,
-    pub(crate) order: Vec<usize>,
-}
-
-impl<'i> Failing<'i> {
-    /// The end of the test, after this many parts.
-    pub(crate) fn ended(self, place: usize) -> Ended<'i>
-        ensures { (setting : Setting) (most : ℕ) (steps : List CheckedStep) → FailsFirst setting most steps place self.entry.order.items self.entry.names self.entry.unmet.came → IsVerdict setting most steps result }
-    {
-        let Failing {
-            span,
-            unmet,
-            names,
-            order,
-        } = self;
-        let failure = Failure { place, span, unmet };
-        let last = Last::Statement(span.start);
-        Ended {
-            verdict: Verdict::Failed(NotMet { failure, names }),
-            way: Way { order, last },
-        }
+/// The end of the test, after this many parts.
+pub(crate) fn ended_at<'i>(failing: Failing<'i>, place: usize) -> Ended<'i>
+    ensures { (setting : Setting) (most : ℕ) (steps : List CheckedStep) → FailsFirst setting most steps place failing.entry.order.items failing.entry.names failing.entry.unmet.came → IsVerdict setting most steps result }
+{
+    let Failing {
+        span,
+        unmet,
+        names,
+        order,
+    } = failing;
+    let failure = Failure { place, span, unmet };
+    let last = Last::Statement(span.start);
+    Ended {
+        verdict: Verdict::Failed(NotMet { failure, names }),
+        way: Way { order, last },
     }
 }

@@ -2,6 +2,7 @@
 use Rattle.std.specs.Prelude.{ℕ, suc, ◌+◌, ◌++◌, ◌==◌, List, [], ◌∷◌, codes, count_by, decimal, take, if◌then◌else◌}
 use Rattle.std.specs.List.{flat_map, suffix_len}
 use Rattle.ct_file.specs.Position.{is_line_feed, is_inside_line}
+use Rattle.ct_report.specs.declared.tap.Block.{Block}
 use Rattle.ct_report.specs.declared.tap.Counts.{Counts}
 
 -- what ends a printed line
@@ -42,26 +43,47 @@ doubled = flat_map doubled_byte
 unfoldable pub key_text : (key text : List ℕ) → List ℕ
 key_text key text = codes "  " ++ key ++ codes ": '" ++ doubled text ++ codes "'" ++ newline
 
--- a line of a delivery, and the deliveries that led to a statement, if there are any
-unfoldable pub delivery_line : (delivery : List ℕ) → List ℕ
-delivery_line delivery = codes "    - '" ++ doubled delivery ++ codes "'" ++ newline
+-- an entry of a list
+unfoldable pub entry_line : (entry : List ℕ) → List ℕ
+entry_line entry = codes "    - '" ++ doubled entry ++ codes "'" ++ newline
 
-abbrev pub deliveries_text : (order : List (List ℕ)) → List ℕ
-deliveries_text = flat_map delivery_line
+abbrev pub entries_text : (entries : List (List ℕ)) → List ℕ
+entries_text = flat_map entry_line
 
-abbrev pub order_text : (order : List (List ℕ)) → List ℕ
-order_text [] = []
-order_text (delivery ∷ order) = codes "  order:" ++ newline ++ deliveries_text (delivery ∷ order)
+-- a list under its key, if it has entries
+abbrev pub list_text : (key : List ℕ) → (entries : List (List ℕ)) → List ℕ
+list_text key [] = []
+list_text key (entry ∷ entries) = codes "  " ++ key ++ codes ":" ++ newline ++ entries_text (entry ∷ entries)
 
--- the block of a statement that is not met: where it is, what was expected, what came, and the order of deliveries that led there
-unfoldable pub block_text : (at expected got : List ℕ) → (order : List (List ℕ)) → List ℕ
-block_text at expected got order =
-    codes "  ---" ++ newline ++ key_text (codes "at") at ++ key_text (codes "expected") expected ++ key_text (codes "got") got ++ order_text order ++ codes "  ..." ++ newline
+-- where a statement is, what was expected of it, and what came instead
+abbrev pub facts_text : Block → List ℕ
+facts_text block = key_text (codes "at") block.at ++ key_text (codes "expected") block.expected ++ key_text (codes "got") block.got
+
+-- the deliveries that led there, where executions trapped, and what canisters said
+abbrev pub lists_text : Block → List ℕ
+lists_text block = list_text (codes "order") block.order ++ list_text (codes "trapped") block.trapped ++ list_text (codes "said") block.said
+
+-- the block of a statement that is not met
+unfoldable pub block_text : Block → List ℕ
+block_text block = codes "  ---" ++ newline ++ facts_text block ++ lists_text block ++ codes "  ..." ++ newline
 
 -- the block of an interleave that has more states than that
 unfoldable pub undecided_text : (at : List ℕ) → (states : ℕ) → List ℕ
 undecided_text at states =
     codes "  ---" ++ newline ++ key_text (codes "at") at ++ key_text (codes "undecided") (codes "more than " ++ decimal states ++ codes " states") ++ codes "  ..." ++ newline
+
+-- a comment: a text in one line
+abbrev pub inside_line : ℕ → List ℕ
+inside_line byte = if byte == 10 then [] else byte ∷ []
+
+abbrev pub one_line : List ℕ → List ℕ
+one_line = flat_map inside_line
+
+unfoldable pub comment_line : (comment : List ℕ) → List ℕ
+comment_line comment = codes "# " ++ one_line comment ++ newline
+
+abbrev pub comments_text : (comments : List (List ℕ)) → List ℕ
+comments_text = flat_map comment_line
 
 -- the line and the column of a place of a text, from 1
 abbrev pub line_at : (text : List ℕ) → (place : ℕ) → ℕ

@@ -1,12 +1,15 @@
-ghost use Rattle.std.specs.Prelude.{◌≡◌, ◌++◌, List, ℕ, IfOk, string_bytes};
+ghost use Rattle.std.specs.Prelude.{◌≡◌, ◌++◌, IfOk, string_bytes};
 ghost use Rattle.ct_report.specs.Texts.{block_text, column_at, failed_text, line_at, place_text, position_text, undecided_text};
 ghost use Rattle.ct_report.specs.Told.{Tells};
+ghost use Rattle.ct_report.specs.declared.tap.Block.{Block as ABlock};
 
 use crate::came::{came_text, fixed};
 use crate::delivery::delivery_text;
-use crate::tap::{failed, push_block, push_undecided};
+use crate::said::Naming;
+use crate::tap::{Block, Lines, failed, push_block, push_undecided};
 use ct_file::{Position, position_of};
-use ct_orders::{NotMet, Told};
+use ct_orders::{NotMet, Retold, Told};
+use ct_outcomes::Named;
 use ct_run::Wanted;
 use ct_script::written;
 use ct_sources::Sources;
@@ -50,6 +53,15 @@ fn wanted_text(alloc: Global, text: &[u8], wanted: Wanted) -> Result<Bytes, NoMe
     }
 }
 
+// Where executions trapped, and what canisters said.
+fn heard(alloc: Global, names: &[Named], told: &Retold<'_>) -> Result<(Lines, Lines), NoMemory> {
+    let naming = Naming { alloc, names };
+    match &told.trace {
+        None => Ok((naming.nothing(), naming.nothing())),
+        Some(trace) => Ok((naming.trapped(trace)?, naming.said(trace)?)),
+    }
+}
+
 /// What a test file is called on the command line, its text, and the files that it names.
 #[derive(Clone, Copy)]
 pub struct TestFile<'t> {
@@ -74,42 +86,59 @@ impl<'t> TestFile<'t> {
     }
 
     // The deliveries of interleaves, as they are told.
-    fn order_of(&self, alloc: Global, interleaves: &[Told<'_>]) -> Result<Vec<Bytes>, NoMemory> {
-        let mut order = Vec::new(alloc);
+    fn order_of(&self, alloc: Global, interleaves: &[Told<'_>]) -> Result<Lines, NoMemory> {
+        let mut items = Vec::new(alloc);
         for told in interleaves {
-            self.add_deliveries(alloc, told, &mut order)?;
+            self.add_deliveries(alloc, told, &mut items)?;
         }
-        Ok(order)
+        Ok(Lines { items })
     }
 
-    /// The line and the block of a test that failed, by its number from 1 and its name, with the deliveries of the
-    /// interleaves before.
+    // What is told of a statement that is not met.
+    fn block(
+        &self,
+        alloc: Global,
+        not_met: &NotMet<'_>,
+        told: &Retold<'_>,
+    ) -> Result<Block, NoMemory>
+        ensures at { IfOk result (λ block. block.at ≡ place_text self.now.name.now self.now.text.now not_met.now.failure.span.start) }
+        ensures got { IfOk result (λ block. Tells not_met.now.failure.unmet.came block.got) }
+    {
+        let failure = &not_met.failure;
+        let unmet = &failure.unmet;
+        let names = &not_met.names.items;
+        let at = place_text(alloc, self.name, self.text, failure.span.start)?;
+        let got = came_text(alloc, self.sources, unmet.at, names, &unmet.came)?;
+        let (trapped, said) = heard(alloc, names, told)?;
+        Ok(Block {
+            at: Bytes {
+                items: at.into_bytes(),
+            },
+            expected: wanted_text(alloc, self.text, unmet.wanted)?,
+            got,
+            order: self.order_of(alloc, &told.interleaves)?,
+            trapped,
+            said,
+        })
+    }
+
+    /// The line and the block of a test that failed, by its number from 1 and its name, with what was told of the way on which
+    /// it did.
     pub fn not_passed(
         &self,
         alloc: Global,
         number: usize,
         name: &Text,
         not_met: &NotMet<'_>,
-        interleaves: &[Told<'_>],
+        told: &Retold<'_>,
     ) -> Result<Bytes, NoMemory>
-        ensures { IfOk result (λ told. (expected : List ℕ) × (got : List ℕ) × (order : List (List ℕ)) × Tells not_met.now.failure.unmet.came got
-            × (told ≡ failed_text number name.now ++ block_text (place_text self.now.name.now self.now.text.now not_met.now.failure.span.start) expected got order)) }
+        ensures { IfOk result (λ told. (block : ABlock) × Tells not_met.now.failure.unmet.came block.got
+            × (block.at ≡ place_text self.now.name.now self.now.text.now not_met.now.failure.span.start)
+            × (told ≡ failed_text number name.now ++ block_text block)) }
     {
-        let failure = &not_met.failure;
-        let unmet = &failure.unmet;
-        let names = &not_met.names.items;
-        let at = place_text(alloc, self.name, self.text, failure.span.start)?;
-        let expected = wanted_text(alloc, self.text, unmet.wanted)?;
-        let got = came_text(alloc, self.sources, unmet.at, names, &unmet.came)?;
-        let order = self.order_of(alloc, interleaves)?;
+        let block = self.block(alloc, not_met, told)?;
         let mut items = failed(alloc, number, name)?.items;
-        push_block(
-            at.as_bytes(),
-            &expected.items,
-            &got.items,
-            &order,
-            &mut items,
-        )?;
+        push_block(&block, &mut items)?;
         Ok(Bytes { items })
     }
 

@@ -145,7 +145,7 @@ fn no_principal_text(alloc: Global, name: &Bytes) -> Result<Bytes, NoMemory>
 }
 
 /// What came of a statement, as it is told.
-pub(crate) fn came_text(
+pub fn came_text(
     alloc: Global,
     sources: &Sources,
     at: Option<At<'_>>,

@@ -30,13 +30,22 @@ fn push_method(alloc: Global, method: &Text, out: &mut Vec<u8>) -> Result<(), No
     }
 }
 
+/// Adds the first name of a principal, or its text where it has none.
+pub fn push_principal(
+    alloc: Global,
+    names: &[Named],
+    id: &Principal,
+    out: &mut Vec<u8>,
+) -> Result<(), NoMemory> {
+    match name_of(names, id) {
+        Some(name) => out.extend_from_slice(name),
+        None => out.extend_from_slice(id.to_text(alloc)?.items.as_bytes()),
+    }
+}
+
 impl<'t> Telling<'t> {
-    // The first name of a principal, or its text where it has none.
     fn push_principal(self, id: &Principal, out: &mut Vec<u8>) -> Result<(), NoMemory> {
-        match name_of(self.names, id) {
-            Some(name) => out.extend_from_slice(name),
-            None => out.extend_from_slice(id.to_text(self.alloc)?.items.as_bytes()),
-        }
+        push_principal(self.alloc, self.names, id, out)
     }
 
     // Who sends to whom, with this between.
@@ -51,6 +60,32 @@ impl<'t> Telling<'t> {
         items.extend_from_slice(between.as_bytes())?;
         self.push_principal(callee, &mut items)?;
         Ok(items)
+    }
+
+    // What is sent: a method with its arguments, or an answer.
+    fn push_label(self, delivery: &Delivery<'_>, out: &mut Vec<u8>) -> Result<(), NoMemory> {
+        match delivery {
+            Delivery::Call {
+                method,
+                arg,
+                at,
+                ..
+            } => {
+                push_method(self.alloc, method, out)?;
+                self.push_values(at, arg, out)
+            }
+            Delivery::Answer {
+                method,
+                response,
+                at,
+                ..
+            } => {
+                if let Some(method) = method {
+                    push_method(self.alloc, method, out)?;
+                }
+                self.push_response(at, response, out)
+            }
+        }
     }
 
     // Arguments or results, unless they cannot be read or are too long.
@@ -94,6 +129,23 @@ impl<'t> Telling<'t> {
     }
 }
 
+/// What is sent by a delivery, as it is told: a method after a dot, with its arguments, or an answer.
+pub fn label_text(
+    alloc: Global,
+    sources: &Sources,
+    names: &[Named],
+    delivery: &Delivery<'_>,
+) -> Result<Bytes, NoMemory> {
+    let telling = Telling {
+        alloc,
+        sources,
+        names,
+    };
+    let mut items = Vec::new(alloc);
+    telling.push_label(delivery, &mut items)?;
+    Ok(Bytes { items })
+}
+
 /// A delivery as it is told, with names for principals.
 pub fn delivery_text(
     alloc: Global,
@@ -106,32 +158,10 @@ pub fn delivery_text(
         sources,
         names,
     };
-    match delivery {
-        Delivery::Call {
-            sender,
-            callee,
-            method,
-            arg,
-            at,
-        } => {
-            let mut items = telling.front(sender, " -> ", callee)?;
-            push_method(alloc, method, &mut items)?;
-            telling.push_values(at, arg, &mut items)?;
-            Ok(Bytes { items })
-        }
-        Delivery::Answer {
-            caller,
-            callee,
-            method,
-            response,
-            at,
-        } => {
-            let mut items = telling.front(caller, " <- ", callee)?;
-            if let Some(method) = method {
-                push_method(alloc, method, &mut items)?;
-            }
-            telling.push_response(at, response, &mut items)?;
-            Ok(Bytes { items })
-        }
-    }
+    let mut items = match delivery {
+        Delivery::Call { sender, callee, .. } => telling.front(sender, " -> ", callee)?,
+        Delivery::Answer { caller, callee, .. } => telling.front(caller, " <- ", callee)?,
+    };
+    telling.push_label(delivery, &mut items)?;
+    Ok(Bytes { items })
 }

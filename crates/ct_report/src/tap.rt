@@ -1,9 +1,38 @@
 ghost use Rattle.std.specs.Prelude.{◌≡◌, ◌↔◌, ◌+◌, ◌++◌, true, IfOk, OnOk};
-ghost use Rattle.ct_report.specs.Texts.{block_text, counts_text, deliveries_text, delivery_line, doubled, doubled_byte, failed_text, key_text, next_number, order_text, passed_text, plan_text, undecided_text};
+ghost use Rattle.ct_report.specs.Texts.{block_text, comment_line, comments_text, counts_text, doubled, doubled_byte, entries_text, entry_line, facts_text, failed_text, inside_line, key_text, list_text, lists_text, next_number, one_line, passed_text, plan_text, undecided_text};
 
 use ic_base::NoMemory;
 use ic_principal::{Bytes, Text};
 use std::alloc::{AllocError, Global};
+use std::marker::Model;
+
+/// Entries of a list in a block. Contracts see the list.
+#[derive(Drop)]
+pub struct Lines {
+    pub items: Vec<Bytes>,
+}
+
+impl Model for Lines {
+    ghost use Rattle.std.specs.Prelude.{List, ℕ};
+
+    ghost Value = { List (List ℕ) };
+
+    ghost view = { λ l. l.items.items };
+}
+
+/// What is told of a statement that is not met: where it is, what was expected, and what came instead.
+#[derive(Drop)]
+pub struct Block {
+    pub at: Bytes,
+    pub expected: Bytes,
+    pub got: Bytes,
+    /// The deliveries that led there.
+    pub order: Lines,
+    /// Where executions trapped in the last delivery in which any did.
+    pub trapped: Lines,
+    /// What canisters said.
+    pub said: Lines,
+}
 
 /// How many tests ended how.
 #[derive(Clone, Copy, Debug, PartialEq, Eq)]
@@ -155,56 +184,67 @@ fn push_line(key: &str, text: &[u8], out: &mut Vec<u8>) -> Result<(), NoMemory>
     Ok(())
 }
 
-// Adds the line of a delivery.
-#[tactic(auto, unfolding(crate::specs::Texts::delivery_line))]
-fn push_delivery(delivery: &Bytes, out: &mut Vec<u8>) -> Result<(), NoMemory>
-    ensures { OnOk result (out.new.items ≡ out.old.items ++ delivery_line delivery.now) }
+// Adds an entry of a list.
+#[tactic(auto, unfolding(crate::specs::Texts::entry_line))]
+fn push_entry(entry: &Bytes, out: &mut Vec<u8>) -> Result<(), NoMemory>
+    ensures { OnOk result (out.new.items ≡ out.old.items ++ entry_line entry.now) }
 {
     out.extend_from_slice(b"    - '")?;
-    push_doubled(&delivery.items, out)?;
+    push_doubled(&entry.items, out)?;
     out.extend_from_slice(b"'\n")?;
     Ok(())
 }
 
-fn push_deliveries(deliveries: &[Bytes], out: &mut Vec<u8>) -> Result<(), NoMemory>
-    ensures { OnOk result (out.new.items ≡ out.old.items ++ deliveries_text deliveries.now) }
+fn push_entries(entries: &[Bytes], out: &mut Vec<u8>) -> Result<(), NoMemory>
+    ensures { OnOk result (out.new.items ≡ out.old.items ++ entries_text entries.now) }
 {
-    for delivery in deliveries {
-        push_delivery(delivery, out)?;
+    for entry in entries {
+        push_entry(entry, out)?;
     }
     Ok(())
 }
 
-// Adds the deliveries that led to a statement, if there are any.
-fn push_order(order: &[Bytes], out: &mut Vec<u8>) -> Result<(), NoMemory>
-    ensures { OnOk result (out.new.items ≡ out.old.items ++ order_text order.now) }
+// Adds a key and a list, if that has entries.
+fn push_list(key: &str, entries: &[Bytes], out: &mut Vec<u8>) -> Result<(), NoMemory>
+    ensures { OnOk result (out.new.items ≡ out.old.items ++ list_text key.now entries.now) }
 {
-    match order {
+    match entries {
         [] => Ok(()),
         [_, ..] => {
-            out.extend_from_slice(b"  order:\n")?;
-            push_deliveries(order, out)
+            out.extend_from_slice(b"  ")?;
+            out.extend_from_slice(key.as_bytes())?;
+            out.extend_from_slice(b":\n")?;
+            push_entries(entries, out)
         }
     }
 }
 
-/// Adds the block of a statement that is not met: where it is, what was expected, what came, and the order of
-/// deliveries that led there.
+// Adds where a statement is, what was expected of it, and what came instead.
+fn push_facts(block: &Block, out: &mut Vec<u8>) -> Result<(), NoMemory>
+    ensures { OnOk result (out.new.items ≡ out.old.items ++ facts_text block.now) }
+{
+    push_line("at", &block.at.items, out)?;
+    push_line("expected", &block.expected.items, out)?;
+    push_line("got", &block.got.items, out)
+}
+
+// Adds what led there.
+fn push_lists(block: &Block, out: &mut Vec<u8>) -> Result<(), NoMemory>
+    ensures { OnOk result (out.new.items ≡ out.old.items ++ lists_text block.now) }
+{
+    push_list("order", &block.order.items, out)?;
+    push_list("trapped", &block.trapped.items, out)?;
+    push_list("said", &block.said.items, out)
+}
+
+/// Adds the block of a statement that is not met.
 #[tactic(auto, unfolding(crate::specs::Texts::block_text))]
-pub fn push_block(
-    at: &[u8],
-    expected: &[u8],
-    got: &[u8],
-    order: &[Bytes],
-    out: &mut Vec<u8>,
-) -> Result<(), NoMemory>
-    ensures { OnOk result (out.new.items ≡ out.old.items ++ block_text at.now expected.now got.now order.now) }
+pub fn push_block(block: &Block, out: &mut Vec<u8>) -> Result<(), NoMemory>
+    ensures { OnOk result (out.new.items ≡ out.old.items ++ block_text block.now) }
 {
     out.extend_from_slice(b"  ---\n")?;
-    push_line("at", at, out)?;
-    push_line("expected", expected, out)?;
-    push_line("got", got, out)?;
-    push_order(order, out)?;
+    push_facts(block, out)?;
+    push_lists(block, out)?;
     out.extend_from_slice(b"  ...\n")?;
     Ok(())
 }
@@ -224,5 +264,47 @@ pub fn push_undecided(
     push_line("at", at, out)?;
     push_line("undecided", why.as_bytes(), out)?;
     out.extend_from_slice(b"  ...\n")?;
+    Ok(())
+}
+
+// Adds a byte, if it ends no line.
+fn push_inside(byte: u8, out: &mut Vec<u8>) -> Result<(), NoMemory>
+    ensures { OnOk result (out.new.items ≡ out.old.items ++ inside_line byte) }
+{
+    if byte == b'\n' {
+        return Ok(());
+    }
+    out.push(byte)?;
+    Ok(())
+}
+
+// Adds a text without the ends of its lines.
+fn push_one_line(text: &[u8], out: &mut Vec<u8>) -> Result<(), NoMemory>
+    ensures { OnOk result (out.new.items ≡ out.old.items ++ one_line text.now) }
+{
+    for byte in text {
+        push_inside(*byte, out)?;
+    }
+    Ok(())
+}
+
+// Adds a comment.
+#[tactic(auto, unfolding(crate::specs::Texts::comment_line))]
+fn push_comment(comment: &Bytes, out: &mut Vec<u8>) -> Result<(), NoMemory>
+    ensures { OnOk result (out.new.items ≡ out.old.items ++ comment_line comment.now) }
+{
+    out.extend_from_slice(b"# ")?;
+    push_one_line(&comment.items, out)?;
+    out.extend_from_slice(b"\n")?;
+    Ok(())
+}
+
+/// Adds comments.
+pub fn push_comments(comments: &[Bytes], out: &mut Vec<u8>) -> Result<(), NoMemory>
+    ensures { OnOk result (out.new.items ≡ out.old.items ++ comments_text comments.now) }
+{
+    for comment in comments {
+        push_comment(comment, out)?;
+    }
     Ok(())
 }

@@ -30,6 +30,14 @@ module _ (charge : Charge) (s : State) where
   IsDone d end came = (end ≡ after_acts charge s d.acts) × (came ≡ d.came)
 
   module _ (ask : Ask) where
+    -- a call is submitted, or it is not, as its callee answers
+    pub submit_accepted : (end : State) (number : ℕ) → accepts_now charge.limit charge.price s ask ≡ true → end ≡ with_call s ask → number ≡ length s.requests
+        → ◌≡◌ {A = State × Option ℕ} (end, Some number) (if_accepted charge s ask)
+    submit_accepted end number go made counted = rw (go, made, counted) refl
+
+    pub submit_refused : (end : State) → accepts_now charge.limit charge.price s ask ≡ false → end ≡ s → ◌≡◌ {A = State × Option ℕ} (end, None) (if_accepted charge s ask)
+    submit_refused end stays same = rw (stays, same) refl
+
     pub call_accepted : length s.requests < most_calls → (t : State) (number : ℕ) → ◌≡◌ {A = State × Option ℕ} (t, Some number) (if_accepted charge s ask)
         → (end : State) (came : Came) → end ≡ after_acts charge t (acts_of_rounds charge t) → came ≡ came_now number end → IsDone (called charge s ask) end came
     unfolding called

@@ -3,3 +3,4 @@ mod Steps
 pub mod One
 pub mod Walks
 pub mod Acts
+pub mod Hearings

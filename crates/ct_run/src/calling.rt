@@ -6,6 +6,7 @@ ghost use Rattle.ct_run.specs.Called.{Done, acts_of_rounds, after_acts, called, 
 ghost use Rattle.ic_asking.specs.Asking.{answer_now};
 
 use crate::runner::Runner;
+use crate::telling::{tell_answer, tell_query, tell_response};
 use ct_asked::Asked;
 use ct_outcomes::Came;
 use ct_script::Script;
@@ -21,7 +22,7 @@ use std::thread::Threads;
 pub const MOST_CALLS: usize = 1_048_576;
 
 /// The most rounds that are made after a call.
-const MOST_ROUNDS: u32 = 100_000;
+pub(crate) const MOST_ROUNDS: u32 = 100_000;
 
 // What a response tells.
 fn came_of(response: Response) -> Came
@@ -80,14 +81,20 @@ pub fn came_now(world: &World, number: u32) -> Result<Came, NoMemory>
 
 impl<'i, R: Threads + Sync, G: Gate + Sync> Runner<'i, R, G> {
     /// A call is submitted if its callee accepts it, and then has a number; no round is made.
-    pub fn submit(&self, world: World, ask: Ask) -> Result<(World, Option<u32>), NoMemory>
+    pub fn submit(
+        &self,
+        world: World,
+        ask: Ask,
+        script: &mut Script,
+    ) -> Result<(World, Option<u32>), NoMemory>
         requires { length world.requests < most_calls }
         ensures { IfOk result (λ done. (done.0, done.1) ≡ if_accepted self.now.charge world ask) }
     {
-        let number = world.parts().requests.items.len() as u32;
-        let mut parts = world.open();
+        let number = calls_made(&world) as u32;
+        script.pass();
+        let mut parts = self.listening(world, &ask.callee, script)?.open();
         let is_accepted = accepts_now(self.alloc, self.charge, &mut parts, &ask);
-        let world = World::seal(parts);
+        let world = self.heard(World::seal(parts), &ask.callee, script)?;
         if is_accepted? {
             let world = world.submit(ask.sender, ask.callee, ask.method, ask.arg)?;
             Ok((world, Some(number)))
@@ -97,11 +104,14 @@ impl<'i, R: Threads + Sync, G: Gate + Sync> Runner<'i, R, G> {
     }
 
     #[tactic(auto, using(crate::proofs::Calls::after_rounds))]
-    // Rounds until no message is left, and what came of the call with a number.
-    fn finish(&self, world: World, number: u32) -> Result<(World, Came), NoMemory>
-        ensures state { IfOk result (λ done. done.0 ≡ after_acts self.now.charge world (acts_of_rounds self.now.charge world)) }
-        ensures came { IfOk result (λ done. done.1 ≡ came_now number done.0) }
+    // Rounds until no message is left.
+    fn drained(&self, world: World, script: &mut Script) -> Result<World, NoMemory>
+        ensures { IfOk result (λ after. after ≡ after_acts self.now.charge world (acts_of_rounds self.now.charge world)) }
     {
+        if script.traces() {
+            let world = self.heard_rounds(world, script)?;
+            return Ok(world);
+        }
         let (world, _) = run_rounds(
             self.alloc,
             self.rt,
@@ -112,6 +122,21 @@ impl<'i, R: Threads + Sync, G: Gate + Sync> Runner<'i, R, G> {
             self.charge.price,
             self.gate,
         )?;
+        Ok(world)
+    }
+
+    // Rounds until no message is left, and what came of the call with a number.
+    fn finish(
+        &self,
+        world: World,
+        number: u32,
+        script: &mut Script,
+    ) -> Result<(World, Came), NoMemory>
+        ensures state { IfOk result (λ done. done.0 ≡ after_acts self.now.charge world (acts_of_rounds self.now.charge world)) }
+        ensures came { IfOk result (λ done. done.1 ≡ came_now number done.0) }
+    {
+        let world = self.drained(world, script)?;
+        tell_answer(self.alloc, &world, number, script)?;
         let came = came_now(&world, number)?;
         Ok((world, came))
     }
@@ -125,9 +150,9 @@ impl<'i, R: Threads + Sync, G: Gate + Sync> Runner<'i, R, G> {
         }
         script.call(&ask.sender, &ask.callee, &ask.method, &ask.arg)?;
         script.drain()?;
-        let (world, number) = self.submit(world, ask)?;
+        let (world, number) = self.submit(world, ask, script)?;
         match number {
-            Some(number) => self.finish(world, number),
+            Some(number) => self.finish(world, number, script),
             None => Ok((world, Came::Refused)),
         }
     }
@@ -136,10 +161,14 @@ impl<'i, R: Threads + Sync, G: Gate + Sync> Runner<'i, R, G> {
         ensures { Done self.now.charge world (nothing (came_of (answer_now self.now.charge.limit self.now.charge.price world ask))) result }
     {
         script.query(&ask.sender, &ask.callee, &ask.method, &ask.arg)?;
-        let mut parts = world.open();
+        tell_query(self.alloc, &ask, script)?;
+        let callee = ask.callee;
+        let mut parts = self.listening(world, &callee, script)?.open();
         let answered = answer_now(self.alloc, self.charge, &mut parts, ask);
-        let world = World::seal(parts);
-        Ok((world, came_of(answered?)))
+        let world = self.heard(World::seal(parts), &callee, script)?;
+        let response = answered?;
+        tell_response(self.alloc, callee, &response, script)?;
+        Ok((world, came_of(response)))
     }
 
     /// What comes of what is asked: the state after it, and what came.

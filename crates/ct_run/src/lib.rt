@@ -7,11 +7,13 @@
 
 mod calling;
 mod creating;
+mod hearing;
 mod judging;
 pub mod laws;
 mod names;
 mod runner;
 mod statement;
+mod telling;
 mod verdict;
 
 pub use calling::{MOST_CALLS, came_now};

@@ -1,15 +1,19 @@
+use crate::trace::{Deliveries, Sent, Trace};
 use ic_base::NoMemory;
+use ic_heard::Heard;
 use ic_principal::{Bytes, Principal, Text};
 use std::alloc::Global;
 
 /// How many characters of a statement a comment has.
 const SHOWN: usize = 200;
 
-/// The lines of a script for `replica`, or none where no script is wanted.
+/// Where it is written down what a test does: the lines of a script for `replica`, where one is wanted, and what canisters
+/// say, where that is.
 #[derive(Drop)]
 pub struct Script {
     alloc: Global,
     lines: Option<Vec<u8>>,
+    trace: Option<Trace>,
 }
 
 // The front of a text, of at most this many characters.
@@ -35,9 +39,22 @@ fn digits_of(alloc: Global, bytes: &Bytes) -> Result<String, NoMemory> {
 }
 
 impl Script {
-    /// No script is wanted: lines are dropped.
+    /// Nothing is wanted: lines are dropped.
     pub fn unwanted(alloc: Global) -> Script {
-        Script { alloc, lines: None }
+        Script {
+            alloc,
+            lines: None,
+            trace: None,
+        }
+    }
+
+    /// No lines are wanted, but what canisters say, and where they trap.
+    pub fn tracing(alloc: Global) -> Script {
+        Script {
+            alloc,
+            lines: None,
+            trace: Some(Trace::new(alloc)),
+        }
     }
 
     /// A script of which only the first line is there, which says what `replica` is to be run with.
@@ -46,6 +63,7 @@ impl Script {
         Ok(Script {
             alloc,
             lines: Some(first.into_bytes()),
+            trace: None,
         })
     }
 
@@ -57,6 +75,47 @@ impl Script {
     /// The lines.
     pub fn into_lines(self) -> Option<Vec<u8>> {
         self.lines
+    }
+
+    /// Whether it is wanted what canisters say.
+    pub fn traces(&self) -> bool {
+        self.trace.is_some()
+    }
+
+    /// Something begins that is no delivery, as an inspection.
+    pub fn pass(&mut self) {
+        if let Some(trace) = &mut self.trace {
+            trace.pass();
+        }
+    }
+
+    /// A delivery begins, or the answer of a user's call comes.
+    pub fn deliver(&mut self, sent: Sent) -> Result<(), NoMemory> {
+        match &mut self.trace {
+            None => Ok(()),
+            Some(trace) => trace.begin(sent),
+        }
+    }
+
+    /// What was heard of a canister in the delivery that began last.
+    pub fn hear(&mut self, canister: &Principal, heard: &Heard) -> Result<(), NoMemory> {
+        match &mut self.trace {
+            None => Ok(()),
+            Some(trace) => trace.hear(canister, heard),
+        }
+    }
+
+    /// Takes the deliveries that began since they were last taken.
+    pub fn take_deliveries(&mut self) -> Option<Deliveries> {
+        match &mut self.trace {
+            None => None,
+            Some(trace) => Some(trace.take_deliveries()),
+        }
+    }
+
+    /// What canisters said, if that was wanted.
+    pub fn into_trace(self) -> Option<Trace> {
+        self.trace
     }
 
     fn push(&mut self, text: &[u8]) -> Result<(), NoMemory> {

@@ -10,11 +10,11 @@ mod words;
 ghost use Rattle.std.specs.Prelude.{◌≡◌, IfOk, IfSome, [], false, map, option_map, string_bytes};
 ghost use Rattle.clap.specs.Words.{app_of, groups_of, rule_of};
 ghost use Rattle.clap.specs.declared.builder.command.Command.TheViews.{out-Command};
-ghost use Rattle.ct_words.specs.Command.{command, files_rule, text_rule};
-ghost use Rattle.ct_words.specs.Options.{HasBounds, choice_of, given_options, options_of, usage_text};
+ghost use Rattle.ct_words.specs.Command.{command, files_rule, flag_rule, text_rule};
+ghost use Rattle.ct_words.specs.Options.{HasBounds, choice_of, given_options, is_set, options_of, usage_text};
 
 use clap::error::ErrorKind;
-use clap::{Arg, Command};
+use clap::{Arg, ArgAction, Command};
 use ic_base::NoMemory;
 use ic_options::number_or;
 use ic_principal::Text;
@@ -30,6 +30,8 @@ pub enum Choice {
     Only(Text),
     /// `--script`: none; what the first of this name does is printed.
     Script(Text),
+    /// `--picture`: none; the order of the first of this name is drawn.
+    Picture(Text),
 }
 
 /// Names of files. Contracts see the list.
@@ -55,6 +57,8 @@ pub struct TestOptions {
     pub price: u64,
     /// `--states`: the most states that one interleave may meet, 1 to 1,000,000; without it 20,000.
     pub states: u32,
+    /// `--trace`: what each test did is told.
+    pub trace: bool,
     pub choice: Choice,
     /// The names of the test files.
     pub files: FileNames,
@@ -68,19 +72,21 @@ fn text(alloc: Global, word: &str) -> Result<Text, NoMemory>
     })
 }
 
-// Which tests are wanted; `None`: `--only` and `--script` exclude each other.
+// Which tests are wanted; `None`: `--only`, `--script` and `--picture` exclude each other.
 fn choice_of(
     alloc: Global,
     only: Option<&str>,
     script: Option<&str>,
+    picture: Option<&str>,
 ) -> Result<Option<Choice>, NoMemory>
-    ensures { IfOk result (λ choice. choice ≡ choice_of (option_map (λ part. part.now) only.entry) (option_map (λ name. name.now) script.entry)) }
+    ensures { IfOk result (λ choice. choice ≡ choice_of (option_map (λ part. part.now) only.entry) (option_map (λ name. name.now) script.entry) (option_map (λ name. name.now) picture.entry)) }
 {
-    match (only, script) {
-        (None, None) => Ok(Some(Choice::All)),
-        (Some(part), None) => Ok(Some(Choice::Only(text(alloc, part)?))),
-        (None, Some(name)) => Ok(Some(Choice::Script(text(alloc, name)?))),
-        (Some(_), Some(_)) => Ok(None),
+    match (only, script, picture) {
+        (None, None, None) => Ok(Some(Choice::All)),
+        (Some(part), None, None) => Ok(Some(Choice::Only(text(alloc, part)?))),
+        (None, Some(name), None) => Ok(Some(Choice::Script(text(alloc, name)?))),
+        (None, None, Some(name)) => Ok(Some(Choice::Picture(text(alloc, name)?))),
+        _ => Ok(None),
     }
 }
 
@@ -103,15 +109,26 @@ fn files_of(alloc: Global, words: Option<&[&str]>) -> Result<Option<FileNames>, 
     }
 }
 
+// Whether a flag is set, by its text.
+fn is_set(text: Option<&str>) -> bool
+    ensures { result ≡ is_set (option_map (λ text. text.now) text.entry) }
+{
+    match text {
+        None => false,
+        Some(text) => text == "true",
+    }
+}
+
 // The options, where a choice can be made and files are named.
 fn given(
     limit: u64,
     price: u64,
     states: u32,
+    trace: bool,
     choice: Option<Choice>,
     files: Option<FileNames>,
 ) -> Option<TestOptions>
-    ensures value { result ≡ given_options limit price states choice files }
+    ensures value { result ≡ given_options limit price states trace choice files }
     ensures numbers { IfSome result (λ options. (options.limit ≡ limit) × (options.price ≡ price) × (options.states ≡ states)) }
 {
     match (choice, files) {
@@ -119,6 +136,7 @@ fn given(
             limit,
             price,
             states,
+            trace,
             choice,
             files,
         }),
@@ -140,13 +158,16 @@ impl TestOptions {
                 let states_given = matches.get_one::<u32>("states");
                 let only = matches.get_str("only");
                 let script = matches.get_str("script");
+                let picture = matches.get_str("picture");
+                let traced = matches.get_str("trace");
                 let names = matches.get_strs("files");
                 let limit = limit_given.unwrap_or(50_000_000);
                 let price = price_given.unwrap_or(0);
                 let states = states_given.unwrap_or(20_000);
-                let choice = choice_of(alloc, only, script)?;
+                let trace = is_set(traced);
+                let choice = choice_of(alloc, only, script, picture)?;
                 let files = files_of(alloc, names)?;
-                Ok(given(limit, price, states, choice, files))
+                Ok(given(limit, price, states, trace, choice, files))
             }
             Err(error) => {
                 if error.kind() == ErrorKind::OutOfMemory {
@@ -164,7 +185,7 @@ impl TestOptions {
 pub fn usage() -> &'static str
     ensures { result.now ≡ usage_text }
 {
-    "usage: canister_test [--limit N] [--price N] [--states N] [--only TEXT | --script NAME] FILE..\n"
+    "usage: canister_test [--limit N] [--price N] [--states N] [--trace] [--only TEXT | --script NAME | --picture NAME] FILE..\n"
 }
 
 // The command, before it is built.
@@ -178,6 +199,8 @@ fn describe<'a>(alloc: Global) -> Result<Command<'a>, NoMemory>
     let states = number_or(alloc, "states", 1, 1_000_000, "20000");
     let only = text_option(alloc, "only");
     let script = text_option(alloc, "script");
+    let picture = text_option(alloc, "picture");
+    let trace = flag(alloc, "trace");
     let files = files(alloc);
     Command::new(alloc, "canister_test")
         .arg(limit)?
@@ -185,6 +208,8 @@ fn describe<'a>(alloc: Global) -> Result<Command<'a>, NoMemory>
         .arg(states)?
         .arg(only)?
         .arg(script)?
+        .arg(picture)?
+        .arg(trace)?
         .arg(files)
 }
 
@@ -202,4 +227,12 @@ fn text_option<'a>(alloc: Global, name: &'a str) -> Arg<'a>
     ensures local { result.global ≡ false }
 {
     Arg::new(alloc, name).long(name)
+}
+
+// An option that is there or not.
+fn flag<'a>(alloc: Global, name: &'a str) -> Arg<'a>
+    ensures rule { rule_of result ≡ flag_rule name.entry.now }
+    ensures local { result.global ≡ false }
+{
+    Arg::new(alloc, name).long(name).action(ArgAction::SetTrue)
 }

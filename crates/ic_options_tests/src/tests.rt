@@ -78,7 +78,7 @@ fn is_taken(alloc: Global, line: &str, wanted: Numbers) -> bool {
 }
 
 // The words of `canister_test`: the limit, the price, the states, which tests and which files they ask for.
-static TESTS: [(&str, &str); 5] = [
+static TESTS: [(&str, &str); 8] = [
     ("canister_test a", "50000000 0 20000 all a"),
     (
         "canister_test a --only b --states=7 -- c --only",
@@ -88,7 +88,13 @@ static TESTS: [(&str, &str); 5] = [
         "canister_test --script b --limit 1 --price 2 a",
         "1 2 20000 script b a",
     ),
+    (
+        "canister_test a --trace --picture b",
+        "50000000 0 20000 picture b trace a",
+    ),
     ("canister_test --only b --script b a", "refused"),
+    ("canister_test --only b --picture b a", "refused"),
+    ("canister_test --trace --trace a", "refused"),
     ("canister_test --only b", "refused"),
 ];
 
@@ -105,7 +111,14 @@ fn shown(alloc: Global, options: &TestOptions) -> Result<String, NoMemory> {
             "{limit} {price} {states} script {}",
             name.items
         )?,
+        Choice::Picture(name) => format!(in alloc;
+            "{limit} {price} {states} picture {}",
+            name.items
+        )?,
     };
+    if options.trace {
+        text.push_str(" trace")?;
+    }
     for file in &options.files.items {
         text.push(' ')?;
         text.push_str(file.items.as_str())?;

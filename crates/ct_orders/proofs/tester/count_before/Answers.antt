@@ -3,7 +3,7 @@ use Rattle.std.proofs.lemmas.List.{take_all}
 use Rattle.ct_check.specs.declared.checked.CheckedStep.{CheckedStep}
 use Rattle.ct_check.specs.declared.checked.CheckedStep.TheVariants.{Statement}
 use Rattle.ct_run.specs.Runs.{without_interleaves}
-use Rattle.ct_orders.proofs.Lists.{take_one}
+use Rattle.ct_cases.proofs.Lists.{take_one}
 use Rattle.ct_orders.proofs.Stepping.{more_statements}
 use Rattle.ct_orders.proofs.tester.count_before.Goals as goal
 

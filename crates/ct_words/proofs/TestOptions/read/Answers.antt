@@ -13,7 +13,7 @@ use Rattle.ic_options.proofs.Exact.{taken_without_fault}
 use Rattle.ic_options.proofs.Numbers.{given, text_accepted, bounded}
 use Rattle.ic_options.specs.Command.{limit_rule, price_rule}
 use Rattle.ct_words.specs.Command.{command, states_rule}
-use Rattle.ct_words.specs.Options.{HasBounds, choice_of, given_options, options_in, options_of}
+use Rattle.ct_words.specs.Options.{HasBounds, choice_of, given_options, is_set, options_in, options_of}
 use Rattle.ct_words.specs.declared.TestOptions.{TestOptions}
 use Rattle.ct_words.proofs.Command.{limit_option, price_option, states_option, has_simple_rules, is_free, is_plain_leaf}
 use Rattle.ct_words.proofs.TestOptions.read.Goals as goal
@@ -77,11 +77,15 @@ returns-in-Ok c =
     let states_is : c.unwrap_or-states.result ≡ unwrap_or c.get_one-states_given.result 20000 = search rules in
     let only : option_map (λ part. part.now) c.get_str-only.result ≡ first_of (codes "only") (rows_of f) = c.get_str-only.ensures ∙ first_value-rows f (codes "only") in
     let script : option_map (λ name. name.now) c.get_str-script.result ≡ first_of (codes "script") (rows_of f) = c.get_str-script.ensures ∙ first_value-rows f (codes "script") in
+    let picture : option_map (λ name. name.now) c.get_str-picture.result ≡ first_of (codes "picture") (rows_of f) = c.get_str-picture.ensures ∙ first_value-rows f (codes "picture") in
+    let traced : option_map (λ text. text.now) c.get_str-traced.result ≡ first_of (codes "trace") (rows_of f) = c.get_str-traced.ensures ∙ first_value-rows f (codes "trace") in
+    let trace_is : c.is_set-trace.result ≡ is_set (first_of (codes "trace") (rows_of f)) = c.is_set-trace.ensures ∙ ap is_set traced in
     let files : option_map (λ names. map (λ name. name.now) names.now) c.get_strs-names.result ≡ all_of (codes "files") (rows_of f) = c.get_strs-names.ensures ∙ raw_values-rows f (codes "files") in
-    let choice_is : c.in_ok-choice-in-Ok.choice ≡ choice_of (first_of (codes "only") (rows_of f)) (first_of (codes "script") (rows_of f)) = c.in_ok-choice-in-Ok.ensures ∙ ap₂ choice_of only script in
+    let choice_is : c.in_ok-choice-in-Ok.choice ≡ choice_of (first_of (codes "only") (rows_of f)) (first_of (codes "script") (rows_of f)) (first_of (codes "picture") (rows_of f)) =
+    c.in_ok-choice-in-Ok.ensures ∙ (λ i. choice_of (only i) (script i) (picture i)) in
     let files_is : c.in_ok-files-in-Ok.files ≡ all_of (codes "files") (rows_of f) = c.in_ok-files-in-Ok.ensures ∙ files in
-    let is : given_options c.unwrap_or-limit.result c.unwrap_or-price.result c.unwrap_or-states.result c.in_ok-choice-in-Ok.choice c.in_ok-files-in-Ok.files ≡ options_in (rows_of f) =
-    λ i. given_options ((limit_is ∙ ap (or 50000000) limit.0) i) ((price_is ∙ ap (or 0) price.0) i) ((states_is ∙ ap (or 20000) states.0) i) (choice_is i) (files_is i) in
+    let is : given_options c.unwrap_or-limit.result c.unwrap_or-price.result c.unwrap_or-states.result c.is_set-trace.result c.in_ok-choice-in-Ok.choice c.in_ok-files-in-Ok.files ≡ options_in (rows_of f) =
+    λ i. given_options ((limit_is ∙ ap (or 50000000) limit.0) i) ((price_is ∙ ap (or 0) price.0) i) ((states_is ∙ ap (or 20000) states.0) i) (trace_is i) (choice_is i) (files_is i) in
     record {
       value = c.given.ensures.value ∙ (is ∙ (ap options_in rows ∙ sym (taken words (taken_without_fault command is_plain_leaf words none))));
       bounds = has_bounds _ _ _ _ c.given.ensures.numbers

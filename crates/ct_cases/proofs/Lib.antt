@@ -1,0 +1,16 @@
+pub mod Lists
+pub mod Stays
+pub mod Asking
+pub mod Moves
+pub mod Deliveries
+pub mod Reaching
+pub mod Searched
+pub mod Further
+pub mod Sending
+pub mod Judgements
+pub mod Starting
+pub mod Finding
+pub mod Ending
+pub mod Statements
+pub mod Meant
+pub mod AllSent

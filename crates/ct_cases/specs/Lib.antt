@@ -1,0 +1,6 @@
+pub mod Interleaves
+pub mod Meanings
+pub mod Reached
+pub mod Holding
+pub mod Cases
+pub mod Answers

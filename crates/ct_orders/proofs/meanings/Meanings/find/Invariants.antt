@@ -1,7 +1,0 @@
-use Rattle.std.proofs.Common.{◌≡◌, ℕ, ◌<◌, get_or}
-use Rattle.ct_orders.specs.Meanings.{Meaning}
-use Rattle.ct_orders.proofs.meanings.Meanings.find.Given as goal
-
--- none of them so far is this one
-abbrev pub invariant-loop-place : goal.invariant-loop-place
-invariant-loop-place l = (k : ℕ) (d : Meaning) → k < l.place → get_or l.self k d ≡ l.meaning → ⊥

@@ -1,7 +1,0 @@
-use Rattle.std.proofs.Common.{take}
-use Rattle.ct_orders.specs.Interleaves.{AreSubmitted}
-use Rattle.ct_orders.proofs.tester.Tester.submit.Given as goal
-
--- the moves so far are submitted
-abbrev pub invariant-loop-place : goal.invariant-loop-place
-invariant-loop-place g l = AreSubmitted l.self.setting l.names l.fn.world (take l.place l.moves) l.accepted.items l.world
