@@ -71,10 +71,16 @@ impl<'i, R: Threads + Sync, G: Gate + Sync> Session<'i, R, G> {
     }
 
     // Runs a test anew, along a way.
-    fn retold(&self, chosen: &Chosen<'_, 'i, '_>, way: &Way) -> Result<Retold<'i>, NoMemory> {
+    fn retold(
+        &self,
+        chosen: &Chosen<'_, 'i, '_>,
+        way: &Way,
+        tells_statements: bool,
+    ) -> Result<Retold<'i>, NoMemory> {
         let suite = chosen.suite;
         let tester = self.tester(chosen);
-        retell_traced(&tester, &suite.checked.preamble, chosen.test, way)
+        let preamble = &suite.checked.preamble;
+        retell_traced(&tester, preamble, chosen.test, way, tells_statements)
     }
 
     // Says what came of a test that ended so.
@@ -99,7 +105,7 @@ impl<'i, R: Threads + Sync, G: Gate + Sync> Session<'i, R, G> {
             }
             Verdict::Failed(not_met) => {
                 counts.fail()?;
-                let told = self.retold(chosen, &ended.way)?;
+                let told = self.retold(chosen, &ended.way, false)?;
                 file.not_passed(alloc, number, name, not_met, &told)
             }
             Verdict::Undecided(first) => {
@@ -119,7 +125,7 @@ impl<'i, R: Threads + Sync, G: Gate + Sync> Session<'i, R, G> {
             });
         }
         let suite = chosen.suite;
-        let told = self.retold(chosen, way)?;
+        let told = self.retold(chosen, way, true)?;
         let text = suite.test_file().traced(self.alloc, &told)?;
         Ok(text)
     }
@@ -263,7 +269,7 @@ impl<'i, R: Threads + Sync, G: Gate + Sync> Session<'i, R, G> {
             &suite.checked.preamble,
             chosen.test,
         )?;
-        let told = self.retold(chosen, &way)?;
+        let told = self.retold(chosen, &way, true)?;
         let not_met = match &verdict {
             Verdict::Failed(not_met) => Some(not_met),
             Verdict::Passed | Verdict::Undecided(_) => None,
@@ -287,7 +293,7 @@ impl<'i, R: Threads + Sync, G: Gate + Sync> Session<'i, R, G> {
         Ok(Status::Passed)
     }
 
-    /// Runs tests and reports what came of them, or prints the script of the first.
+    /// Runs tests and reports what came of them, or prints the script or the picture of the first.
     pub(crate) fn perform<K: Sink + Drop, E: Sink + Drop>(
         &self,
         choice: &Choice,

@@ -7,7 +7,7 @@ use ic_principal::{Bytes, Principal, Text};
 use ic_state::{Message, Origin, Response};
 use std::alloc::Global;
 
-/// A delivery of an interleave. Arguments and results are read at types of the callee's interface, if it has a name
+/// A delivery, or a query of a trace. Arguments and results are read at types of the callee's interface, if it has a name
 /// and the method.
 #[derive(Drop)]
 pub enum Delivery<'i> {
@@ -18,7 +18,7 @@ pub enum Delivery<'i> {
         arg: Bytes,
         at: Option<At<'i>>,
     },
-    /// The answer to a call, whose method is known if it was delivered in an interleave.
+    /// The answer to a call, whose method is known if the call was told before.
     Answer {
         caller: Principal,
         callee: Principal,

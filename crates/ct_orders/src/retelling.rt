@@ -51,6 +51,8 @@ struct Course<'w, 'i> {
     called: CalledList,
     traced: CalledList,
     told: Vec<Told<'i>>,
+    // Whether statements are wanted with their deliveries.
+    tells_statements: bool,
     statements: Vec<TracedStatement<'i>>,
     is_cut: bool,
 }
@@ -67,6 +69,7 @@ impl<'w, 'i> Course<'w, 'i> {
         alloc: Global,
         sources: &'i Sources,
         way: &'w Way,
+        tells_statements: bool,
     ) -> Result<Course<'w, 'i>, NoMemory> {
         Ok(Course {
             alloc,
@@ -78,6 +81,7 @@ impl<'w, 'i> Course<'w, 'i> {
             called: CalledList::new(alloc),
             traced: CalledList::new(alloc),
             told: Vec::new(alloc),
+            tells_statements,
             statements: Vec::new(alloc),
             is_cut: false,
         })
@@ -96,6 +100,9 @@ impl<'w, 'i> Course<'w, 'i> {
 
     // A statement with the deliveries that began since the last, where they are wanted.
     fn trace(&mut self, span: Span, script: &mut Script) -> Result<(), NoMemory> {
+        if !self.tells_statements {
+            return Ok(());
+        }
         let Some(taken) = script.take_deliveries() else {
             return Ok(());
         };
@@ -305,6 +312,19 @@ fn retell_submitted<'i, R: Threads + Sync, G: Gate + Sync>(
     Ok(Next::On(world))
 }
 
+// Of an interleave that ends before any message is delivered, the moves up to the one that cannot be submitted are told, or
+// all, where no order came to its end.
+fn retell_unsent<'i>(
+    course: &mut Course<'_, 'i>,
+    moves: &[CheckedMove<'_, 'i, '_>],
+    sent: usize,
+    script: &mut Script,
+) -> Result<Next, NoMemory> {
+    let count = sent.saturating_add(1).min(moves.len());
+    course.trace_moves(&moves[..count], script)?;
+    Ok(Next::Ends)
+}
+
 fn retell_interleave<'i, R: Threads + Sync, G: Gate + Sync>(
     tester: &Tester<'i, R, G>,
     world: World,
@@ -319,7 +339,7 @@ fn retell_interleave<'i, R: Threads + Sync, G: Gate + Sync>(
         unsent,
     } = tester.submit(world, &course.names.items, moves, script)?;
     if unsent.is_some() || course.way.last == Last::Calls(interleave.place) {
-        return Ok(Next::Ends);
+        return retell_unsent(course, moves, accepted.len(), script);
     }
     retell_submitted(tester, world, course, moves, &accepted, script)
 }
@@ -374,6 +394,20 @@ fn retell_steps<'i, R: Threads + Sync, G: Gate + Sync>(
     Ok(())
 }
 
+// Runs a test anew, along the way of the course.
+fn retell_test<'i, R: Threads + Sync, G: Gate + Sync>(
+    tester: &Tester<'i, R, G>,
+    preamble: &CheckedStatements<'_, 'i, '_>,
+    test: &CheckedTest<'_, 'i, '_>,
+    course: &mut Course<'_, 'i>,
+    script: &mut Script,
+) -> Result<(), NoMemory> {
+    match retell_preamble(tester, course, preamble, script)? {
+        Next::On(world) => retell_steps(tester, world, course, &test.steps.items, script),
+        Next::Ends => Ok(()),
+    }
+}
+
 /// Runs a test anew, along a way on which it went, and tells its deliveries. It is written to a script that is
 /// wanted, as far as picks take the deliveries.
 pub fn retell<'i, R: Threads + Sync, G: Gate + Sync>(
@@ -383,26 +417,25 @@ pub fn retell<'i, R: Threads + Sync, G: Gate + Sync>(
     way: &Way,
     script: &mut Script,
 ) -> Result<Retold<'i>, NoMemory> {
-    let mut course = Course::begin(tester.alloc(), tester.runner.sources, way)?;
-    match retell_preamble(tester, &mut course, preamble, script)? {
-        Next::On(world) => {
-            retell_steps(tester, world, &mut course, &test.steps.items, script)?;
-        }
-        Next::Ends => {}
-    }
+    let mut course = Course::begin(tester.alloc(), tester.runner.sources, way, false)?;
+    retell_test(tester, preamble, test, &mut course, script)?;
     Ok(course.retold())
 }
 
 /// Runs a test anew, along a way on which it went, and tells its deliveries, and what canisters said and where they
-/// trapped.
+/// trapped; with its statements and their deliveries, where these are wanted.
 pub fn retell_traced<'i, R: Threads + Sync, G: Gate + Sync>(
     tester: &Tester<'i, R, G>,
     preamble: &CheckedStatements<'_, 'i, '_>,
     test: &CheckedTest<'_, 'i, '_>,
     way: &Way,
+    tells_statements: bool,
 ) -> Result<Retold<'i>, NoMemory> {
+    let sources = tester.runner.sources;
+    let mut course = Course::begin(tester.alloc(), sources, way, tells_statements)?;
     let mut script = Script::tracing(tester.alloc());
-    let mut retold = retell(tester, preamble, test, way, &mut script)?;
+    retell_test(tester, preamble, test, &mut course, &mut script)?;
+    let mut retold = course.retold();
     retold.trace = script.into_trace();
     Ok(retold)
 }
