@@ -1,5 +1,4 @@
 use crate::registers::{Exit, Layout};
-use crate::stack::Stacks;
 use wm_semantics::Ended;
 
 /// A function that runs, or waits for the one that it called.
@@ -56,10 +55,9 @@ pub(crate) enum Innermost {
     Nowhere,
 }
 
-/// How a run ended, with all that was under way.
+/// How a run ended, and what ran then. Those that waited are still on the stacks.
 #[derive(Drop)]
 pub(crate) struct Halted {
     pub(crate) ended: Ended,
-    pub(crate) stacks: Stacks,
     pub(crate) innermost: Innermost,
 }

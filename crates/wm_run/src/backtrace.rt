@@ -3,6 +3,7 @@ ghost use Rattle.wm_run.specs.Backtrace.{IsBacktrace, site_of, sites_of, nothing
 ghost use Rattle.wm_run.specs.UnderWay.{HaltedIn};
 
 use crate::activation::{Activation, Halted, Innermost};
+use crate::stack::Stacks;
 use ic_base::NoMemory;
 use std::alloc::Global;
 use std::marker::Model;
@@ -131,9 +132,10 @@ pub(crate) fn backtrace_of(
     alloc: Global,
     valid: &Valid,
     table: &[Option<u32>],
+    stacks: &Stacks,
     halted: &Halted,
 ) -> Result<Backtrace, NoMemory>
-    ensures { IfOk result (λ b. (entered : ℕ) → HaltedIn valid.now entered halted.now → IsBacktrace valid.now.«module» entered b) }
+    ensures { IfOk result (λ b. (entered : ℕ) → HaltedIn valid.now entered stacks.now halted.now → IsBacktrace valid.now.«module» entered b) }
 {
     let _module = valid.module();
     let traps = may_be_of_call(&halted.ended);
@@ -145,8 +147,8 @@ pub(crate) fn backtrace_of(
             if let Ended::Returned = &halted.ended {
                 return Ok(nothing(alloc, None));
             }
-            let callers = halted.stacks.callers.as_slice();
-            let stack = halted.stacks.operands.as_slice();
+            let callers = stacks.callers.as_slice();
+            let stack = stacks.operands.as_slice();
             let call = if traps {
                 call_at(valid, table, stack, here)
             } else {

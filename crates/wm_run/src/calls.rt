@@ -85,6 +85,7 @@ pub(crate) fn enter(
 }
 
 /// Calls a defined function.
+#[inline(always)]
 pub(crate) fn call(
     valid: &Valid,
     stacks: &mut Stacks,

@@ -50,29 +50,27 @@ fn call_alone<H: Host>(
 /// Runs a function that gives nothing, and takes one i32 at most, which is the only operand.
 fn run_function<H: Host>(
     valid: &Valid,
-    stacks: Stacks,
+    stacks: &mut Stacks,
     store: &mut Store,
     host: &mut H,
     meter: &mut Meter,
     function: u32,
 ) -> Result<Halted, NoMemory>
-    requires first { IsFirst valid.now store.old.lists function stacks.operands.items }
-    requires alone { stacks.callers.items ≡ [] }
-    ensures ends { IfOk result (λ halted. EndsIn H.answers valid.now meter.old.limit host.old store.old.lists meter.old.used function stacks.operands.items (outcome halted.ended host.new store.new.lists meter.new.used)) }
-    ensures under_way { IfOk result (λ halted. HaltedIn valid.now function halted) }
+    requires first { IsFirst valid.now store.old.lists function stacks.old.operands.items }
+    requires alone { stacks.old.callers.items ≡ [] }
+    ensures ends { IfOk result (λ halted. EndsIn H.answers valid.now meter.old.limit host.old store.old.lists meter.old.used function stacks.old.operands.items (outcome halted.ended host.new store.new.lists meter.new.used)) }
+    ensures under_way { IfOk result (λ halted. HaltedIn valid.now function stacks.new halted) }
     ensures begun { store.new.begun ≡ store.old.begun }
     ensures limit { meter.new.limit ≡ meter.old.limit }
     ensures rises { meter.old.used ≤ meter.new.used }
 {
-    let mut stacks = stacks;
     match callee(valid, function) {
         Callee::Own(number) => {
             let top = stacks.operands.len();
             let first = push_frame(&mut stacks.operands, frame_of(valid, number), number, top)?;
-            let RunEnd { ended, at } = run(valid, &mut stacks, store, host, meter, first)?;
+            let RunEnd { ended, at } = run(valid, stacks, store, host, meter, first)?;
             Ok(Halted {
                 ended,
-                stacks,
                 innermost: Innermost::Own(at),
             })
         }
@@ -80,7 +78,6 @@ fn run_function<H: Host>(
             let ended = call_alone(stacks.operands.as_slice(), store, host, meter, number)?;
             Ok(Halted {
                 ended,
-                stacks,
                 innermost: Innermost::Host(number),
             })
         }
@@ -88,8 +85,8 @@ fn run_function<H: Host>(
 }
 
 fn run_target<H: Host>(
-    alloc: Global,
     valid: &Valid,
+    stacks: &mut Stacks,
     store: &mut Store,
     target: Target,
     host: &mut H,
@@ -98,45 +95,35 @@ fn run_target<H: Host>(
     requires fits { Fits valid.now.«module» store.old.lists }
     requires bytes { HoldsBytes store.old.lists }
     requires target { IsTarget valid.now.«module» target }
+    requires operands { stacks.old.operands.items ≡ [] }
+    requires alone { stacks.old.callers.items ≡ [] }
     ensures outcome { IfOk result (λ halted. Invokes H.answers valid.now.«module» meter.old.limit host.old store.old.lists meter.old.used target (outcome halted.ended host.new store.new.lists meter.new.used)) }
-    ensures under_way { IfOk result (λ halted. (f : ℕ) → entered_function store.old.lists.table target ≡ Some f → HaltedIn valid.now f halted) }
+    ensures under_way { IfOk result (λ halted. (f : ℕ) → entered_function store.old.lists.table target ≡ Some f → HaltedIn valid.now f stacks.new halted) }
     ensures begun { store.new.begun ≡ store.old.begun }
     ensures limit { meter.new.limit ≡ meter.old.limit }
     ensures rises { meter.old.used ≤ meter.new.used }
 {
     let _module = valid.module();
     match target {
-        Target::Function(function) => {
-            let operands = Vec::new(alloc);
-            let callers = Vec::new(alloc);
-            let stacks = Stacks { operands, callers };
-            run_function(valid, stacks, store, host, meter, function)
-        }
+        Target::Function(function) => run_function(valid, stacks, store, host, meter, function),
         Target::Element { index, env } => match look_up_callback(valid, store.table(), index) {
             Ok(function) => {
-                let mut operands = Vec::new(alloc);
-                operands.push(u64::from(env))?;
-                let callers = Vec::new(alloc);
-                let stacks = Stacks { operands, callers };
+                stacks.operands.push(u64::from(env))?;
                 run_function(valid, stacks, store, host, meter, function)
             }
-            Err(trap) => {
-                let operands = Vec::new(alloc);
-                let callers = Vec::new(alloc);
-                Ok(Halted {
-                    ended: Ended::Trapped(trap),
-                    stacks: Stacks { operands, callers },
-                    innermost: Innermost::Nowhere,
-                })
-            }
+            Err(trap) => Ok(Halted {
+                ended: Ended::Trapped(trap),
+                innermost: Innermost::Nowhere,
+            }),
         },
     }
 }
 
-/// Runs a function of the module, and gives all that was under way when the run ended.
+/// Runs a function of the module on stacks of its own, which then hold what was under way when the run ended. They are lent:
+/// moved out, they would be copied, also where nobody asks for them.
 fn run_to_end<H: Host>(
-    alloc: Global,
     valid: &Valid,
+    stacks: &mut Stacks,
     store: &mut Store,
     target: Target,
     host: &mut H,
@@ -146,6 +133,9 @@ fn run_to_end<H: Host>(
     requires fits { Fits valid.now.«module» store.old.lists }
     // A function that is invoked by its index has the type () -> ().
     requires target { IsTarget valid.now.«module» target }
+    // Nothing is under way.
+    requires operands { stacks.old.operands.items ≡ [] }
+    requires alone { stacks.old.callers.items ≡ [] }
     // What the reductions end in.
     ensures outcome { IfOk result (λ halted. Invokes H.answers valid.now.«module» meter.old.limit host.old store.old.lists meter.old.used target (outcome halted.ended host.new store.new.lists meter.new.used)) }
     // Nothing else is an outcome, where the host's relation is a function.
@@ -157,7 +147,7 @@ fn run_to_end<H: Host>(
     // No state on the way is stuck.
     ensures never { InvokesOn H.answers valid.now.«module» meter.old.limit host.old store.old.lists meter.old.used target }
     ensures fits { IfOk result (λ _. Fits valid.now.«module» store.new.lists) }
-    ensures under_way { IfOk result (λ halted. (f : ℕ) → entered_function store.old.lists.table target ≡ Some f → HaltedIn valid.now f halted) }
+    ensures under_way { IfOk result (λ halted. (f : ℕ) → entered_function store.old.lists.table target ≡ Some f → HaltedIn valid.now f stacks.new halted) }
     // These hold without memory too.
     ensures begun { store.new.begun ≡ store.old.begun }
     ensures limit { meter.new.limit ≡ meter.old.limit }
@@ -165,7 +155,7 @@ fn run_to_end<H: Host>(
 {
     let _module = valid.module();
     store.holds_bytes();
-    run_target(alloc, valid, store, target, host, meter)
+    run_target(valid, stacks, store, target, host, meter)
 }
 
 /// Runs a function of the module until it returns or the run traps. The stack of the machine is
@@ -199,7 +189,8 @@ pub fn invoke<H: Host>(
     ensures limit { meter.new.limit ≡ meter.old.limit }
     ensures rises { meter.old.used ≤ meter.new.used }
 {
-    let Halted { ended, .. } = run_to_end(alloc, valid, store, target, host, meter)?;
+    let mut stacks = Stacks::new(alloc);
+    let Halted { ended, .. } = run_to_end(valid, &mut stacks, store, target, host, meter)?;
     Ok(ended)
 }
 
@@ -242,8 +233,9 @@ pub fn invoke_traced<H: Host>(
     ensures limit { meter.new.limit ≡ meter.old.limit }
     ensures rises { meter.old.used ≤ meter.new.used }
 {
-    let halted = run_to_end(alloc, valid, store, target, host, meter)?;
-    let backtrace = backtrace_of(alloc, valid, store.table(), &halted)?;
+    let mut stacks = Stacks::new(alloc);
+    let halted = run_to_end(valid, &mut stacks, store, target, host, meter)?;
+    let backtrace = backtrace_of(alloc, valid, store.table(), &stacks, &halted)?;
     let Halted { ended, .. } = halted;
     Ok(Traced { ended, backtrace })
 }

@@ -53,6 +53,7 @@ fn end_range(here: Activation, done: Result<(), Failure>) -> Next
 
 /// Does what `memory.copy` or `memory.fill` does. It costs 1 and its size, whether or not it traps.
 /// Where there is no memory for it, the charge is made already.
+#[inline(always)]
 pub(crate) fn run_range(
     range: Range,
     stack: &[u64],

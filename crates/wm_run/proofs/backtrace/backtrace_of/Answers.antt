@@ -11,7 +11,7 @@ returns-in_ok-told_sites-in-Own c =
     λ entered h.
     let v = c.args.valid.now in
     let here = c.in-Own.here in
-    let items = c.args.halted.now.stacks.callers.items in
+    let items = c.args.stacks.now.callers.items in
     let at = subst (EndedAt v entered (reverse items) c.args.halted.now.ended) c.in-Own.is h in
     let u = trapped_there v at.0 here (reverse items) c.args.halted.now.ended c.in_default.not-Returned at.2 in
     is_told v c.module-module.ensures.valid entered at.0 at.1 here (reverse items) u _

@@ -11,32 +11,32 @@ use Rattle.wm_run.proofs.Firsts.{first, there, params_there, params_fit, runs, e
 use Rattle.wm_run.proofs.invocation.run_function.Goals as goal
 
 pub frame_of-requires : goal.frame_of-requires
-frame_of-requires g c = there c.args.valid.now c.args.store.now.lists c.args.function c.args.stacks.operands.items c.requires.first c.in-Own.number c.in-Own.ensures
+frame_of-requires g c = there c.args.valid.now c.args.store.now.lists c.args.function c.args.stacks.now.operands.items c.requires.first c.in-Own.number c.in-Own.ensures
 
 pub push_frame-requires-clause-arguments : goal.push_frame-requires-clause-arguments
 push_frame-requires-clause-arguments g c =
     omega (
       arith,
       c.len-top.ensures,
-      c.args.stacks.operands.ok.0,
-      params_there c.args.valid.now c.args.store.now.lists c.args.function c.args.stacks.operands.items c.requires.first c.in-Own.number c.in-Own.ensures c.frame_of.result c.frame_of.ensures,
+      c.args.stacks.now.operands.ok.0,
+      params_there c.args.valid.now c.args.store.now.lists c.args.function c.args.stacks.now.operands.items c.requires.first c.in-Own.number c.in-Own.ensures c.frame_of.result c.frame_of.ensures,
     )
 
 pub push_frame-requires-clause-locals : goal.push_frame-requires-clause-locals
 push_frame-requires-clause-locals g c =
-    params_fit c.args.valid.now c.args.store.now.lists c.args.function c.args.stacks.operands.items c.requires.first c.in-Own.number c.in-Own.ensures c.frame_of.result c.frame_of.ensures
+    params_fit c.args.valid.now c.args.store.now.lists c.args.function c.args.stacks.now.operands.items c.requires.first c.in-Own.number c.in-Own.ensures c.frame_of.result c.frame_of.ensures
 
 pub run-requires : goal.run-requires
 run-requires g c =
     let v = c.args.valid.now in
     let s = c.args.store.now.lists in
     let f = c.args.function in
-    let args = c.args.stacks.operands.items in
+    let args = c.args.stacks.now.operands.items in
     let n = c.in-Own.number in
     let b = c.in_ok-first-in-Own.first in
     let stack = c.push_frame.new.stack.items in
     let used = c.args.meter.now.used in
-    let top : c.len-top.result ≡ length args = omega (arith, c.len-top.ensures, c.args.stacks.operands.ok.0) in
+    let top : c.len-top.result ≡ length args = omega (arith, c.len-top.ensures, c.args.stacks.now.operands.ok.0) in
     record {
       running = (
         first v s f args c.requires.first n c.in-Own.ensures,
@@ -55,7 +55,7 @@ call_alone-requires g c =
     let f = c.args.function in
     let n = c.in-Host.number in
     record {
-      asks = (v, f, subst (λ (ns : List ℕ). AsksAlone v s f ns n) (sym c.as_slice.ensures.value) (asks v s f c.args.stacks.operands.items c.requires.first n c.in-Host.ensures));
+      asks = (v, f, subst (λ (ns : List ℕ). AsksAlone v s f ns n) (sym c.as_slice.ensures.value) (asks v s f c.args.stacks.now.operands.items c.requires.first n c.in-Host.ensures));
     }
 
 pub returns-in_ok-ended-in-Own-clause-ends : goal.returns-in_ok-ended-in-Own-clause-ends
@@ -63,14 +63,14 @@ returns-in_ok-ended-in-Own-clause-ends g c =
     let v = c.args.valid.now in
     let s = c.args.store.now.lists in
     let f = c.args.function in
-    let args = c.args.stacks.operands.items in
+    let args = c.args.stacks.now.operands.items in
     let n = c.in-Own.number in
     let b = c.in_ok-first-in-Own.first in
     let stack = c.push_frame.new.stack.items in
     let used = c.args.meter.now.used in
     let limit = c.args.meter.now.limit in
     let host = c.args.host.now in
-    let top : c.len-top.result ≡ length args = omega (arith, c.len-top.ensures, c.args.stacks.operands.ok.0) in
+    let top : c.len-top.result ≡ length args = omega (arith, c.len-top.ensures, c.args.stacks.now.operands.ok.0) in
     let laid : Laid c.frame_of.result n (length args) stack b = subst (λ (k : ℕ). Laid c.frame_of.result n k stack b) top c.in_ok-first-in-Own.ensures.laid in
     let same : SameBelow (length args) args stack = subst (λ (k : ℕ). SameBelow k args stack) top c.in_ok-first-in-Own.ensures.same in
     ends_in v s f args c.requires.first n c.in-Own.ensures c.frame_of.result c.frame_of.ensures stack b laid same used g.H.Host.answers limit host
@@ -84,7 +84,7 @@ returns-in_ok-ended-in-Host-clause-ends g c =
     let v = c.args.valid.now in
     let s = c.args.store.now.lists in
     let f = c.args.function in
-    let args = c.args.stacks.operands.items in
+    let args = c.args.stacks.now.operands.items in
     let n = c.in-Host.number in
     let used = c.args.meter.now.used in
     let limit = c.args.meter.now.limit in

@@ -24,7 +24,7 @@ returns-in-Function-clause-outcome g c =
     if_ok c.run_function.result _ _ (λ halted e.
     subst (λ (t : Target). Invokes g.H.Host.answers v.module limit host s used t (outcome halted.ended r.host r.store.lists r.meter.used)) (sym c.in-Function.is)
     (function_invokes v c.module-module.ensures.valid s c.requires.fits c.requires.bytes g.H.Host.answers limit host used (outcome halted.ended r.host r.store.lists r.meter.used) f
-    (subst (λ (ns : List ℕ). EndsIn g.H.Host.answers v limit host s used f ns (outcome halted.ended r.host r.store.lists r.meter.used)) c.new-operands.ensures.items e))) c.run_function.ensures.ends
+    (subst (λ (ns : List ℕ). EndsIn g.H.Host.answers v limit host s used f ns (outcome halted.ended r.host r.store.lists r.meter.used)) c.requires.operands e))) c.run_function.ensures.ends
 
 pub returns-in_ok-push-in-Ok-clause-outcome : goal.returns-in_ok-push-in-Ok-clause-outcome
 returns-in_ok-push-in-Ok-clause-outcome g c =
@@ -39,7 +39,7 @@ returns-in_ok-push-in-Ok-clause-outcome g c =
     let r = c.run_function-in-Ok.new in
     let found : FoundBy (look_up v.module s.table callback_type i) (Ok f) = subst (λ (ts : List (Option ℕ)). FoundBy (look_up v.module ts callback_type i) (Ok f)) c.table.ensures c.in-Ok.ensures in
     let args : c.push.new.self.items ≡ env ∷ [] =
-    c.in_ok-push-in-Ok.ensures.items ∙ ap (λ (xs : List ℕ). xs ++ (c.from.result ∷ [])) c.new-operands-in-Ok.ensures.items ∙ ap (λ (k : ℕ). k ∷ []) c.from.ensures in
+    c.in_ok-push-in-Ok.ensures.items ∙ ap (λ (xs : List ℕ). xs ++ (c.from.result ∷ [])) c.requires.operands ∙ ap (λ (k : ℕ). k ∷ []) c.from.ensures in
     if_ok c.run_function-in-Ok.result _ _ (λ halted e.
     subst (λ (t : Target). Invokes g.H.Host.answers v.module limit host s used t (outcome halted.ended r.host r.store.lists r.meter.used)) (sym c.in-Element.is)
     (element_invokes v c.module-module.ensures.valid s c.requires.fits c.requires.bytes g.H.Host.answers limit host used (outcome halted.ended r.host r.store.lists r.meter.used) i env f found
@@ -66,7 +66,7 @@ returns-in-Function-clause-under_way g c =
     if_ok c.run_function.result _ _ (λ halted h f e.
     let is : Some c.in-Function.function ≡ Some f = sym (ap (entered_function c.args.store.now.lists.table) c.in-Function.is) ∙ e in
     let same : c.in-Function.function ≡ f = cc in
-    subst (λ (k : ℕ). HaltedIn c.args.valid.now k halted) same h) c.run_function.ensures.under_way
+    subst (λ (k : ℕ). HaltedIn c.args.valid.now k c.run_function.new.stacks halted) same h) c.run_function.ensures.under_way
 
 pub returns-in_ok-push-in-Ok-clause-under_way : goal.returns-in_ok-push-in-Ok-clause-under_way
 returns-in_ok-push-in-Ok-clause-under_way g c =
@@ -77,4 +77,4 @@ returns-in_ok-push-in-Ok-clause-under_way g c =
     if_ok c.run_function-in-Ok.result _ _ (λ halted h f e.
     let is : Some c.in-Ok.function ≡ Some f = sym (element_there v.module callback_type s.table i c.in-Ok.function found) ∙ sym (ap (entered_function s.table) c.in-Element.is) ∙ e in
     let same : c.in-Ok.function ≡ f = cc in
-    subst (λ (k : ℕ). HaltedIn v k halted) same h) c.run_function-in-Ok.ensures.under_way
+    subst (λ (k : ℕ). HaltedIn v k c.run_function-in-Ok.new.stacks halted) same h) c.run_function-in-Ok.ensures.under_way
