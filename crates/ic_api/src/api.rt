@@ -63,7 +63,8 @@ impl Api {
     }
 
     /// What the execution did. A call that is begun and not performed is dropped, and its cycles
-    /// return to the balance.
+    /// return to the balance. It is part of its callers in the program: the host is large, and would be copied once more.
+    #[inline(always)]
     pub fn finish(self) -> Effects
         ensures effects { result ≡ effects_of self }
         ensures cycles { effects_cycles result ≡ execution_cycles self.es }
