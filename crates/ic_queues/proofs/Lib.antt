@@ -2,6 +2,7 @@ pub mod Entries
 pub mod Numbers
 pub mod Shelves
 pub mod Places
+pub mod Tags
 pub mod Queueing
 pub mod Starts
 pub mod Walks

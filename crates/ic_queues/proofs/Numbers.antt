@@ -33,6 +33,15 @@ all_numbers P is (e ∷ es) all =
       | inr there ↦ rw there (all_numbers P is es all.1)
     ]
 
+pub numbers-rise : (is : List ℕ → Bool) (es : List (ℕ × Message)) → IsStrictlySortedBy nat_cmp (keys_of es) → IsStrictlySortedBy nat_cmp (numbers_to is es)
+unfolding IsStrictlySortedBy
+numbers-rise is [] sorted = tt
+numbers-rise is (e ∷ es) sorted =
+    elim (cases_Bool (is (callee_of e.1))) [
+      | inl here ↦ rw here (all_numbers (λ y. nat_cmp e.0 y ≡ Less) is es sorted.0, numbers-rise is es sorted.1)
+      | inr there ↦ rw there (numbers-rise is es sorted.1)
+    ]
+
 -- the first number that waits, n, is of the first message whose callee passes: what is left without it
 pub record Pops (is : List ℕ → Bool) (n : ℕ) (ns : List ℕ) (es : List (ℕ × Message)) : Type 0 where
   pub found : lookup (is_number n) es ≡ find (λ m. is (callee_of m)) (values_of es)

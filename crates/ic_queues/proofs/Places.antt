@@ -1,23 +1,24 @@
 -- Places of the list, by number: which message is there, and what is left without it.
-use Rattle.std.proofs.Common.{◌≡◌, ◌<◌, ◌≤◌, ◌+◌, ℕ, zero, suc, Bool, true, false, cond, List, [], ◌∷◌, length, take, Option, Some, None, refl, sym, ap, ap₂, ◌∙◌, subst, inl, inr, arith, option_map}
-use Rattle.std.specs.Prelude.{slice_get, slice_index_or, not}
-use Rattle.std.proofs.Common.{ltb}
-use Rattle.std.specs.List.{list_any, remove, position_or_len, AllByRecursion}
-use Rattle.std.specs.List.Sorted.{IsStrictlySortedBy}
+use Rattle.std.proofs.Common.{◌≡◌, ◌<◌, ◌≤◌, ◌+◌, ◌-◌, ℕ, zero, suc, Bool, true, false, List, [], ◌∷◌, length, take, Option, Some, None, Ok, Err, get_or, refl, sym, ap, ap₂, ◌∙◌, subst, inl, inr, arith, option_map}
+use Rattle.std.specs.Prelude.{slice_get, slice_index_or, not, drop}
+use Rattle.std.specs.List.{list_any, remove, AllByRecursion}
+use Rattle.std.specs.List.Sorted.{IsBinarySearchResult, IsStrictlySortedBy}
 use Rattle.std.specs.Ordering.{nat_cmp, is_eq}
 use Rattle.std.specs.declared.cmp.Ordering.{Ordering}
 use Rattle.std.specs.declared.cmp.Ordering.TheVariants.{Less, Equal, Greater}
 use Rattle.std.specs.Map.{lookup, remove_entry, keys_of, values_of}
 use Rattle.std.specs.Set.{remove_key}
-use Rattle.std.proofs.lemmas.Bool.{cases_Bool, false≢true, ltb-false}
+use Rattle.std.proofs.lemmas.Bool.{cases_Bool, cases_lt, false≢true}
+use Rattle.std.specs.Cmp.{nat_cmp_is}
 use Rattle.std.proofs.lemmas.Cmp.{ranked}
+use Rattle.std.proofs.lemmas.List.Sorted.{searched}
 use Rattle.std.proofs.lemmas.Map.Keys.{sorted_head, sorted_tail}
 use Rattle.ic_behaviour.specs.declared.call.Message.{Message}
 use Rattle.ic_behaviour.specs.State.{callee_of}
 use Rattle.ic_behaviour.specs.Steps.{same_way}
 use Rattle.ic_queues.specs.Queued.{first_of_way}
 use Rattle.ic_queues.specs.Lines.{is_number, numbers_to, without_number}
-use Rattle.ic_queues.specs.Shelved.{entries_from, index_at, has_way, message_at, messages_of}
+use Rattle.ic_queues.specs.Shelved.{entries_from, starts_full, index_at, has_way, message_at, messages_of}
 use Rattle.ic_queues.proofs.Numbers.{number-self, number-back, all_numbers}
 use Rattle.ic_queues.proofs.Shelves.{values-are}
 
@@ -74,6 +75,29 @@ no-index place [] is = refl
 no-index place (None ∷ ps) is = no-index place ps (no_more (index_at place ps) is)
 no-index zero (Some m ∷ ps) is = cc
 no-index (suc place) (Some m ∷ ps) is = no-index place ps (no_more (index_at place ps) is)
+
+-- none of the places at the front is empty
+pub filled-index : (n place : ℕ) (ps : List (Option Message)) → starts_full n ps ≡ true → place < n → Some place ≡ index_at place ps
+filled-index zero place ps full less = absurd (omega (arith, less))
+filled-index (suc n) place [] full less = absurd (false≢true full)
+filled-index (suc n) place (None ∷ ps) full less = absurd (false≢true full)
+filled-index (suc n) zero (Some m ∷ ps) full less = refl
+filled-index (suc n) (suc place) (Some m ∷ ps) full less = ap (option_map suc) (filled-index n place ps full (omega (arith, less)))
+
+past-filled : (n left : ℕ) (ps : List (Option Message)) → starts_full n ps ≡ true → index_at (n + left) ps ≡ option_map (λ i. n + i) (index_at left (drop n ps))
+past-filled zero left ps full = ap (λ (k : ℕ). index_at k ps) (let same : 0 + left ≡ left = omega arith in same) ∙ by (index_at left ps) where
+  by : (o : Option ℕ) → o ≡ option_map (λ i. 0 + i) o
+  by None = refl
+  by (Some i) = ap Some (omega arith)
+past-filled (suc n) left [] full = absurd (false≢true full)
+past-filled (suc n) left (None ∷ ps) full = absurd (false≢true full)
+past-filled (suc n) left (Some m ∷ ps) full =
+    ap (λ (k : ℕ). index_at k (Some m ∷ ps)) (let next : suc n + left ≡ suc (n + left) = omega arith in next) ∙ ap (option_map suc) (past-filled n left ps full) ∙ composed suc (λ i. n + i) (index_at left (drop n ps))
+    ∙ same_map (λ i. suc (n + i)) (λ i. suc n + i) (index_at left (drop n ps)) (λ i. omega arith)
+
+pub after-filled : (n place : ℕ) (ps : List (Option Message)) → starts_full n ps ≡ true → n ≤ place → index_at place ps ≡ option_map (λ i. n + i) (index_at (place - n) (drop n ps))
+after-filled n place ps full upto =
+    subst (λ (k : ℕ). index_at k ps ≡ option_map (λ i. n + i) (index_at (place - n) (drop n ps))) (let whole : n + (place - n) ≡ place = omega (arith, upto) in whole) (past-filled n (place - n) ps full)
 
 -- ---- one turn of the search for it
 
@@ -171,36 +195,42 @@ not-placed place es none = let no_value = no_values place es none in (no_value, 
   no_values zero (f ∷ fs) is = cc
   no_values (suc k) (f ∷ fs) is = no_values k fs is
 
--- a number leaves a queue at its first place
-removed-key : {X : Type 0} (test : X → Bool) (xs : List X) → remove xs (position_or_len test xs) ≡ remove_key test xs
-removed-key test [] = refl
-removed-key test (x ∷ xs) = by (removed-key test xs) (test x) where
-  by : remove xs (position_or_len test xs) ≡ remove_key test xs → (b : Bool) → remove (x ∷ xs) (cond (not b) (1 + position_or_len test xs) 0) ≡ cond b xs (x ∷ remove_key test xs)
-  by rest true = refl
-  by rest false = subst (λ (k : ℕ). remove (x ∷ xs) k ≡ x ∷ remove_key test xs) (let next : suc (position_or_len test xs) ≡ 1 + position_or_len test xs = omega arith in next) (ap (λ l. x ∷ l) rest)
+-- a number leaves a queue, whose numbers rise
+above_head : (n : ℕ) (ns : List ℕ) (i : ℕ) → AllByRecursion (λ k. nat_cmp n k ≡ Less) ns → i < length ns → n < get_or ns i 0
+above_head n [] i all inside = absurd (omega (arith, inside))
+above_head n (k ∷ ns) zero all inside = ranked n k Less (sym all.0)
+above_head n (k ∷ ns) (suc i) all inside = above_head n ns i all.1 (omega (arith, inside))
 
-at_end : {X : Type 0} (test : X → Bool) (xs : List X) → length xs ≤ position_or_len test xs → remove_key test xs ≡ xs
-at_end test xs past = sym (removed-key test xs) ∙ past_end xs (position_or_len test xs) past where
-  past_end : {X : Type 0} (ys : List X) (k : ℕ) → length ys ≤ k → remove ys k ≡ ys
-  past_end [] zero past = refl
-  past_end [] (suc k) past = refl
-  past_end (y ∷ ys) zero past = absurd (omega (arith, past))
-  past_end (y ∷ ys) (suc k) past = ap (λ l. y ∷ l) (past_end ys k (omega (arith, past)))
+rises : (ns : List ℕ) (i j : ℕ) → IsStrictlySortedBy nat_cmp ns → i ≤ j → j < length ns → get_or ns i 0 ≤ get_or ns j 0
+rises [] i j sorted upto inside = absurd (omega (arith, inside))
+rises (n ∷ ns) zero zero sorted upto inside = omega arith
+rises (n ∷ ns) (suc i) zero sorted upto inside = absurd (omega (arith, upto))
+rises (n ∷ ns) zero (suc j) sorted upto inside = omega (arith, above_head n ns j (sorted_head nat_cmp n ns sorted) (omega (arith, inside)))
+rises (n ∷ ns) (suc i) (suc j) sorted upto inside = rises ns i j (sorted_tail nat_cmp n ns sorted) (omega (arith, upto)) (omega (arith, inside))
 
-abbrev first-place : {X : Type 0} (test : X → Bool) (xs : List X) → Option ℕ
-first-place test xs = cond (ltb (position_or_len test xs) (length xs)) (Some (position_or_len test xs)) None
+left_at : (n i : ℕ) (ns : List ℕ) → IsStrictlySortedBy nat_cmp ns → i < length ns → get_or ns i 0 ≡ n → remove ns i ≡ without_number n ns
+left_at n i [] sorted inside is = absurd (omega (arith, inside))
+left_at n zero (k ∷ ns) sorted inside is = let here : is_number n k ≡ true = subst (λ (m : ℕ). is_number m k ≡ true) is (number-self k) in rw here refl
+left_at n (suc i) (k ∷ ns) sorted inside is =
+    let less = above_head k ns i (sorted_head nat_cmp k ns sorted) (omega (arith, inside)) in
+    let there : is_number n k ≡ false = ap is_eq (sym (nat_cmp_is n k Greater (omega (arith, less, is)))) in
+    rw there (ap (λ l. k ∷ l) (left_at n i ns (sorted_tail nat_cmp k ns sorted) (omega (arith, inside)) is))
 
-pub left-line : {X : Type 0} (test : X → Bool) (xs ys : List X) (place : ℕ) → Some place ≡ first-place test xs → ys ≡ remove xs place → ys ≡ remove_key test xs
-left-line test xs ys place found is = by (ltb (position_or_len test xs) (length xs)) found where
-  by : (b : Bool) → Some place ≡ cond b (Some (position_or_len test xs)) None → ys ≡ remove_key test xs
-  by true same = is ∙ ap (remove xs) (let here : place ≡ position_or_len test xs = cc in here) ∙ removed-key test xs
-  by false same = cc
+none_left : (n : ℕ) (ns : List ℕ) → ((k : ℕ) → k < length ns → get_or ns k 0 ≡ n → ⊥) → ns ≡ without_number n ns
+none_left n [] none = refl
+none_left n (k ∷ ns) none = elim (cases_Bool (is_number n k)) [
+  | inl here ↦ absurd (none 0 (omega arith) (sym (number-is n k here)))
+  | inr there ↦ rw there (ap (λ l. k ∷ l) (none_left n ns (λ i inside. none (suc i) (omega (arith, inside)))))
+]
 
-pub same-line : {X : Type 0} (test : X → Bool) (xs : List X) → None ≡ first-place test xs → xs ≡ remove_key test xs
-same-line test xs none = by (ltb (position_or_len test xs) (length xs)) refl none where
-  by : (b : Bool) → ltb (position_or_len test xs) (length xs) ≡ b → None ≡ cond b (Some (position_or_len test xs)) None → xs ≡ remove_key test xs
-  by true past same = cc
-  by false past same = sym (at_end test xs (ltb-false (position_or_len test xs) (length xs) past))
+-- as a search for it ends
+pub removed-number : (n i : ℕ) (ns : List ℕ) → IsStrictlySortedBy nat_cmp ns → IsBinarySearchResult (λ y. nat_cmp y n) ns (Ok i) → remove ns i ≡ without_number n ns
+removed-number n i ns sorted is = let found = searched ns n (Ok i) is (λ k l. rises ns k l sorted) in left_at n i ns sorted found.0 found.1
+
+pub no-number : (n i : ℕ) (ns : List ℕ) → IsStrictlySortedBy nat_cmp ns → IsBinarySearchResult (λ y. nat_cmp y n) ns (Err i) → ns ≡ without_number n ns
+no-number n i ns sorted is =
+    let gap = searched ns n (Err i) is (λ k l. rises ns k l sorted) in
+    none_left n ns (λ k inside same. elim (cases_lt k i) [ inl less ↦ omega (arith, gap.1 k less, same) | inr upto ↦ omega (arith, gap.2 k upto inside, same) ])
 
 -- ---- a message of the same way
 

@@ -17,7 +17,7 @@ use Rattle.ic_queues.specs.Queued.{Queued, first_to, without_first, without_firs
 use Rattle.ic_queues.specs.Lines.{is_number, numbers_to, is_out, IsQueued, remove_number, numbered, line_at, popped_line, waiting_with, outside_with, without_number, waiting_without, outside_without}
 use Rattle.ic_queues.proofs.Entries.{insert_last, sorted_last, all_keys_removed, sorted_removed}
 use Rattle.ic_queues.proofs.Places.{line-without, line-same}
-use Rattle.ic_queues.proofs.Numbers.{pops, none_waits, numbers-last, values-last, keys_below, all_above, all_less}
+use Rattle.ic_queues.proofs.Numbers.{pops, none_waits, numbers-rise, numbers-last, values-last, keys_below, all_above, all_less}
 
 -- who is one is not another
 apart : (key other x : List ℕ) → at key other ≡ false → at key x ≡ true → at other x ≡ false
@@ -29,6 +29,9 @@ module _ (es : List (ℕ × Message)) (ws : List (List ℕ × List ℕ)) (outsid
       let member : list_any (at key) (keys_of ws) ≡ true = sym (is_some-lookup (at key) ws) ∙ ap is_some there in
       let own : Some line ≡ Some (numbers_to (at key) es) = sym there ∙ is.theirs key ∙ cond-true _ _ _ member in
       (member, cc)
+
+  pub line-rises : (key line : List ℕ) → lookup (at key) ws ≡ Some line → IsStrictlySortedBy nat_cmp line
+  line-rises key line there = subst (λ (l : List ℕ). IsStrictlySortedBy nat_cmp l) (sym (has key line there).1) (numbers-rise (at key) es is.ordered)
 
   keys_stay : (key line : List ℕ) → keys_of (set_value (at key) ws line) ≡ keys_of ws
   keys_stay key line = keys-set_value (at key) ws line

@@ -1,5 +1,5 @@
 -- Places with and without messages, and the messages under their numbers.
-use Rattle.std.proofs.Common.{◌≡◌, ℕ, zero, suc, ◌<◌, ◌≤◌, ◌+◌, true, false, List, [], ◌∷◌, ◌++◌, length, Some, None, refl, sym, ap, ◌∙◌, subst, arith, slice_set}
+use Rattle.std.proofs.Common.{◌≡◌, ℕ, zero, suc, ◌<◌, ◌≤◌, ◌+◌, ◌-◌, ◌==◌, true, false, cond, List, [], ◌∷◌, ◌++◌, length, Some, None, refl, sym, ap, ◌∙◌, subst, arith, slice_set}
 use Rattle.std.specs.Prelude.{Option, Bool, not, slice_index_or}
 use Rattle.std.specs.Option.{is_some, option_to_list}
 use Rattle.std.specs.declared.cmp.Ordering.TheVariants.{Less, Greater}
@@ -7,10 +7,10 @@ use Rattle.std.specs.Ordering.{is_eq}
 use Rattle.std.specs.Cmp.{nat_cmp_is}
 use Rattle.std.specs.List.{AllByRecursion}
 use Rattle.std.specs.Map.{lookup, remove_entry, keys_of, values_of}
-use Rattle.std.proofs.lemmas.Bool.{false≢true}
+use Rattle.std.proofs.lemmas.Bool.{false≢true, eqb-true}
 use Rattle.ic_behaviour.specs.declared.call.Message.{Message}
 use Rattle.ic_queues.specs.Lines.{is_number}
-use Rattle.ic_queues.specs.Shelved.{Shelved, entries_from, starts_empty, IsShelf, messages_of, message_at, emptied}
+use Rattle.ic_queues.specs.Shelved.{Shelved, entries_from, starts_empty, starts_full, trim, IsShelf, messages_of, message_at, emptied}
 use Rattle.ic_queues.proofs.Numbers.{number-self}
 
 above : (n k : ℕ) → k < n → is_number n k ≡ false
@@ -115,6 +115,61 @@ length-last : (ps : List (Option Message)) (p : Option Message) → length (ps +
 length-last [] p = refl
 length-last (q ∷ ps) p = omega (arith, length-last ps p)
 
+-- ---- places that are not empty, at the front
+
+pub filled-length : (n : ℕ) (ps : List (Option Message)) → starts_full n ps ≡ true → n ≤ length ps
+filled-length zero ps full = omega arith
+filled-length (suc n) [] full = absurd (false≢true full)
+filled-length (suc n) (None ∷ ps) full = absurd (false≢true full)
+filled-length (suc n) (Some m ∷ ps) full = omega (arith, filled-length n ps full)
+
+fewer-filled : (k n : ℕ) (ps : List (Option Message)) → k ≤ n → starts_full n ps ≡ true → starts_full k ps ≡ true
+fewer-filled zero n ps less full = refl
+fewer-filled (suc k) zero ps less full = absurd (omega (arith, less))
+fewer-filled (suc k) (suc n) [] less full = full
+fewer-filled (suc k) (suc n) (None ∷ ps) less full = full
+fewer-filled (suc k) (suc n) (Some m ∷ ps) less full = fewer-filled k n ps (omega (arith, less)) full
+
+filled-last : (n : ℕ) (ps : List (Option Message)) (x : Message) → starts_full n ps ≡ true → (n ≡ length ps → starts_full (suc n) (ps ++ Some x ∷ []) ≡ true) × (starts_full n (ps ++ Some x ∷ []) ≡ true)
+filled-last zero [] x full = ((λ same. refl), refl)
+filled-last zero (p ∷ ps) x full = ((λ same. absurd (omega (arith, same))), refl)
+filled-last (suc n) [] x full = absurd (false≢true full)
+filled-last (suc n) (None ∷ ps) x full = absurd (false≢true full)
+filled-last (suc n) (Some m ∷ ps) x full = let rest = filled-last n ps x full in ((λ same. rest.0 (omega (arith, same))), rest.1)
+
+-- a place after them is emptied
+filled-emptied : (n k : ℕ) (ps : List (Option Message)) → n ≤ k → starts_full n ps ≡ true → starts_full n (emptied k ps) ≡ true
+filled-emptied zero k ps upto full = refl
+filled-emptied (suc n) zero ps upto full = absurd (omega (arith, upto))
+filled-emptied (suc n) (suc k) [] upto full = full
+filled-emptied (suc n) (suc k) (None ∷ ps) upto full = full
+filled-emptied (suc n) (suc k) (Some m ∷ ps) upto full = filled-emptied n k ps (omega (arith, upto)) full
+
+filled-trim : (n : ℕ) (ps : List (Option Message)) → starts_full n ps ≡ true → starts_full n (trim ps) ≡ true
+filled-trim zero ps full = refl
+filled-trim (suc n) [] full = full
+filled-trim (suc n) (None ∷ ps) full = absurd (false≢true full)
+filled-trim (suc n) (Some m ∷ ps) full = full
+
+filled-more : (n : ℕ) (ps : List (Option Message)) (x : Message) → starts_full n ps ≡ true → starts_full (cond (n == length ps) (n + 1) n) (ps ++ Some x ∷ []) ≡ true
+filled-more n ps x full = by (n == length ps) refl where
+  by : (b : Bool) → (n == length ps) ≡ b → starts_full (cond b (n + 1) n) (ps ++ Some x ∷ []) ≡ true
+  by true same = subst (λ (k : ℕ). starts_full k (ps ++ Some x ∷ []) ≡ true) (let next : suc n ≡ n + 1 = omega arith in next) ((filled-last n ps x full).0 (eqb-true n (length ps) same))
+  by false differs = (filled-last n ps x full).1
+
+-- the first place is emptied, and leaves with the empty ones after it
+filled-first : (n : ℕ) (ps : List (Option Message)) → starts_full n ps ≡ true → starts_full (n - 1) (trim (emptied 0 ps)) ≡ true
+filled-first zero ps full = refl
+filled-first (suc n) [] full = absurd (false≢true full)
+filled-first (suc n) (None ∷ ps) full = absurd (false≢true full)
+filled-first (suc n) (Some m ∷ ps) full = subst (λ (k : ℕ). starts_full k (trim ps) ≡ true) (let one_less : n ≡ suc n - 1 = omega arith in one_less) (filled-trim n ps full)
+
+filled-without : (n left k : ℕ) (ps : List (Option Message)) → starts_full n ps ≡ true → (k ≡ 0 → left ≡ n - 1) → (0 < k → (left ≤ n) × (left ≤ k)) → starts_full left (trim (emptied k ps)) ≡ true
+filled-without n left zero ps full first later = subst (λ (l : ℕ). starts_full l (trim (emptied 0 ps)) ≡ true) (sym (first refl)) (filled-first n ps full)
+filled-without n left (suc k) ps full first later =
+    let upto = later (omega arith) in
+    filled-trim left (emptied (suc k) ps) (filled-emptied left (suc k) ps upto.1 (fewer-filled left n ps upto.0 full))
+
 -- ---- how many messages there are
 
 pub counted-without : (k n : ℕ) (ps : List (Option Message)) → length (entries_from n (emptied k ps)) + length (option_to_list (message_at k ps)) ≡ length (entries_from n ps)
@@ -141,12 +196,13 @@ from_first first n (Some m ∷ ps) upto = (upto, from_first first (suc n) ps (om
 
 -- ---- shelves
 
-pub record Pushed (first next count after more : ℕ) (ps qs : List (Option Message)) (x : Message) : Type 0 where
-  pub shelf : IsShelf first qs after more
+pub record Pushed (first next count after more filled : ℕ) (ps qs : List (Option Message)) (x : Message) : Type 0 where
+  pub shelf : IsShelf first qs after more filled
   pub view : ◌≡◌ {A = Shelved} (record { entries = entries_from first qs; next = after }) (record { entries = entries_from first ps ++ (next, x) ∷ []; next = next + 1 })
 
-pub pushed : (first next count after more : ℕ) (ps qs : List (Option Message)) (x : Message) → IsShelf first ps next count → qs ≡ ps ++ Some x ∷ [] → after ≡ next + 1 → more ≡ count + 1 → Pushed first next count after more ps qs x
-pushed first next count after more ps qs x is e1 e2 e3 =
+pub pushed : (first next count full after more filled : ℕ) (ps qs : List (Option Message)) (x : Message) → IsShelf first ps next count full → qs ≡ ps ++ Some x ∷ [] → after ≡ next + 1 → more ≡ count + 1
+    → filled ≡ cond (full == length ps) (full + 1) full → Pushed first next count after more filled ps qs x
+pushed first next count full after more filled ps qs x is e1 e2 e3 e4 =
     let entries : entries_from first qs ≡ entries_from first ps ++ (next, x) ∷ [] =
     ap (entries_from first) e1 ∙ message-last first ps x ∙ ap (λ (k : ℕ). entries_from first ps ++ (k, x) ∷ []) is.numbers in
     record {
@@ -154,27 +210,29 @@ pushed first next count after more ps qs x is e1 e2 e3 =
         numbers = omega (arith, is.numbers, ap length e1, length-last ps (Some x), e2);
         trimmed = ap starts_empty e1 ∙ still-trimmed ps x is.trimmed;
         counted = omega (arith, ap length entries, counted-last (entries_from first ps) (next, x), is.counted, e3);
+        filled = ap (starts_full filled) e1 ∙ ap (λ (n : ℕ). starts_full n (ps ++ Some x ∷ [])) e4 ∙ filled-more full ps x is.filled;
       };
       view = λ i. record { entries = entries i; next = e2 i };
     }
 
-pub record Taken (first next n : ℕ) (ps : List (Option Message)) (m : Option Message) (first' : ℕ) (ps' : List (Option Message)) (count' : ℕ) : Type 0 where
-  pub shelf : IsShelf first' ps' next count'
+pub record Taken (first next n : ℕ) (ps : List (Option Message)) (m : Option Message) (first' : ℕ) (ps' : List (Option Message)) (count' full' : ℕ) : Type 0 where
+  pub shelf : IsShelf first' ps' next count' full'
   pub message : m ≡ lookup (is_number n) (entries_from first ps)
   pub entries : entries_from first' ps' ≡ remove_entry (is_number n) (entries_from first ps)
 
-pub taken : (first next n k count : ℕ) (ps qs : List (Option Message)) (m : Option Message) (first' : ℕ) (ps' : List (Option Message)) (count' : ℕ)
-    → IsShelf first ps next count → first + k ≡ n → qs ≡ emptied k ps → m ≡ message_at k ps
-    → entries_from first' ps' ≡ entries_from first qs → first' + length ps' ≡ first + length qs → starts_empty ps' ≡ false
-    → count' + length (option_to_list m) ≡ count
-    → Taken first next n ps m first' ps' count'
-taken first next n k count ps qs m first' ps' count' is place e1 e2 e3 e4 trimmed e5 =
+pub taken : (first next n k count full : ℕ) (ps qs : List (Option Message)) (m : Option Message) (first' : ℕ) (ps' : List (Option Message)) (count' full' : ℕ)
+    → IsShelf first ps next count full → first + k ≡ n → qs ≡ emptied k ps → m ≡ message_at k ps
+    → entries_from first' ps' ≡ entries_from first qs → first' + length ps' ≡ first + length qs → starts_empty ps' ≡ false → ps' ≡ trim qs
+    → count' + length (option_to_list m) ≡ count → (k ≡ 0 → full' ≡ full - 1) → (0 < k → (full' ≤ full) × (full' ≤ k))
+    → Taken first next n ps m first' ps' count' full'
+taken first next n k count full ps qs m first' ps' count' full' is place e1 e2 e3 e4 trimmed e5 e6 at_first later =
     let entries = e3 ∙ ap (entries_from first) e1 in
     record {
       shelf = record {
         numbers = omega (arith, is.numbers, e4, ap length e1, emptied-length k ps);
         trimmed = trimmed;
-        counted = omega (arith, ap length entries, counted-without k first ps, ap (λ o. length (option_to_list o)) e2, is.counted, e5);
+        counted = omega (arith, ap length entries, counted-without k first ps, ap (λ o. length (option_to_list o)) e2, is.counted, e6);
+        filled = ap (starts_full full') (e5 ∙ ap trim e1) ∙ filled-without full full' k ps is.filled at_first later;
       };
       message = e2 ∙ sym (found-at k first ps) ∙ ap (λ (j : ℕ). lookup (is_number j) (entries_from first ps)) place;
       entries = entries ∙ sym (left-at k first ps) ∙ ap (λ (j : ℕ). remove_entry (is_number j) (entries_from first ps)) place;

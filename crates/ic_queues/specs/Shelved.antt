@@ -19,11 +19,20 @@ starts_empty [] = false
 starts_empty (None ∷ places) = true
 starts_empty (Some m ∷ places) = false
 
--- each number below the next has a place, no empty place is before all messages, and there are `count` messages
-pub record IsShelf (first : ℕ) (places : List (Option Message)) (next count : ℕ) : Type 0 where
+-- none of this many places at the front is empty
+abbrev pub starts_full : ℕ → List (Option Message) → Bool
+starts_full zero places = true
+starts_full (suc n) [] = false
+starts_full (suc n) (None ∷ places) = false
+starts_full (suc n) (Some m ∷ places) = starts_full n places
+
+-- each number below the next has a place, no empty place is before all messages, there are `count` messages, and `full` places
+-- at the front have one
+pub record IsShelf (first : ℕ) (places : List (Option Message)) (next count full : ℕ) : Type 0 where
   pub numbers : first + length places ≡ next
   pub trimmed : starts_empty places ≡ false
   pub counted : length (entries_from first places) ≡ count
+  pub filled : starts_full full places ≡ true
 
 abbrev pub messages_of : List (Option Message) → List Message
 messages_of [] = []
@@ -41,6 +50,12 @@ abbrev pub emptied : ℕ → List (Option Message) → List (Option Message)
 emptied k [] = []
 emptied zero (place ∷ places) = None ∷ places
 emptied (suc k) (place ∷ places) = place ∷ emptied k places
+
+-- without the empty places at the front
+abbrev pub trim : List (Option Message) → List (Option Message)
+trim [] = []
+trim (None ∷ places) = trim places
+trim (Some m ∷ places) = Some m ∷ places
 
 -- the index of the message at a place of the list
 abbrev pub index_at : (place : ℕ) → List (Option Message) → Option ℕ

@@ -1,8 +1,9 @@
 ghost use Rattle.std.specs.Prelude.{◌≡◌, IfOk, IfErr, IfSome};
+ghost use Rattle.std.specs.List.{fold};
 ghost use Rattle.ic_behaviour.specs.declared.call.Origin.TheVariants.{Ingress};
 ghost use Rattle.ic_behaviour.specs.State.{callee_of};
 ghost use Rattle.ic_behaviour.specs.Steps.{sender_of, same_way};
-ghost use Rattle.ic_queues.specs.Holding.{user_message};
+ghost use Rattle.ic_queues.specs.Holding.{user_message, add_byte, way_tag};
 
 use ic_base::NoMemory;
 use ic_calls::{callee, sender};
@@ -22,11 +23,11 @@ pub struct UserCall {
     pub arg: Bytes,
 }
 
-/// How a message waits.
+/// How a message waits, beside the tag of its way.
 #[derive(Drop)]
 pub enum Kind {
-    User(Box<UserCall>),
-    Other(Box<Message>),
+    User(u8, Box<UserCall>),
+    Other(u8, Box<Message>),
 }
 
 /// A message that waits. A call of a user takes half the memory of another message. Contracts see the message.
@@ -41,12 +42,17 @@ impl Drop for Held {
 }
 
 impl Model for Held {
+    ghost use Rattle.std.specs.Prelude.{◌≡◌};
     ghost use Rattle.ic_behaviour.specs.declared.call.Message.{Message};
-    ghost use Rattle.ic_queues.specs.Holding.{message_of};
+    ghost use Rattle.ic_behaviour.specs.State.{callee_of};
+    ghost use Rattle.ic_behaviour.specs.Steps.{sender_of};
+    ghost use Rattle.ic_queues.specs.Holding.{message_of, tag_of, way_tag};
 
     ghost Value = { Message };
 
     ghost view = { λ h. message_of h.kind };
+
+    ghost invariant = { λ h. tag_of h.kind ≡ way_tag (sender_of (message_of h.kind)) (callee_of (message_of h.kind)) };
 }
 
 // The number of the request, where a call comes from a user and carries no cycles.
@@ -103,17 +109,33 @@ fn user_call(message: Message) -> Result<UserCall, Message>
     }
 }
 
+// The low byte of the sum of a number and these bytes.
+fn summed(sum: u8, bytes: &[u8]) -> u8
+    ensures { result ≡ fold add_byte sum bytes.now }
+{
+    bytes.iter().fold(sum, |sum, byte| sum.wrapping_add(*byte))
+}
+
+// A byte that messages of one way share. It tells most others apart without a look at them.
+fn tag(sender: &Principal, callee: &Principal) -> u8
+    ensures { result ≡ way_tag sender.now callee.now }
+{
+    summed(summed(0, sender.bytes()), callee.bytes())
+}
+
 fn held_other(alloc: Global, message: Message) -> Result<Held, NoMemory>
     ensures { IfOk result (λ h. h ≡ message) }
 {
-    let kind = Kind::Other(Box::new(alloc, message)?);
+    let tag = tag(&sender(&message), &callee(&message));
+    let kind = Kind::Other(tag, Box::new(alloc, message)?);
     Ok(Held { kind })
 }
 
 fn held_call(alloc: Global, call: UserCall) -> Result<Held, NoMemory>
     ensures { IfOk result (λ h. h ≡ user_message call) }
 {
-    let kind = Kind::User(Box::new(alloc, call)?);
+    let tag = tag(&call.sender, &call.callee);
+    let kind = Kind::User(tag, Box::new(alloc, call)?);
     Ok(Held { kind })
 }
 
@@ -134,8 +156,8 @@ impl Held {
     {
         let Held { kind } = self;
         match kind {
-            Kind::User(call) => Box::into_inner(call).into_message(),
-            Kind::Other(message) => Box::into_inner(message),
+            Kind::User(_, call) => Box::into_inner(call).into_message(),
+            Kind::Other(_, message) => Box::into_inner(message),
         }
     }
 
@@ -151,8 +173,8 @@ impl Held {
         ensures { result ≡ sender_of self.now }
     {
         match &self.kind {
-            Kind::User(call) => call.sender,
-            Kind::Other(message) => sender(message),
+            Kind::User(_, call) => call.sender,
+            Kind::Other(_, message) => sender(message),
         }
     }
 
@@ -161,8 +183,18 @@ impl Held {
         ensures { result ≡ callee_of self.now }
     {
         match &self.kind {
-            Kind::User(call) => call.callee,
-            Kind::Other(message) => callee(message),
+            Kind::User(_, call) => call.callee,
+            Kind::Other(_, message) => callee(message),
+        }
+    }
+
+    // The tag of its way.
+    fn tag(&self) -> u8
+        ensures { result ≡ way_tag (sender_of self.now) (callee_of self.now) }
+    {
+        match &self.kind {
+            Kind::User(tag, _) => *tag,
+            Kind::Other(tag, _) => *tag,
         }
     }
 
@@ -170,6 +202,9 @@ impl Held {
     pub fn same_way(&self, other: &Held) -> bool
         ensures { result ≡ same_way self.now other.now }
     {
+        if self.tag() != other.tag() {
+            return false;
+        }
         self.sender().cmp(&other.sender()).is_eq() && self.callee().cmp(&other.callee()).is_eq()
     }
 }

@@ -1,4 +1,6 @@
 ghost use Rattle.std.specs.Prelude.{◌≡◌, ◌<◌, ◌==◌, ◌++◌, ◌∷◌, [], length, drop, slice_get, slice_index_or, OnOk};
+ghost use Rattle.std.specs.List.Sorted.{IsStrictlySortedBy};
+ghost use Rattle.std.specs.Ordering.{nat_cmp};
 ghost use Rattle.ic_queues.specs.Lines.{without_number};
 
 use ic_base::NoMemory;
@@ -48,13 +50,10 @@ impl Line {
 
     /// A number leaves, if it is there.
     pub fn remove(&mut self, number: u64)
+        requires rising { IsStrictlySortedBy nat_cmp self.old }
         ensures { self.new ≡ without_number number self.old }
     {
-        if let Some(place) = self
-            .numbers
-            .iter()
-            .position(|other| number.cmp(other).is_eq())
-        {
+        if let Ok(place) = self.numbers.binary_search(&number) {
             self.numbers.remove(place);
         }
     }

@@ -1,4 +1,6 @@
-ghost use Rattle.std.specs.Prelude.{◌≡◌, slice_get, OnOk};
+ghost use Rattle.std.specs.Prelude.{◌≡◌, ℕ, List, Some, slice_get, OnOk};
+ghost use Rattle.std.specs.List.Sorted.{IsStrictlySortedBy};
+ghost use Rattle.std.specs.Ordering.{nat_cmp};
 ghost use Rattle.std.specs.Map.{lookup, remove_entry, values_of};
 ghost use Rattle.ic_behaviour.specs.State.{at};
 ghost use Rattle.ic_queues.specs.Queued.{first_to, without_first_to, without_at, push};
@@ -69,6 +71,8 @@ fn leave_line(
     callee: &Principal,
     number: u64,
 )
+    requires theirs { (line : List ℕ) → lookup (at callee.now) waiting.old.entries ≡ Some line → IsStrictlySortedBy nat_cmp line }
+    requires others { IsStrictlySortedBy nat_cmp outside.old }
     ensures waiting { waiting.new.entries ≡ waiting_without waiting.old.entries callee.now number (lookup (at callee.now) waiting.old.entries) }
     ensures outside { outside.new ≡ outside_without outside.old number (lookup (at callee.now) waiting.old.entries) }
 {

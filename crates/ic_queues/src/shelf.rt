@@ -1,4 +1,4 @@
-ghost use Rattle.std.specs.Prelude.{◌≡◌, ◌+◌, ◌++◌, ◌∷◌, ◌==◌, ◌<◌, ◌≤◌, ◌^◌, [], false, length, take, slice_get, option_map, IfOk, OnOk};
+ghost use Rattle.std.specs.Prelude.{◌≡◌, ◌+◌, ◌-◌, ◌++◌, ◌∷◌, ◌==◌, ◌<◌, ◌≤◌, ◌^◌, [], false, true, cond, length, take, slice_get, option_map, IfOk, OnOk};
 ghost use Rattle.std.specs.Option.{option_to_list};
 ghost use Rattle.std.specs.Map.{lookup, remove_entry, keys_of, values_of};
 ghost use Rattle.std.specs.List.{list_any, AllByRecursion};
@@ -6,7 +6,7 @@ ghost use Rattle.ic_behaviour.specs.Steps.{same_way};
 ghost use Rattle.ic_queues.specs.Queued.{first_of_way};
 ghost use Rattle.ic_queues.specs.Lines.{is_number};
 ghost use Rattle.ic_queues.specs.Walking.{way_of};
-ghost use Rattle.ic_queues.specs.Shelved.{entries_from, starts_empty, emptied, message_at, messages_of, index_at, has_way};
+ghost use Rattle.ic_queues.specs.Shelved.{entries_from, starts_empty, starts_full, trim, emptied, message_at, messages_of, index_at, has_way};
 
 use crate::held::Held;
 use ic_base::NoMemory;
@@ -31,6 +31,8 @@ pub struct Shelf {
     next: u64,
     /// How many places have a message.
     count: usize,
+    /// None of this many places at the front is empty.
+    full: usize,
 }
 
 impl Model for Shelf {
@@ -41,7 +43,7 @@ impl Model for Shelf {
 
     ghost view = { λ s. record { entries = entries_from s.first s.places.items; next = s.next } };
 
-    ghost invariant = { λ s. IsShelf s.first s.places.items s.next s.count };
+    ghost invariant = { λ s. IsShelf s.first s.places.items s.next s.count s.full };
 }
 
 // Whether the first place is empty.
@@ -60,6 +62,7 @@ fn trim(first: &mut u64, places: &mut VecDeque<Option<Held>>)
     ensures entries { entries_from first.new places.new.items ≡ entries_from first.old places.old.items }
     ensures numbers { first.new + length places.new.items ≡ first.old + length places.old.items }
     ensures trimmed { starts_empty places.new.items ≡ false }
+    ensures places { places.new.items ≡ trim places.old.items }
 {
     while starts_empty(places) {
         places.pop_front();
@@ -79,12 +82,16 @@ fn empty(places: &mut VecDeque<Option<Held>>, place: usize) -> Option<Held>
     }
 }
 
-// The index of the message at a place of the list, if there is one.
-fn index_at(places: &VecDeque<Option<Held>>, place: usize) -> Option<usize>
+// The index of the message at a place of the list, if there is one. None of `full` places at the front is empty.
+fn index_at(places: &VecDeque<Option<Held>>, full: usize, place: usize) -> Option<usize>
+    requires full { starts_full full places.now.items ≡ true }
     ensures { result ≡ index_at place places.now.items }
 {
-    let mut left = place;
-    for index in 0..places.len() {
+    if place < full {
+        return Some(place);
+    }
+    let mut left = place - full;
+    for index in full..places.len() {
         if places[index].is_some() {
             if left == 0 {
                 return Some(index);
@@ -161,6 +168,26 @@ fn count_without(count: usize, message: &Option<Held>) -> usize
     }
 }
 
+// How many places at the front have a message once one with a message comes after this many.
+fn full_with(full: usize, len: usize) -> usize
+    requires { full < 2 ^ 64 - 1 }
+    ensures { result ≡ cond (full == len) (full + 1) full }
+{
+    if full == len { full + 1 } else { full }
+}
+
+// How many places at the front have a message once this place is empty and the empty ones at the front are gone.
+fn full_without(full: usize, place: usize) -> usize
+    ensures first { place ≡ 0 → result ≡ full - 1 }
+    ensures later { 0 < place → (result ≤ full) × (result ≤ place) }
+{
+    if place == 0 {
+        full.saturating_sub(1)
+    } else {
+        full.min(place)
+    }
+}
+
 // Puts the message of a place, if there is one, after the others.
 fn put(items: &mut Vec<Message>, place: Option<Held>) -> Result<(), NoMemory>
     ensures { OnOk result (items.new.items ≡ items.old.items ++ option_to_list place) }
@@ -192,6 +219,7 @@ impl Shelf {
             places: VecDeque::new(alloc),
             next: 0,
             count: 0,
+            full: 0,
         }
     }
 
@@ -220,7 +248,9 @@ impl Shelf {
             return Err(AllocError);
         };
         let place = Held::new(alloc, message)?;
+        let full = full_with(self.full, self.places.len());
         self.places.push_back(Some(place))?;
+        self.full = full;
         self.next = after;
         self.count += 1;
         Ok(number)
@@ -234,8 +264,9 @@ impl Shelf {
         if number < self.first {
             return None;
         }
-        let place = number - self.first;
-        let message = empty(&mut self.places, place as usize);
+        let place = (number - self.first) as usize;
+        self.full = full_without(self.full, place);
+        let message = empty(&mut self.places, place);
         trim(&mut self.first, &mut self.places);
         self.count = count_without(self.count, &message);
         message
@@ -270,7 +301,7 @@ impl Shelf {
         ensures { result ≡ slice_get (keys_of self.now.entries) place }
     {
         let _next = self.next;
-        match index_at(&self.places, place) {
+        match index_at(&self.places, self.full, place) {
             Some(index) => Some(self.first + index as u64),
             None => None,
         }
@@ -280,7 +311,7 @@ impl Shelf {
     pub fn is_eligible(&self, place: usize) -> bool
         ensures { result ≡ first_of_way (take place (values_of self.now.entries)) (slice_get (values_of self.now.entries) place) }
     {
-        match index_at(&self.places, place) {
+        match index_at(&self.places, self.full, place) {
             Some(index) => is_first_at(&self.places, index),
             None => false,
         }

@@ -1,11 +1,21 @@
 use Rattle.std.proofs.Common.{◌≡◌, ℕ, List, sym, ap, ◌∙◌, subst}
-use Rattle.std.specs.Map.{values_of}
+use Rattle.std.specs.List.Sorted.{IsStrictlySortedBy}
+use Rattle.std.specs.Ordering.{nat_cmp}
+use Rattle.std.specs.Map.{keys_of, values_of}
 use Rattle.ic_queues.specs.Shelved.{Shelved}
-use Rattle.ic_queues.specs.Lines.{IsQueued}
+use Rattle.ic_queues.specs.Lines.{IsQueued, is_out}
 use Rattle.ic_behaviour.specs.declared.call.Message.{Message}
 use Rattle.ic_queues.proofs.Places.{not-found}
-use Rattle.ic_queues.proofs.Queueing.{LeaveEnds, leave_ends}
+use Rattle.ic_queues.proofs.Numbers.{numbers-rise}
+use Rattle.ic_queues.proofs.Queueing.{LeaveEnds, leave_ends, line-rises}
 use Rattle.ic_queues.proofs.lists.Lists.take_number.Goals as goal
+
+pub leave_line-requires-clause-theirs : goal.leave_line-requires-clause-theirs
+leave_line-requires-clause-theirs c = λ line found. line-rises c.args.self.now.messages.entries c.args.self.now.waiting.entries c.args.self.now.outside c.args.self.now.messages.next c.requires c.callee-callee.result line found
+
+pub leave_line-requires-clause-others : goal.leave_line-requires-clause-others
+leave_line-requires-clause-others c =
+    subst (λ (l : List ℕ). IsStrictlySortedBy nat_cmp l) (sym c.requires.others) (numbers-rise (is_out (keys_of c.args.self.now.waiting.entries)) c.args.self.now.messages.entries c.requires.ordered)
 
 ends : (c : goal.After-take-in-Some)
     → LeaveEnds c.args.self.now.messages.entries c.args.self.now.waiting.entries c.args.self.now.outside c.args.self.now.messages.next c.take.new.self.entries c.leave_line.new.waiting.entries c.leave_line.new.outside

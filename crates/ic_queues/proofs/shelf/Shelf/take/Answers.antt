@@ -24,11 +24,12 @@ pub count_without-self-inside-requires : goal.count_without-self-inside-requires
 count_without-self-inside-requires c =
     record { some = one-of (c.args.number - c.self.inside.first) c.self.inside.first c.self.inside.count c.self.inside.places.items c.empty-message.result c.self.invariant.counted c.empty-message.ensures.message }
 
-ends : (c : goal.After-self-1) → Taken c.self.inside.first c.self.inside.next c.args.number c.self.inside.places.items c.empty-message.result c.trim.new.first c.trim.new.places.items c.count_without-self-inside.result
+ends : (c : goal.After-self-2-1) → Taken c.self.inside.first c.self.inside.next c.args.number c.self.inside.places.items c.empty-message.result c.trim.new.first c.trim.new.places.items c.count_without-self-inside.result c.full_without-self-inside.result
 ends c =
-    taken c.self.inside.first c.self.inside.next c.args.number (c.args.number - c.self.inside.first) c.self.inside.count c.self.inside.places.items c.empty-message.new.places.items c.empty-message.result
-    c.trim.new.first c.trim.new.places.items c.count_without-self-inside.result c.self.invariant (omega (arith, c.if-number-self.false)) c.empty-message.ensures.places c.empty-message.ensures.message
-    c.trim.ensures.entries c.trim.ensures.numbers c.trim.ensures.trimmed c.count_without-self-inside.ensures
+    taken c.self.inside.first c.self.inside.next c.args.number (c.args.number - c.self.inside.first) c.self.inside.count c.self.inside.full c.self.inside.places.items c.empty-message.new.places.items c.empty-message.result
+    c.trim.new.first c.trim.new.places.items c.count_without-self-inside.result c.full_without-self-inside.result c.self.invariant (omega (arith, c.if-number-self.false)) c.empty-message.ensures.places c.empty-message.ensures.message
+    c.trim.ensures.entries c.trim.ensures.numbers c.trim.ensures.trimmed c.trim.ensures.places c.count_without-self-inside.ensures
+    c.full_without-self-inside.ensures.first c.full_without-self-inside.ensures.later
 
 pub invariant_of-self : goal.invariant_of-self
 invariant_of-self c = (ends c).shelf
