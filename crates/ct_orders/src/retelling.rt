@@ -37,6 +37,18 @@ pub struct Retold<'i> {
     pub statements: Vec<TracedStatement<'i>>,
 }
 
+impl<'i> Retold<'i> {
+    /// Nothing is told.
+    pub fn nothing(alloc: Global) -> Retold<'i> {
+        Retold {
+            interleaves: Vec::new(alloc),
+            is_cut: false,
+            trace: None,
+            statements: Vec::new(alloc),
+        }
+    }
+}
+
 /// A test that is run along a way: how far it has come, and what was told.
 #[derive(Drop)]
 struct Course<'w, 'i> {

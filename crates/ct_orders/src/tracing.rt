@@ -7,12 +7,13 @@ use ct_script::Delivered;
 use ic_base::NoMemory;
 use std::alloc::Global;
 
-/// A delivery of a statement by its number, and the instructions that were used in it.
+/// A delivery of a statement by its number, the instructions that were used in it, and the cycles that were burned.
 #[derive(Drop)]
 pub struct Traced<'i> {
     pub number: u64,
     pub delivery: Delivery<'i>,
     pub used: u64,
+    pub burned: u128,
 }
 
 /// A statement, or a move of an interleave, with what names stand for after it, and its last deliveries.
@@ -40,6 +41,7 @@ pub(crate) fn all_traced<'i>(
             number: one.number,
             delivery,
             used: one.used,
+            burned: one.burned,
         })?;
     }
     Ok(items)

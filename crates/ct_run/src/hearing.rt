@@ -81,6 +81,13 @@ fn hear(
     Ok(())
 }
 
+// How many cycles were burned so far.
+fn burned(world: &World) -> u128
+    ensures { result ≡ world.now.burned }
+{
+    world.totals().burned
+}
+
 // How many messages are under way.
 fn message_count(world: &World) -> usize
     ensures { result ≡ length world.now.messages }
@@ -215,10 +222,12 @@ impl<'i, R: Threads + Sync, G: Gate + Sync> Runner<'i, R, G> {
         }
         let mut world = world;
         let ids = those_heard(self.alloc, &world, place)?;
+        let before = burned(&world);
         tell(self.alloc, &world, place, script)?;
         listen_to(self.alloc, &mut world, &ids)?;
         let mut world = delivered(self.alloc, world, place, self.charge)?;
         hear(self.alloc, &mut world, &ids, script)?;
+        script.burn(burned(&world).saturating_sub(before));
         Ok(world)
     }
 

@@ -16,7 +16,7 @@ use ct_check::{
 };
 use ct_file::{Span, position_of};
 use ct_outcomes::{Came, Named, name_at};
-use ct_script::{Script, written};
+use ct_script::{Script, shown};
 use ic_base::NoMemory;
 use ic_outside::Gate;
 use ic_principal::{Bytes, Principal};
@@ -83,7 +83,7 @@ impl<'i, R: Threads + Sync, G: Gate + Sync> Runner<'i, R, G> {
         }
         let start = span.start.min(self.text.len());
         let line = position_of(self.text, start).line;
-        let statement = written(self.alloc, self.text, span)?;
+        let statement = shown(self.alloc, self.text, span)?;
         script.comment(line, &statement)
     }
 

@@ -5,6 +5,6 @@ mod one_line;
 mod script;
 mod trace;
 
-pub use one_line::written;
+pub use one_line::{shown, written};
 pub use script::Script;
 pub use trace::{CallName, Delivered, Deliveries, Fallen, Sent, Spoken, Trace};

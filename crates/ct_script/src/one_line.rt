@@ -4,6 +4,9 @@ use ic_base::NoMemory;
 use ic_principal::Bytes;
 use std::alloc::Global;
 
+/// How many characters of a statement a comment has.
+const SHOWN: usize = 200;
+
 // How many bytes a token has in its text.
 fn written_len(token: &Token<'_>) -> usize {
     match token {
@@ -50,4 +53,26 @@ pub fn written(alloc: Global, text: &[u8], span: Span) -> Result<Bytes, NoMemory
         end = one.place.saturating_add(written_len(&one.token));
     }
     Ok(Bytes { items })
+}
+
+// The front of a text, of at most this many characters.
+fn front_of(text: &[u8], most: usize) -> &[u8] {
+    let mut left = most;
+    for (place, byte) in text.iter().enumerate() {
+        if *byte & 0xC0 != 0x80 {
+            if left == 0 {
+                return text.get(..place).unwrap_or(text);
+            }
+            left -= 1;
+        }
+    }
+    text
+}
+
+/// A statement of a test file as comments have it: in one line, and cut after 200 characters.
+pub fn shown(alloc: Global, text: &[u8], span: Span) -> Result<Bytes, NoMemory> {
+    let statement = written(alloc, text, span)?;
+    Ok(Bytes {
+        items: Vec::from_slice(alloc, front_of(&statement.items, SHOWN))?,
+    })
 }

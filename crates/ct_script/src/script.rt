@@ -4,9 +4,6 @@ use ic_heard::Heard;
 use ic_principal::{Bytes, Principal, Text};
 use std::alloc::Global;
 
-/// How many characters of a statement a comment has.
-const SHOWN: usize = 200;
-
 /// Where it is written down what a test does: the lines of a script for `replica`, where one is wanted, and what canisters
 /// say, where that is.
 #[derive(Drop)]
@@ -14,20 +11,6 @@ pub struct Script {
     alloc: Global,
     lines: Option<Vec<u8>>,
     trace: Option<Trace>,
-}
-
-// The front of a text, of at most this many characters.
-fn front_of(text: &[u8], most: usize) -> &[u8] {
-    let mut left = most;
-    for (place, byte) in text.iter().enumerate() {
-        if *byte & 0xC0 != 0x80 {
-            if left == 0 {
-                return text.get(..place).unwrap_or(text);
-            }
-            left -= 1;
-        }
-    }
-    text
 }
 
 // Bytes as a script has them; `-` is none.
@@ -105,6 +88,13 @@ impl Script {
         }
     }
 
+    /// So many cycles were burned in the delivery that began last.
+    pub fn burn(&mut self, burned: u128) {
+        if let Some(trace) = &mut self.trace {
+            trace.burn(burned);
+        }
+    }
+
     /// Takes the deliveries that began since they were last taken.
     pub fn take_deliveries(&mut self) -> Option<Deliveries> {
         match &mut self.trace {
@@ -129,7 +119,7 @@ impl Script {
     pub fn comment(&mut self, line: usize, statement: &Bytes) -> Result<(), NoMemory> {
         let before = format!(in self.alloc; "# {line}: ")?;
         self.push(before.as_bytes())?;
-        self.push(front_of(&statement.items, SHOWN))?;
+        self.push(&statement.items)?;
         self.push(b"\n")
     }
 

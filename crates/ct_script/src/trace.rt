@@ -60,12 +60,13 @@ pub enum Sent {
     },
 }
 
-/// A delivery by its number, and the instructions that were used in it.
+/// A delivery by its number, the instructions that were used in it, and the cycles that were burned.
 #[derive(Drop)]
 pub struct Delivered {
     pub number: u64,
     pub sent: Sent,
     pub used: u64,
+    pub burned: u128,
 }
 
 /// The last deliveries of a statement, and how many came before them.
@@ -156,6 +157,13 @@ impl Deliveries {
             last.used = last.used.saturating_add(used);
         }
     }
+
+    // In the delivery that is under way so many cycles more were burned.
+    fn burn(&mut self, burned: u128) {
+        if let Some(last) = self.items.last_mut() {
+            last.burned = last.burned.saturating_add(burned);
+        }
+    }
 }
 
 impl Trace {
@@ -183,6 +191,7 @@ impl Trace {
             number: self.count,
             sent,
             used: 0,
+            burned: 0,
         })
     }
 
@@ -232,6 +241,11 @@ impl Trace {
         self.deliveries.spend(heard.used());
         self.speak_all(canister, &heard.texts().items)?;
         self.fall_all(canister, heard.trapped())
+    }
+
+    /// So many cycles were burned in the delivery that began last.
+    pub(crate) fn burn(&mut self, burned: u128) {
+        self.deliveries.burn(burned);
     }
 
     /// Takes the deliveries that began since they were last taken.
