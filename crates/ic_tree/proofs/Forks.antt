@@ -1,12 +1,12 @@
 -- Trees under forks.
-use Rattle.std.proofs.Common.{◌≡◌, ◌∙◌, ap, ap₂, refl, sym, arith, codes, ℕ, zero, suc, ◌+◌, ◌-◌, ◌<◌, ◌≤◌, List, [], ◌∷◌, length, map, take, drop, ◌++◌}
-use Rattle.std.proofs.lemmas.List.{drop-map, length-append, length-drop, length-map, length-take-le, take-map}
-use Rattle.ic_leb.specs.Spelling.{unsigned_spelling}
+use Rattle.std.proofs.Common.{◌≡◌, ◌∙◌, ap, ap₂, refl, subst, sym, arith, ℕ, zero, suc, ◌+◌, ◌-◌, ◌/◌, ◌<◌, ◌≤◌, List, [], ◌∷◌, length, map, take, drop, ◌++◌}
+use Rattle.std.proofs.lemmas.List.{drop-map, drop-take, length-append, length-drop, length-map, length-take-le, take-map, take-take}
 use Rattle.ic_behaviour.specs.State.{State}
-use Rattle.ic_tree.specs.HashTree.{HashTree, fork, fork_hash, forked, forked_in, half, labeled, labeled_hash, leaf_at, root_hash}
-use Rattle.ic_tree.specs.StateTree.{by_id, canister_tree, kept, kept_request, request_tree, state_tree_of, tree_over}
+use Rattle.ic_tree.specs.HashTree.{HashTree, fork, forked, forked_in, half, root_hash}
+use Rattle.ic_tree.specs.StateTree.{kept, requests_tree, state_tree_of, tree_over}
 use Rattle.ic_tree.specs.View.{view}
-use Rattle.ic_tree.specs.declared.state.Keep.TheVariants.{Root}
+use Rattle.ic_tree.specs.declared.state.Keep.{Keep}
+use Rattle.ic_tree.specs.declared.state.Keep.TheVariants.{Whole, Root}
 use Rattle.ic_tree.specs.declared.tree.Tree.{Tree}
 use Rattle.ic_tree.specs.declared.tree.Tree.TheVariants.{Empty}
 
@@ -57,41 +57,37 @@ pub no_tree : (xs : List Tree) → xs ≡ [] → view Empty ≡ forked (map view
 unfolding forked_in view
 no_tree xs is = sym (ap (λ l. forked (map view l)) is)
 
+-- the first so many of a list, half by half
+pub forked_first : {E : Type 0} (branch : E → HashTree) (es : List E) (count : ℕ) → 2 ≤ count → count ≤ length es
+    → forked (map branch (take count es)) ≡ fork (forked (map branch (take (half count) es))) (forked (map branch (take (count / 2) (drop (half count) es))))
+forked_first branch es count two within =
+    let first = map branch (take count es) in
+    let long : length first ≡ count = length-map (take count es) branch ∙ length-take-le count es within in
+    let parts : half count + count / 2 ≡ count = omega arith in
+    let left : take (half (length first)) first ≡ map branch (take (half count) es) =
+    ap (λ n. take (half n) first) long ∙ (take-map branch (half count) (take count es) ∙ ap (map branch) (take-take (half count) count es (omega arith))) in
+    let right : drop (half (length first)) first ≡ map branch (take (count / 2) (drop (half count) es)) =
+    ap (λ n. drop (half n) first) long ∙ (drop-map branch (half count) (take count es)
+    ∙ ap (map branch) (ap (λ n. drop (half count) (take n es)) (sym parts) ∙ drop-take (half count) (count / 2) es)) in
+    forked_is first (subst (λ n. 2 ≤ n) (sym long) two) ∙ ap₂ (λ l r. fork (forked l) (forked r)) left right
+
+-- the first of a list alone
+pub forked_one : {E : Type 0} (branch : E → HashTree) (es rest : List E) (e : E) (count : ℕ) → es ≡ e ∷ rest → 1 ≤ count → count ≤ 1
+    → (rest ≡ drop count es) × (branch e ≡ forked (map branch (take count es)))
+unfolding forked_in
+forked_one branch es rest e zero is some one = absurd (omega arith)
+forked_one branch es rest e (suc zero) is some one = (sym (ap (drop 1) is), sym (ap (λ l. forked (map branch (take 1 l))) is))
+forked_one branch es rest e (suc (suc n)) is some one = absurd (omega arith)
+
 -- ---- root hashes
 
-parted : {E : Type 0} (branch : E → HashTree) (steps : ℕ) (es : List E) → 2 ≤ length es
-    → forked_in (suc steps) (map branch es)
-    ≡ fork (forked_in steps (map branch (take (half (length es)) es))) (forked_in steps (map branch (drop (half (length es)) es)))
-unfolding forked_in
-parted branch steps [] two = absurd (omega arith)
-parted branch steps (x ∷ []) two = absurd (omega arith)
-parted branch steps (x ∷ y ∷ rest) two =
-    let es = x ∷ y ∷ rest in
-    let count : length (map branch es) ≡ length es = length-map es branch in
-    ap₂ (λ l r. fork (forked_in steps l) (forked_in steps r))
-    (ap (λ n. take (half n) (map branch es)) count ∙ take-map branch (half (length es)) es)
-    (ap (λ n. drop (half n) (map branch es)) count ∙ drop-map branch (half (length es)) es)
-
--- a root hash depends on the root hashes of the trees under the forks alone
-same_roots : {E : Type 0} (f g : E → HashTree) → ((e : E) → root_hash (f e) ≡ root_hash (g e)) → (steps : ℕ) (es : List E)
-    → root_hash (forked_in steps (map f es)) ≡ root_hash (forked_in steps (map g es))
-unfolding forked_in root_hash
-same_roots f g same zero es = refl
-same_roots f g same (suc steps) [] = refl
-same_roots f g same (suc steps) (x ∷ []) = same x
-same_roots f g same (suc steps) (x ∷ y ∷ rest) =
-    let es = x ∷ y ∷ rest in
-    ap root_hash (parted f steps es (omega arith))
-    ∙ (ap₂ fork_hash (same_roots f g same steps (take (half (length es)) es)) (same_roots f g same steps (drop (half (length es)) es))
-    ∙ ap root_hash (sym (parted g steps es (omega arith))))
+-- a fork of kept trees is kept as a fork of the trees is
+pub kept_fork : (keep : Keep) (left right : HashTree) → kept keep (fork (kept keep left) (kept keep right)) ≡ kept keep (fork left right)
+unfolding root_hash kept
+kept_fork Whole left right = refl
+kept_fork Root left right = refl
 
 -- a state's root hash is that of its tree whose requests are pruned
-pub state_root : (s : State) → root_hash (tree_over s (map (kept_request Root) (by_id 0 s.requests))) ≡ root_hash (state_tree_of s)
+pub state_root : (s : State) → root_hash (tree_over s (kept Root (requests_tree s.requests))) ≡ root_hash (state_tree_of s)
 unfolding forked_in root_hash kept state_tree_of
-state_root s =
-    let es = by_id 0 s.requests in
-    let count : length (map (kept_request Root) es) ≡ length (map request_tree es) = length-map es (kept_request Root) ∙ sym (length-map es request_tree) in
-    let roots : root_hash (forked (map (kept_request Root) es)) ≡ root_hash (forked (map request_tree es)) =
-    ap (λ n. root_hash (forked_in n (map (kept_request Root) es))) count ∙ same_roots (kept_request Root) request_tree (λ e. refl) _ es in
-    ap (λ hash. fork_hash (fork_hash (root_hash (labeled (codes "canister") (forked (map canister_tree s.canisters)))) (labeled_hash (codes "request_status") hash))
-    (root_hash (leaf_at (codes "time") (unsigned_spelling s.time)))) roots
+state_root s = refl

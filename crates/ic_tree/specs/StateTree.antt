@@ -71,22 +71,27 @@ request_tree e = labeled e.0 e.1
 abbrev pub part_of : List ℕ × Bor Request → List ℕ × HashTree
 part_of e = (e.0, request_part e.1.now.answer)
 
+-- the tree of a request that is lent, under its id
+abbrev pub lent_tree : List ℕ × Bor Request → HashTree
+lent_tree e = request_tree (part_of e)
+
 -- a tree, or its root hash in its place
 unfoldable pub kept : Keep → HashTree → HashTree
 kept Whole tree = tree
 kept Root tree = pruned (root_hash tree)
 
-abbrev pub kept_request : Keep → List ℕ × HashTree → HashTree
-kept_request keep e = kept keep (request_tree e)
+-- the tree of the requests
+abbrev pub requests_tree : List Request → HashTree
+requests_tree requests = forked (map request_tree (by_id 0 requests))
 
 -- ---- the state
 
--- the tree of a state with these trees for its requests
-abbrev pub tree_over : State → List HashTree → HashTree
+-- the tree of a state with this tree for its requests
+abbrev pub tree_over : State → HashTree → HashTree
 tree_over s requests = forked
     (labeled (codes "canister") (forked (map canister_tree s.canisters))
-    ∷ labeled (codes "request_status") (forked requests)
+    ∷ labeled (codes "request_status") requests
     ∷ leaf_at (codes "time") (unsigned_spelling s.time) ∷ [])
 
 unfoldable pub state_tree_of : State → HashTree
-state_tree_of s = tree_over s (map request_tree (by_id 0 s.requests))
+state_tree_of s = tree_over s (requests_tree s.requests)

@@ -1,4 +1,4 @@
-ghost use Rattle.std.specs.Prelude.{◌≡◌, ◌+◌, ◌≤◌, ◌^◌, List, Some, IfOk, length, map, option_map};
+ghost use Rattle.std.specs.Prelude.{◌≡◌, ◌+◌, ◌≤◌, ◌^◌, List, Some, IfOk, OnOk, drop, length, map, option_map, take};
 ghost use Rattle.std.specs.List.{AllByRecursion};
 ghost use Rattle.ic_behaviour.specs.declared.call.Message.{Message};
 ghost use Rattle.ic_behaviour.specs.declared.request.Request.{Request as Asked};
@@ -6,7 +6,7 @@ ghost use Rattle.ic_state.specs.IsWorld.{IsWorld};
 ghost use Rattle.ic_state.specs.Seen.{code_of, entry_of, state_of};
 ghost use Rattle.ic_leb.specs.Spelling.{unsigned_spelling};
 ghost use Rattle.ic_tree.specs.HashTree.{forked, leaf_at, root_hash};
-ghost use Rattle.ic_tree.specs.StateTree.{by_id, canister_part, canister_tree, id_of_request, kept, kept_request, part_of, request_part, state_tree_of, status_leaf, tree_over};
+ghost use Rattle.ic_tree.specs.StateTree.{by_id, canister_part, canister_tree, id_of_request, kept, lent_tree, part_of, request_part, request_tree, requests_tree, state_tree_of, status_leaf, tree_over};
 ghost use Rattle.ic_tree.specs.View.{view};
 
 use crate::fields::Pairs;
@@ -18,6 +18,7 @@ use ic_principal::{Bytes, Principal, Text};
 use ic_state::{Canister, CanisterPlace, CodePlace, Parts, Request, Response, World};
 use std::alloc::Global;
 use std::collections::BTreeMap;
+use std::collections::btree_map::IntoIter;
 
 // How long a request may wait, in nanoseconds: five minutes.
 const LIFETIME: u64 = 300_000_000_000;
@@ -73,10 +74,10 @@ impl Keep {
 #[tactic(auto, unfolding(crate::specs::HashTree::forked_in))]
 fn tree_of(alloc: Global, parts: &Parts, keep: Keep) -> Result<Tree, NoMemory>
     requires keeps { (messages : List Message) × IsWorld (record parts.now { messages = messages }) }
-    ensures { IfOk result (λ tree. view tree ≡ tree_over (state_of parts.now) (map (kept_request keep) (by_id 0 parts.now.requests))) }
+    ensures { IfOk result (λ tree. view tree ≡ tree_over (state_of parts.now) (kept keep (requests_tree parts.now.requests))) }
 {
     let canisters = canister_trees(alloc, &parts.canisters)?;
-    let requests = request_trees(alloc, &parts.requests.items, keep)?;
+    let requests = requests_tree(alloc, &parts.requests.items, keep)?;
     let canisters = labeled(alloc, b"canister".as_slice(), canisters)?;
     let requests = labeled(alloc, b"request_status".as_slice(), requests)?;
     let time = number_leaf(alloc, b"time".as_slice(), parts.time)?;
@@ -125,18 +126,47 @@ fn canister_part(
 
 // ---- requests
 
-fn request_trees(alloc: Global, requests: &[Request], keep: Keep) -> Result<Tree, NoMemory>
+#[tactic(auto, unfolding(crate::specs::HashTree::forked_in, crate::specs::View::view))]
+fn requests_tree(alloc: Global, requests: &[Request], keep: Keep) -> Result<Tree, NoMemory>
     requires few { length requests.now ≤ 2 ^ 20 }
     requires early { AllByRecursion (λ (r : Asked). r.time ≤ 9223372036854775807) requests.now }
-    ensures { IfOk result (λ tree. view tree ≡ forked (map (kept_request keep) (by_id 0 requests.now))) }
+    ensures { IfOk result (λ tree. view tree ≡ kept keep (requests_tree requests.now)) }
 {
-    let mut trees = Vec::new(alloc);
-    for (id, request) in in_order(alloc, requests)? {
-        let part = request_part(alloc, &request.answer)?;
-        let tree = labeled(alloc, id.as_slice(), part)?;
-        trees.push(keep.keep(tree))?;
+    let order = in_order(alloc, requests)?;
+    match order.len() {
+        0 => Ok(keep.keep(Tree::Empty)),
+        count => forked_requests(alloc, &mut order.into_iter(), count, keep),
     }
-    forked(alloc, trees)
+}
+
+// The next `count` requests under forks. Each fork is kept as its requests are, so that no list of trees stands beside the order.
+fn forked_requests<'a>(
+    alloc: Global,
+    order: &mut IntoIter<[u8; 32], &'a Request>,
+    count: usize,
+    keep: Keep,
+) -> Result<Tree, NoMemory>
+    requires some { 1 ≤ count }
+    requires within { count ≤ length order.old }
+    ensures rest { OnOk result (order.new ≡ drop count order.old) }
+    ensures tree { IfOk result (λ tree. view tree ≡ kept keep (forked (map lent_tree (take count order.old)))) }
+{
+    if count > 1 {
+        let left = forked_requests(alloc, order, count - count / 2, keep)?;
+        let right = forked_requests(alloc, order, count / 2, keep)?;
+        return Ok(keep.keep(fork(alloc, left, right)?));
+    }
+    match order.next() {
+        Some(entry) => Ok(keep.keep(request_tree(alloc, &entry.0, entry.1)?)),
+        None => Ok(Tree::Empty),
+    }
+}
+
+fn request_tree(alloc: Global, id: &[u8; 32], request: &Request) -> Result<Tree, NoMemory>
+    ensures { IfOk result (λ tree. view tree ≡ request_tree (id.now, request_part request.now.answer)) }
+{
+    let part = request_part(alloc, &request.answer)?;
+    labeled(alloc, id.as_slice(), part)
 }
 
 // The requests by their ids. The last goes first, so that of two with one id the earlier stands.
