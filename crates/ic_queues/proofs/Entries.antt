@@ -1,12 +1,12 @@
 -- Entries of maps whose keys rise.
-use Rattle.std.proofs.Common.{◌≡◌, Bool, List, [], ◌∷◌, ◌++◌, refl, ap, ◌∙◌, inl, inr}
+use Rattle.std.proofs.Common.{◌≡◌, Bool, List, [], ◌∷◌, ◌++◌, true, false, Some, refl, ap, ◌∙◌, inl, inr}
 use Rattle.std.specs.List.{AllByRecursion}
 use Rattle.std.specs.List.Sorted.{IsStrictlySortedBy}
 use Rattle.std.specs.declared.cmp.Ordering.{Ordering}
 use Rattle.std.specs.declared.cmp.Ordering.TheVariants.{Less, Greater}
 use Rattle.std.specs.Ordering.{match_ordering}
-use Rattle.std.specs.Map.{remove_entry, keys_of}
-use Rattle.std.specs.BTreeMap.{insert_entry}
+use Rattle.std.specs.Map.{lookup, remove_entry, keys_of}
+use Rattle.std.specs.BTreeMap.{is_at, insert_entry}
 use Rattle.std.proofs.lemmas.Bool.{cases_Bool}
 
 module _ {K X : Type 0} (cmp : K → K → Ordering) where
@@ -39,3 +39,12 @@ module _ {K X : Type 0} (cmp : K → K → Ordering) where
         | inl here ↦ rw here sorted.1
         | inr there ↦ rw there (all_keys_removed (λ y. cmp e.0 y ≡ Less) test es sorted.0, sorted_removed test es sorted.1)
       ]
+
+  -- the value of each key is found, where a key is itself and no lower one
+  pub found-own : ((k : K) → is_at (cmp k) k ≡ true) → ((j k : K) → cmp j k ≡ Less → is_at (cmp k) j ≡ false) → (es : List (K × X)) → IsStrictlySortedBy cmp (keys_of es) → AllByRecursion (λ e. lookup (is_at (cmp e.0)) es ≡ Some e.1) es
+  unfolding IsStrictlySortedBy
+  found-own self lower [] sorted = tt
+  found-own self lower (e ∷ es) sorted = (let here = self e.0 in rw here refl, each es sorted.0 (found-own self lower es sorted.1)) where
+    each : (fs : List (K × X)) → AllByRecursion (λ y. cmp e.0 y ≡ Less) (keys_of fs) → AllByRecursion (λ f. lookup (is_at (cmp f.0)) es ≡ Some f.1) fs → AllByRecursion (λ f. lookup (is_at (cmp f.0)) (e ∷ es) ≡ Some f.1) fs
+    each [] less all = tt
+    each (f ∷ fs) less all = (let differs = lower e.0 f.0 less.0 in rw differs all.0, each fs less.1 all.1)

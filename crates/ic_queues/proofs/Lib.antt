@@ -5,4 +5,5 @@ pub mod Places
 pub mod Tags
 pub mod Queueing
 pub mod Starts
+pub mod Moves
 pub mod Walks

@@ -9,7 +9,7 @@ use Rattle.std.specs.Cmp.{nat_cmp_is}
 use Rattle.std.specs.Map.{lookup, remove_entry, keys_of, values_of}
 use Rattle.std.specs.Set.{remove_key}
 use Rattle.std.proofs.lemmas.Bool.{cases_Bool}
-use Rattle.std.proofs.lemmas.Cmp.{eq_by_cmp_equiv, nat_cmp_total}
+use Rattle.std.proofs.lemmas.Cmp.{eq_by_cmp_equiv, nat_cmp_total, ranked}
 use Rattle.std.proofs.lemmas.Map.Keys.{sorted_head, sorted_tail}
 use Rattle.ic_behaviour.specs.declared.call.Message.{Message}
 use Rattle.ic_behaviour.specs.State.{callee_of}
@@ -23,6 +23,12 @@ number-self n = number_laws.refl n
 
 pub number-back : (k n : ℕ) → is_number k n ≡ false → is_number n k ≡ false
 number-back k n differs = number_laws.symm n k ∙ differs
+
+pub number-above : (j k : ℕ) → nat_cmp j k ≡ Less → nat_cmp k j ≡ Greater
+number-above j k less = sym (nat_cmp_is k j Greater (ranked j k Less (sym less)))
+
+pub number-less : (j k : ℕ) → nat_cmp j k ≡ Less → is_number k j ≡ false
+number-less j k less = ap is_eq (number-above j k less)
 
 -- what holds of each number holds of these
 pub all_numbers : (P : ℕ → Type 0) (is : List ℕ → Bool) (es : List (ℕ × Message)) → AllByRecursion P (keys_of es) → AllByRecursion P (numbers_to is es)

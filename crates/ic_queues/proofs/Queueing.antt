@@ -24,7 +24,7 @@ apart : (key other x : List ℕ) → at key other ≡ false → at key x ≡ tru
 apart key other x differ is = laws.symm other x ∙ sym (laws.congr key x other is) ∙ differ
 
 module _ (es : List (ℕ × Message)) (ws : List (List ℕ × List ℕ)) (outside : List ℕ) (next : ℕ) (is : IsQueued es ws outside next) where
-  has : (key : List ℕ) (line : List ℕ) → lookup (at key) ws ≡ Some line → (list_any (at key) (keys_of ws) ≡ true) × (line ≡ numbers_to (at key) es)
+  pub has : (key : List ℕ) (line : List ℕ) → lookup (at key) ws ≡ Some line → (list_any (at key) (keys_of ws) ≡ true) × (line ≡ numbers_to (at key) es)
   has key line there =
       let member : list_any (at key) (keys_of ws) ≡ true = sym (is_some-lookup (at key) ws) ∙ ap is_some there in
       let own : Some line ≡ Some (numbers_to (at key) es) = sym there ∙ is.theirs key ∙ cond-true _ _ _ member in

@@ -1,5 +1,5 @@
 -- Places with and without messages, and the messages under their numbers.
-use Rattle.std.proofs.Common.{◌≡◌, ℕ, zero, suc, ◌<◌, ◌≤◌, ◌+◌, ◌-◌, ◌==◌, true, false, cond, List, [], ◌∷◌, ◌++◌, length, Some, None, refl, sym, ap, ◌∙◌, subst, arith, slice_set}
+use Rattle.std.proofs.Common.{◌≡◌, ℕ, zero, suc, ◌<◌, ◌≤◌, ◌+◌, ◌-◌, ◌⊎◌, inl, inr, true, false, List, [], ◌∷◌, ◌++◌, length, Some, None, refl, sym, ap, ◌∙◌, subst, arith, slice_set}
 use Rattle.std.specs.Prelude.{Option, Bool, not, slice_index_or}
 use Rattle.std.specs.Option.{is_some, option_to_list}
 use Rattle.std.specs.declared.cmp.Ordering.TheVariants.{Less, Greater}
@@ -7,7 +7,7 @@ use Rattle.std.specs.Ordering.{is_eq}
 use Rattle.std.specs.Cmp.{nat_cmp_is}
 use Rattle.std.specs.List.{AllByRecursion}
 use Rattle.std.specs.Map.{lookup, remove_entry, keys_of, values_of}
-use Rattle.std.proofs.lemmas.Bool.{false≢true, eqb-true}
+use Rattle.std.proofs.lemmas.Bool.{false≢true}
 use Rattle.ic_behaviour.specs.declared.call.Message.{Message}
 use Rattle.ic_queues.specs.Lines.{is_number}
 use Rattle.ic_queues.specs.Shelved.{Shelved, entries_from, starts_empty, starts_full, trim, IsShelf, messages_of, message_at, emptied}
@@ -151,11 +151,9 @@ filled-trim (suc n) [] full = full
 filled-trim (suc n) (None ∷ ps) full = absurd (false≢true full)
 filled-trim (suc n) (Some m ∷ ps) full = full
 
-filled-more : (n : ℕ) (ps : List (Option Message)) (x : Message) → starts_full n ps ≡ true → starts_full (cond (n == length ps) (n + 1) n) (ps ++ Some x ∷ []) ≡ true
-filled-more n ps x full = by (n == length ps) refl where
-  by : (b : Bool) → (n == length ps) ≡ b → starts_full (cond b (n + 1) n) (ps ++ Some x ∷ []) ≡ true
-  by true same = subst (λ (k : ℕ). starts_full k (ps ++ Some x ∷ []) ≡ true) (let next : suc n ≡ n + 1 = omega arith in next) ((filled-last n ps x full).0 (eqb-true n (length ps) same))
-  by false differs = (filled-last n ps x full).1
+filled-more : (n more : ℕ) (ps : List (Option Message)) (x : Message) → starts_full n ps ≡ true → ((n ≡ length ps) × (more ≡ n + 1)) ⊎ (more ≡ n) → starts_full more (ps ++ Some x ∷ []) ≡ true
+filled-more n more ps x full (inl all) = subst (λ (k : ℕ). starts_full k (ps ++ Some x ∷ []) ≡ true) (let next : suc n ≡ more = omega (arith, all.1) in next) ((filled-last n ps x full).0 all.0)
+filled-more n more ps x full (inr same) = subst (λ (k : ℕ). starts_full k (ps ++ Some x ∷ []) ≡ true) (sym same) (filled-last n ps x full).1
 
 -- the first place is emptied, and leaves with the empty ones after it
 filled-first : (n : ℕ) (ps : List (Option Message)) → starts_full n ps ≡ true → starts_full (n - 1) (trim (emptied 0 ps)) ≡ true
@@ -201,7 +199,7 @@ pub record Pushed (first next count after more filled : ℕ) (ps qs : List (Opti
   pub view : ◌≡◌ {A = Shelved} (record { entries = entries_from first qs; next = after }) (record { entries = entries_from first ps ++ (next, x) ∷ []; next = next + 1 })
 
 pub pushed : (first next count full after more filled : ℕ) (ps qs : List (Option Message)) (x : Message) → IsShelf first ps next count full → qs ≡ ps ++ Some x ∷ [] → after ≡ next + 1 → more ≡ count + 1
-    → filled ≡ cond (full == length ps) (full + 1) full → Pushed first next count after more filled ps qs x
+    → ((full ≡ length ps) × (filled ≡ full + 1)) ⊎ (filled ≡ full) → Pushed first next count after more filled ps qs x
 pushed first next count full after more filled ps qs x is e1 e2 e3 e4 =
     let entries : entries_from first qs ≡ entries_from first ps ++ (next, x) ∷ [] =
     ap (entries_from first) e1 ∙ message-last first ps x ∙ ap (λ (k : ℕ). entries_from first ps ++ (k, x) ∷ []) is.numbers in
@@ -210,7 +208,7 @@ pushed first next count full after more filled ps qs x is e1 e2 e3 e4 =
         numbers = omega (arith, is.numbers, ap length e1, length-last ps (Some x), e2);
         trimmed = ap starts_empty e1 ∙ still-trimmed ps x is.trimmed;
         counted = omega (arith, ap length entries, counted-last (entries_from first ps) (next, x), is.counted, e3);
-        filled = ap (starts_full filled) e1 ∙ ap (λ (n : ℕ). starts_full n (ps ++ Some x ∷ [])) e4 ∙ filled-more full ps x is.filled;
+        filled = ap (starts_full filled) e1 ∙ filled-more full filled ps x is.filled e4;
       };
       view = λ i. record { entries = entries i; next = e2 i };
     }

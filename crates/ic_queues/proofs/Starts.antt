@@ -1,9 +1,9 @@
 -- An empty queue for each canister.
-use Rattle.std.proofs.Common.{◌≡◌, ℕ, cond, List, [], ◌∷◌, ◌++◌, map, Some, None, refl, sym, ap, ◌∙◌, subst, inl, inr, append_assoc, append-nil}
+use Rattle.std.proofs.Common.{◌≡◌, ℕ, false, cond, List, [], ◌∷◌, ◌++◌, map, Some, None, refl, sym, ap, ◌∙◌, subst, inl, inr, append_assoc, append-nil}
 use Rattle.std.specs.List.{list_any, fold, AllByRecursion}
 use Rattle.std.specs.List.Sorted.{IsStrictlySortedBy}
 use Rattle.std.specs.declared.cmp.Ordering.TheVariants.{Less, Greater}
-use Rattle.std.specs.Ordering.{nat_cmp, ordering_reverse}
+use Rattle.std.specs.Ordering.{nat_cmp, ordering_reverse, is_eq}
 use Rattle.std.specs.Cmp.Lexicographic.{slice_cmp, nat_list_cmp_total}
 use Rattle.std.specs.Map.{lookup, keys_of}
 use Rattle.std.specs.BTreeMap.{insert_entry}
@@ -19,10 +19,13 @@ use Rattle.ic_queues.proofs.Queueing.{view}
 abbrev empty_line : List ℕ → List ℕ × List ℕ
 empty_line key = (key, [])
 
-abbrev Rises : List (List ℕ) → Type 0
+abbrev pub Rises : List (List ℕ) → Type 0
 Rises keys = IsStrictlySortedBy (slice_cmp nat_cmp) keys
 
-above : (key : List ℕ) (keys : List (List ℕ)) → AllByRecursion (λ j. slice_cmp nat_cmp j key ≡ Less) keys → AllByRecursion (λ j. slice_cmp nat_cmp key j ≡ Greater) keys
+pub principal-less : (j k : List ℕ) → slice_cmp nat_cmp j k ≡ Less → at k j ≡ false
+principal-less j k less = ap is_eq (nat_list_cmp_total.antisymm k j ∙ ap ordering_reverse less)
+
+pub above : (key : List ℕ) (keys : List (List ℕ)) → AllByRecursion (λ j. slice_cmp nat_cmp j key ≡ Less) keys → AllByRecursion (λ j. slice_cmp nat_cmp key j ≡ Greater) keys
 above key [] all = tt
 above key (j ∷ keys) all = (nat_list_cmp_total.antisymm key j ∙ ap ordering_reverse all.0, above key keys all.1)
 

@@ -1,13 +1,11 @@
 -- A walk from one message to no canister to the next.
 use Rattle.std.proofs.Common.{◌≡◌, ◌<◌, ◌≤◌, ◌+◌, ℕ, zero, suc, Bool, true, false, cond, ◌&&◌, ◌||◌, List, [], ◌∷◌, ◌++◌, length, take, Option, Some, None, refl, sym, ap, ap₂, ◌∙◌, subst, inl, inr, arith, append-nil, append_assoc}
-use Rattle.std.specs.Prelude.{◌==◌, option_map, slice_get, slice_index_or, drop}
+use Rattle.std.specs.Prelude.{◌==◌, slice_get, slice_index_or, drop}
 use Rattle.std.specs.List.{list_any, list_all, filter, AllByRecursion}
 use Rattle.std.specs.List.Sorted.{IsStrictlySortedBy}
 use Rattle.std.specs.Ordering.{nat_cmp, is_gt, is_le, is_eq}
 use Rattle.std.specs.declared.cmp.Ordering.TheVariants.{Less, Equal, Greater}
 use Rattle.std.specs.Cmp.{nat_cmp_is}
-use Rattle.std.specs.Cmp.Lexicographic.{slice_cmp}
-use Rattle.std.specs.BTreeMap.{insert_entry}
 use Rattle.std.specs.Map.{lookup, remove_entry, keys_of, values_of}
 use Rattle.std.proofs.Math.Nat.{eq-or-lt_of_le, suc-ne-zero}
 use Rattle.std.proofs.lemmas.Bool.{cases_Bool, cases_lt, false≢true, ne_eqb}
@@ -19,13 +17,11 @@ use Rattle.ic_behaviour.specs.State.{at, callee_of}
 use Rattle.ic_behaviour.specs.Steps.{sender_of, same_way}
 use Rattle.ic_behaviour.proofs.Weights.{at-is, each-map}
 use Rattle.ic_queues.specs.Queued.{Queued, Walked, has_queue, is_inside, AllStay, Steps}
-use Rattle.ic_queues.specs.Lines.{is_number, numbers_to, is_out, IsQueued, empty_lines, waiting_with, outside_with}
-use Rattle.ic_queues.specs.Walking.{gone, coming, IsWalked, of_way, is_of_way, way_of}
-use Rattle.ic_queues.proofs.Entries.{all_keys_removed, insert_last, sorted_removed}
-use Rattle.ic_queues.proofs.Numbers.{all_above, all_numbers, number-self}
+use Rattle.ic_queues.specs.Lines.{is_number, numbers_to, is_out, IsQueued}
+use Rattle.ic_queues.specs.Walking.{gone, coming, IsWalked, of_way, is_of_way}
+use Rattle.ic_queues.proofs.Entries.{all_keys_removed, sorted_removed}
+use Rattle.ic_queues.proofs.Numbers.{all_numbers, number-self}
 use Rattle.ic_queues.proofs.Places.{line-same}
-use Rattle.ic_queues.proofs.Queueing.{push_ends}
-use Rattle.ic_queues.proofs.Starts.{new_end}
 
 -- ---- below a place, and from it on
 
@@ -464,93 +460,30 @@ any_all p (suc k) (y ∷ ks) past none = elim (cases_Bool (p y)) [
 
 -- ---- queues of other canisters
 
-abbrev entry_at : ℕ → Option Message → List (ℕ × Message)
-entry_at n None = []
-entry_at n (Some m) = (n, m) ∷ []
+fronted : (b : Bool) (k : ℕ) (xs ys zs : List ℕ) → xs ++ ys ≡ zs → cond b (k ∷ xs) xs ++ ys ≡ cond b (k ∷ zs) zs
+fronted true k xs ys zs same = ap (λ l. k ∷ l) same
+fronted false k xs ys zs same = same
 
-none_under : (n : ℕ) (es : List (ℕ × Message)) → AllByRecursion (λ k. n + 1 ≤ k) (keys_of es) → lookup (is_number n) es ≡ None
-none_under n [] all = refl
-none_under n (e ∷ es) all =
-    let differs : is_number n e.0 ≡ false = ap is_eq (sym (nat_cmp_is n e.0 Less (omega (arith, all.0)))) in
-    rw differs (none_under n es all.1)
-
-gone_next : (n : ℕ) (es : List (ℕ × Message)) → IsStrictlySortedBy nat_cmp (keys_of es) → gone (n + 1) es ≡ gone n es ++ entry_at n (lookup (is_number n) es)
-gone_next n [] sorted = refl
-gone_next n (e ∷ es) sorted = elim (cases_lt e.0 n) [
+whole : (test : List ℕ → Bool) (place : ℕ) (es : List (ℕ × Message)) → IsStrictlySortedBy nat_cmp (keys_of es) → numbers_to test (gone place es) ++ numbers_to test (coming place es) ≡ numbers_to test es
+whole test place [] sorted = refl
+whole test place (e ∷ es) sorted = elim (cases_lt e.0 place) [
   | inl less ↦
-      let is = gone-is n e.0 less in
-      let next = gone-is (n + 1) e.0 (omega (arith, less)) in
-      rw (ap is_gt is, ap is_gt next, ap is_eq is) (ap (λ l. e ∷ l) (gone_next n es (sorted_tail nat_cmp e.0 (keys_of es) sorted)))
+      let is = gone-is place e.0 less in
+      rw (ap is_gt is, ap is_le is) (fronted (test (callee_of e.1)) e.0 _ _ _ (whole test place es (sorted_tail nat_cmp e.0 (keys_of es) sorted)))
   | inr upto ↦
-      let sides = not_gone n e.0 upto in
-      let tail = tail_coming (n + 1) e es sorted (omega (arith, upto)) in
-      let here = none_gone n es (tail_coming n e es sorted (omega (arith, upto))) in
-      let later = none_gone (n + 1) es tail in
-      elim (eq-or-lt_of_le upto) [
-        | inl same ↦
-            let next = gone-is (n + 1) e.0 (omega (arith, same)) in
-            let number : is_number n e.0 ≡ true = subst (λ (k : ℕ). is_number n k ≡ true) same (number-self n) in
-            rw (sides.0, ap is_gt next, number) (ap₂ (λ (k : ℕ) l. (k, e.1) ∷ l) (sym same) later.0 ∙ ap (λ l. l ++ (n, e.1) ∷ []) (sym here.0))
-        | inr less ↦
-            let past = not_gone (n + 1) e.0 (omega (arith, less)) in
-            let differs : is_number n e.0 ≡ false = ap is_eq (sym (nat_cmp_is n e.0 Less less)) in
-            rw (sides.0, past.0, differs) (later.0 ∙ ap₂ (λ x y. x ++ entry_at n y) (sym here.0) (sym (none_under n es tail)))
-      ]
+      let all = none_gone place (e ∷ es) (upto, tail_coming place e es sorted (omega (arith, upto))) in
+      ap₂ (λ x y. numbers_to test x ++ numbers_to test y) all.0 all.1
 ]
 
-gone_keys : (place : ℕ) (es : List (ℕ × Message)) → AllByRecursion (λ k. k < place) (keys_of (gone place es))
-gone_keys place [] = tt
-gone_keys place (e ∷ es) = elim (cases_lt e.0 place) [
-  | inl less ↦ let is = gone-is place e.0 less in rw (ap is_gt is) (less, gone_keys place es)
-  | inr upto ↦ let sides = not_gone place e.0 upto in rw sides.0 (gone_keys place es)
-]
-
-below_more : (n : ℕ) (ks : List ℕ) → AllByRecursion (λ k. k < n) ks → AllByRecursion (λ k. k < n + 1) ks
-below_more n ks all = each-map (λ k. k < n) (λ k. k < n + 1) (λ k less. omega (arith, less)) ks all
-
--- queues of these canisters, with the messages of numbers below this one
-pub record Lined (keys : List (List ℕ)) (es : List (ℕ × Message)) (n : ℕ) (ws : List (List ℕ × List ℕ)) (outside : List ℕ) : Type 0 where
-  pub queued : IsQueued (gone n es) ws outside n
-  pub keys_are : keys_of ws ≡ keys
-
-pub lined-start : (keys : List (List ℕ)) (es : List (ℕ × Message)) (n : ℕ) (ws : List (List ℕ × List ℕ)) (outside : List ℕ) → IsStrictlySortedBy (slice_cmp nat_cmp) keys
-    → ws ≡ empty_lines keys → outside ≡ [] → AllByRecursion (λ k. n ≤ k) (keys_of es) → Lined keys es n ws outside
-lined-start keys es n ws outside rises is_ws none all =
-    let made = new_end keys ws [] outside rises is_ws refl none in
-    record {
-      queued = subst (λ (l : List (ℕ × Message)). IsQueued l ws outside n) (sym (none_gone n es all).0)
-          (record { ordered = made.queued.ordered; below = tt; queues = made.queued.queues; theirs = made.queued.theirs; others = made.queued.others });
-      keys_are = ap (λ (w : Queued). w.canisters) made.queues;
-    }
-
-pub lined-none : (keys : List (List ℕ)) (es : List (ℕ × Message)) (n : ℕ) (ws : List (List ℕ × List ℕ)) (outside : List ℕ) → IsStrictlySortedBy nat_cmp (keys_of es) → lookup (is_number n) es ≡ None
-    → Lined keys es n ws outside → Lined keys es (n + 1) ws outside
-lined-none keys es n ws outside sorted none lined =
-    let same : gone n es ≡ gone (n + 1) es = sym (gone_next n es sorted ∙ ap (λ o. gone n es ++ entry_at n o) none ∙ append-nil (gone n es)) in
-    let is = lined.queued in
-    record {
-      queued = subst (λ (l : List (ℕ × Message)). IsQueued l ws outside (n + 1)) same
-          (record { ordered = is.ordered; below = below_more n (keys_of (gone n es)) is.below; queues = is.queues; theirs = is.theirs; others = is.others });
-      keys_are = lined.keys_are;
-    }
-
-pub lined-some : (keys : List (List ℕ)) (es : List (ℕ × Message)) (n : ℕ) (ws : List (List ℕ × List ℕ)) (outside : List ℕ) (m : Message) (callee : List ℕ) (ws' : List (List ℕ × List ℕ)) (outside' : List ℕ)
-    → IsStrictlySortedBy nat_cmp (keys_of es) → lookup (is_number n) es ≡ Some m → callee ≡ callee_of m
-    → ws' ≡ waiting_with ws callee n (lookup (at callee) ws) → outside' ≡ outside_with outside n (lookup (at callee) ws)
-    → Lined keys es n ws outside → Lined keys es (n + 1) ws' outside'
-lined-some keys es n ws outside m callee ws' outside' sorted found is_callee is_ws is_outside lined =
-    let is = lined.queued in
-    let last : gone (n + 1) es ≡ insert_entry nat_cmp (gone n es) n m =
-    gone_next n es sorted ∙ ap (λ o. gone n es ++ entry_at n o) found ∙ sym (insert_last nat_cmp n m (gone n es) (all_above n (keys_of (gone n es)) is.below)) in
-    let got = push_ends (gone n es) ws outside n m callee (gone (n + 1) es) ws' outside' (n + 1) is is_callee last is_ws is_outside refl in
-    record { queued = got.queued; keys_are = ap (λ (w : Queued). w.canisters) got.queues ∙ lined.keys_are }
-
-pub lined-all : (keys : List (List ℕ)) (es : List (ℕ × Message)) (n next : ℕ) (ws : List (List ℕ × List ℕ)) (outside : List ℕ) → IsStrictlySortedBy nat_cmp (keys_of es) → AllByRecursion (λ k. k < next) (keys_of es) → next ≤ n
-    → Lined keys es n ws outside → IsQueued es ws outside next
-lined-all keys es n next ws outside sorted below upto lined =
-    let all = (all_gone n es (each-map (λ k. k < next) (λ k. k < n) (λ k less. omega (arith, less, upto)) (keys_of es) below)).0 in
-    let is = subst (λ (l : List (ℕ × Message)). IsQueued l ws outside n) all lined.queued in
-    record { ordered = sorted; below = below; queues = is.queues; theirs = is.theirs; others = is.others }
+-- those that were gone past, and those to come, in one list
+pub joined-queues : (es : List (ℕ × Message)) (ws : List (List ℕ × List ℕ)) (outside stay : List ℕ) (next place : ℕ) → IsWalked es ws outside stay next place → IsQueued es ws (stay ++ outside) next
+joined-queues es ws outside stay next place is = record {
+  ordered = is.ordered;
+  below = is.below;
+  queues = is.queues;
+  theirs = is.theirs;
+  others = ap₂ (λ x y. x ++ y) is.stayed is.ahead ∙ whole (is_out (keys_of ws)) place es is.ordered;
+}
 
 numbers_of : (t : ℕ → Bool) (test : List ℕ → Bool) (es : List (ℕ × Message)) → filter t (numbers_to test es) ≡ numbers_to test (filter (λ e. t e.0) es)
 numbers_of t test [] = refl
@@ -572,14 +505,6 @@ parted-walk es ws all outside stay next place is is_ahead is_stay = record {
 }
 
 -- ---- as the code has it
-
-pub way_some : (o : Option Message) (way : List ℕ × List ℕ) → option_map way_of o ≡ Some way → (m : Message) × (o ≡ Some m) × (way.1 ≡ callee_of m)
-way_some None way is = cc
-way_some (Some m) way is = (m, refl, (let same : way ≡ way_of m = cc in ap (λ (w : List ℕ × List ℕ). w.1) same))
-
-pub way_none : (o : Option Message) → option_map way_of o ≡ None → o ≡ None
-way_none None is = refl
-way_none (Some m) is = cc
 
 pub popped-first : (line : List ℕ) (n : ℕ) → slice_get line 0 ≡ Some n → line ≡ n ∷ drop 1 line
 popped-first [] n is = cc

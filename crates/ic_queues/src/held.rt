@@ -8,7 +8,7 @@ ghost use Rattle.ic_queues.specs.Holding.{user_message, add_byte, way_tag};
 use ic_base::NoMemory;
 use ic_calls::{callee, sender};
 use ic_principal::{Bytes, Principal, Text};
-use ic_state::{Message, MessagePlace, Origin};
+use ic_state::{Message, Origin};
 use std::alloc::Global;
 use std::marker::Model;
 
@@ -159,13 +159,6 @@ impl Held {
             Kind::User(_, call) => Box::into_inner(call).into_message(),
             Kind::Other(_, message) => Box::into_inner(message),
         }
-    }
-
-    /// Moves the message to a place of its own.
-    pub fn into_place(self, alloc: Global) -> Result<MessagePlace, NoMemory>
-        ensures { IfOk result (λ p. p ≡ self) }
-    {
-        MessagePlace::new(alloc, self.take())
     }
 
     /// Who sent it.

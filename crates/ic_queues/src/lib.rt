@@ -9,6 +9,7 @@
 mod held;
 mod line;
 mod lists;
+mod moving;
 mod queues;
 mod shelf;
 mod steady;

@@ -2,6 +2,7 @@ ghost use Rattle.std.specs.Prelude.{◌≡◌, ◌<◌, ◌==◌, ◌++◌, ◌�
 ghost use Rattle.std.specs.List.Sorted.{IsStrictlySortedBy};
 ghost use Rattle.std.specs.Ordering.{nat_cmp};
 ghost use Rattle.ic_queues.specs.Lines.{without_number};
+ghost use Rattle.ic_queues.specs.Moving.{starts_below};
 
 use ic_base::NoMemory;
 use std::alloc::Global;
@@ -55,6 +56,25 @@ impl Line {
     {
         if let Ok(place) = self.numbers.binary_search(&number) {
             self.numbers.remove(place);
+        }
+    }
+
+    /// Numbers come after these.
+    pub fn append(&mut self, more: Line) -> Result<(), NoMemory>
+        ensures { OnOk result (self.new ≡ self.old ++ more) }
+    {
+        let Line { numbers: mut more } = more;
+        self.numbers.append(&mut more)?;
+        Ok(())
+    }
+
+    /// Whether the first number is below this one.
+    pub fn starts_below(&self, number: u64) -> bool
+        ensures { result ≡ starts_below number self.now }
+    {
+        match self.numbers.front() {
+            Some(first) => number.cmp(first).is_gt(),
+            None => false,
         }
     }
 

@@ -48,8 +48,8 @@ fn pop_number(waiting: &mut BTreeMap<Principal, Line>, key: &Principal) -> Optio
     }
 }
 
-/// A number comes last in the queue of its callee.
-pub fn line_up(
+// A number comes last in the queue of its callee.
+fn line_up(
     waiting: &mut BTreeMap<Principal, Line>,
     outside: &mut Line,
     callee: &Principal,

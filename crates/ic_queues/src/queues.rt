@@ -22,7 +22,7 @@ use std::marker::Model;
 
 /// The messages under way, with a queue for each canister. What it keeps is said in `specs/Lines`.
 pub struct Queues {
-    lists: Lists,
+    pub(crate) lists: Lists,
 }
 
 // Not derived, so that it is proved here and not in each crate that drops them.
@@ -96,7 +96,7 @@ impl Queues {
     pub fn is_empty(&self) -> bool
         ensures { result ≡ (length self.now.messages == 0) }
     {
-        self.lists.messages.is_empty()
+        self.lists.messages.len() == 0
     }
 
     /// Whether each of these canisters has a queue, and nobody else.
@@ -112,7 +112,7 @@ impl Queues {
         ensures message { IfOk result (λ m. m ≡ first_to key.now self.old) }
     {
         match self.lists.pop(key) {
-            Some(held) => Ok(Some(held.into_place(alloc)?)),
+            Some(held) => Ok(Some(MessagePlace::new(alloc, held.take())?)),
             None => Ok(None),
         }
     }
@@ -164,14 +164,6 @@ impl Queues {
     {
         let Queues { lists } = self;
         Walk::start(alloc, lists)
-    }
-
-    // The queues of these parts.
-    pub fn of(lists: Lists) -> Queues
-        requires { AreQueued lists }
-        ensures { result ≡ queued_of lists }
-    {
-        Queues { lists }
     }
 
     /// The list of the messages.

@@ -1,7 +1,7 @@
 ghost use Rattle.std.specs.Prelude.{◌≡◌, ◌+◌, ◌-◌, ◌++◌, ◌∷◌, ◌==◌, ◌<◌, ◌≤◌, ◌^◌, [], false, true, cond, length, take, slice_get, option_map, IfOk, OnOk};
 ghost use Rattle.std.specs.Option.{option_to_list};
 ghost use Rattle.std.specs.Map.{lookup, remove_entry, keys_of, values_of};
-ghost use Rattle.std.specs.List.{list_any, AllByRecursion};
+ghost use Rattle.std.specs.List.{list_any};
 ghost use Rattle.ic_behaviour.specs.Steps.{same_way};
 ghost use Rattle.ic_queues.specs.Queued.{first_of_way};
 ghost use Rattle.ic_queues.specs.Lines.{is_number};
@@ -106,18 +106,10 @@ fn index_at(places: &VecDeque<Option<Held>>, full: usize, place: usize) -> Optio
 fn way_at(places: &VecDeque<Option<Held>>, place: usize) -> Option<(Principal, Principal)>
     ensures { result ≡ option_map way_of (message_at place places.now.items) }
 {
-    if place < places.len() {
-        way_of(&places[place])
-    } else {
-        None
+    if places.len() <= place {
+        return None;
     }
-}
-
-// The sender and the callee of a message, if there is one.
-fn way_of(place: &Option<Held>) -> Option<(Principal, Principal)>
-    ensures { result ≡ option_map way_of place.now }
-{
-    match place {
+    match &places[place] {
         Some(held) => Some((held.sender(), held.callee())),
         None => None,
     }
@@ -166,14 +158,6 @@ fn count_without(count: usize, message: &Option<Held>) -> usize
         Some(_) => count - 1,
         None => count,
     }
-}
-
-// How many places at the front have a message once one with a message comes after this many.
-fn full_with(full: usize, len: usize) -> usize
-    requires { full < 2 ^ 64 - 1 }
-    ensures { result ≡ cond (full == len) (full + 1) full }
-{
-    if full == len { full + 1 } else { full }
 }
 
 // How many places at the front have a message once this place is empty and the empty ones at the front are gone.
@@ -230,13 +214,6 @@ impl Shelf {
         self.count
     }
 
-    /// Whether there is no message.
-    pub fn is_empty(&self) -> bool
-        ensures { result ≡ (length self.now.entries == 0) }
-    {
-        self.places.is_empty()
-    }
-
     /// Puts a message after the others. Gives its number. After 2^64 messages there is none for one more, which is
     /// told as out of memory.
     pub fn push(&mut self, alloc: Global, message: Message) -> Result<u64, NoMemory>
@@ -248,7 +225,11 @@ impl Shelf {
             return Err(AllocError);
         };
         let place = Held::new(alloc, message)?;
-        let full = full_with(self.full, self.places.len());
+        let full = if self.full == self.places.len() {
+            self.full + 1
+        } else {
+            self.full
+        };
         self.places.push_back(Some(place))?;
         self.full = full;
         self.next = after;
@@ -270,13 +251,6 @@ impl Shelf {
         trim(&mut self.first, &mut self.places);
         self.count = count_without(self.count, &message);
         message
-    }
-
-    /// No message has a lower number.
-    pub fn first(&self) -> u64
-        ensures { AllByRecursion (λ n. result ≤ n) (keys_of self.now.entries) }
-    {
-        self.first
     }
 
     /// The number of the next message.

@@ -1,5 +1,5 @@
 ghost use Rattle.std.specs.Prelude.{◌≡◌, ◌<◌, ◌++◌, ◌∷◌, [], true, false, length, IfOk, OnOk};
-ghost use Rattle.std.specs.List.{list_any, list_all, filter, AllByRecursion};
+ghost use Rattle.std.specs.List.{list_any, list_all, filter};
 ghost use Rattle.std.specs.List.Sorted.{IsStrictlySortedBy};
 ghost use Rattle.std.specs.Ordering.{nat_cmp, is_le, is_gt};
 ghost use Rattle.std.specs.Cmp.Lexicographic.{slice_cmp};
@@ -10,8 +10,9 @@ ghost use Rattle.ic_queues.specs.InLists.{queued_of, AreQueued};
 ghost use Rattle.ic_queues.specs.Walking.{is_of_way};
 
 use crate::line::Line;
-use crate::lists::{Lists, line_up};
-use crate::queues::{Queues, empty_lines, have_queues};
+use crate::lists::Lists;
+use crate::moving::moved;
+use crate::queues::{Queues, have_queues};
 use crate::shelf::Shelf;
 use ic_base::NoMemory;
 use ic_principal::Principal;
@@ -149,7 +150,7 @@ impl Walk {
             place: _,
         } = self;
         lists.outside = stay;
-        Queues::of(lists)
+        Queues { lists }
     }
 
     /// The same walk, where these are the canisters.
@@ -166,38 +167,25 @@ impl Walk {
         }
         let Walk {
             lists,
-            stay: _stay,
+            mut stay,
             place,
         } = self;
+        let Lists {
+            messages,
+            waiting,
+            outside,
+        } = lists;
+        stay.append(outside)?;
+        let lists = Lists {
+            messages,
+            waiting,
+            outside: stay,
+        };
         let ids = canisters.keys().copied().collect(alloc)?;
-        let lists = lined_up(alloc, lists, ids)?;
+        let lists = moved(alloc, lists, ids)?;
         let (lists, stay) = parted(alloc, lists, place)?;
         Ok(Walk { lists, stay, place })
     }
-}
-
-// The messages in queues of these canisters.
-fn lined_up(alloc: Global, lists: Lists, canisters: Vec<Principal>) -> Result<Lists, NoMemory>
-    requires rising { IsStrictlySortedBy (slice_cmp nat_cmp) canisters.items }
-    requires ordered { IsStrictlySortedBy nat_cmp (keys_of lists.messages.entries) }
-    requires below { AllByRecursion (λ n. n < lists.messages.next) (keys_of lists.messages.entries) }
-    ensures keeps { IfOk result AreQueued }
-    ensures messages { IfOk result (λ l. l.messages ≡ lists.messages) }
-    ensures canisters { IfOk result (λ l. keys_of l.waiting.entries ≡ canisters.items) }
-{
-    let Lists { messages, .. } = lists;
-    let mut waiting = empty_lines(alloc, canisters)?;
-    let mut outside = Line::new(alloc);
-    for number in messages.first()..messages.next() {
-        if let Some(way) = messages.way(number) {
-            line_up(&mut waiting, &mut outside, &way.1, number)?;
-        }
-    }
-    Ok(Lists {
-        messages,
-        waiting,
-        outside,
-    })
 }
 
 // A number from this place on comes into the first list, and one below it into the second.
