@@ -43,9 +43,16 @@ doubled = flat_map doubled_byte
 unfoldable pub key_text : (key text : List ℕ) → List ℕ
 key_text key text = codes "  " ++ key ++ codes ": '" ++ doubled text ++ codes "'" ++ newline
 
--- an entry of a list
+-- a text in one line
+abbrev pub inside_line : ℕ → List ℕ
+inside_line byte = if byte == 10 then [] else byte ∷ []
+
+abbrev pub one_line : List ℕ → List ℕ
+one_line = flat_map inside_line
+
+-- an entry of a list: a text in one line, in single quotes
 unfoldable pub entry_line : (entry : List ℕ) → List ℕ
-entry_line entry = codes "    - '" ++ doubled entry ++ codes "'" ++ newline
+entry_line entry = codes "    - '" ++ doubled (one_line entry) ++ codes "'" ++ newline
 
 abbrev pub entries_text : (entries : List (List ℕ)) → List ℕ
 entries_text = flat_map entry_line
@@ -72,13 +79,7 @@ unfoldable pub undecided_text : (at : List ℕ) → (states : ℕ) → List ℕ
 undecided_text at states =
     codes "  ---" ++ newline ++ key_text (codes "at") at ++ key_text (codes "undecided") (codes "more than " ++ decimal states ++ codes " states") ++ codes "  ..." ++ newline
 
--- a comment: a text in one line
-abbrev pub inside_line : ℕ → List ℕ
-inside_line byte = if byte == 10 then [] else byte ∷ []
-
-abbrev pub one_line : List ℕ → List ℕ
-one_line = flat_map inside_line
-
+-- a comment, in one line
 unfoldable pub comment_line : (comment : List ℕ) → List ℕ
 comment_line comment = codes "# " ++ one_line comment ++ newline
 

@@ -184,13 +184,33 @@ fn push_line(key: &str, text: &[u8], out: &mut Vec<u8>) -> Result<(), NoMemory>
     Ok(())
 }
 
+// Adds a byte of an entry, if it ends no line.
+fn push_entry_byte(byte: u8, out: &mut Vec<u8>) -> Result<(), NoMemory>
+    ensures { OnOk result (out.new.items ≡ out.old.items ++ doubled (inside_line byte)) }
+{
+    match byte {
+        b'\n' => Ok(()),
+        other => push_byte(other, out),
+    }
+}
+
+// Adds the text of an entry.
+fn push_entry_text(text: &[u8], out: &mut Vec<u8>) -> Result<(), NoMemory>
+    ensures { OnOk result (out.new.items ≡ out.old.items ++ doubled (one_line text.now)) }
+{
+    for byte in text {
+        push_entry_byte(*byte, out)?;
+    }
+    Ok(())
+}
+
 // Adds an entry of a list.
 #[tactic(auto, unfolding(crate::specs::Texts::entry_line))]
 fn push_entry(entry: &Bytes, out: &mut Vec<u8>) -> Result<(), NoMemory>
     ensures { OnOk result (out.new.items ≡ out.old.items ++ entry_line entry.now) }
 {
     out.extend_from_slice(b"    - '")?;
-    push_doubled(&entry.items, out)?;
+    push_entry_text(&entry.items, out)?;
     out.extend_from_slice(b"'\n")?;
     Ok(())
 }

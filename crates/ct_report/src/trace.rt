@@ -10,7 +10,7 @@ use crate::tap::push_comments;
 use ct_file::{Span, position_of};
 use ct_orders::{Retold, Traced, TracedStatement};
 use ct_outcomes::Named;
-use ct_script::{Trace, written};
+use ct_script::{Trace, shown};
 use ic_base::NoMemory;
 use ic_principal::Bytes;
 use std::alloc::Global;
@@ -29,15 +29,15 @@ fn push_indented(
 }
 
 impl<'t> TestFile<'t> {
-    /// A statement in one line, after the number of its line.
+    /// A statement in one line, cut after 200 characters, after the number of its line.
     pub fn statement_text(&self, alloc: Global, span: Span) -> Result<Vec<u8>, NoMemory> {
         let line = position_of(self.text, span.start.min(self.text.len())).line;
         let mut items = format!(in alloc; "{line}: ")?.into_bytes();
-        items.extend_from_slice(&written(alloc, self.text, span)?.items)?;
+        items.extend_from_slice(&shown(alloc, self.text, span)?.items)?;
         Ok(items)
     }
 
-    // A delivery, and the instructions that it used.
+    // A delivery, the instructions that it used, and the cycles that it burned.
     fn delivery(
         &self,
         alloc: Global,
@@ -48,6 +48,11 @@ impl<'t> TestFile<'t> {
         let used = traced.used;
         if used > 0 {
             let told = format!(in alloc; ", {used} instructions")?;
+            text.items.extend_from_slice(told.as_bytes())?;
+        }
+        let burned = traced.burned;
+        if burned > 0 {
+            let told = format!(in alloc; ", {burned} cycles burned")?;
             text.items.extend_from_slice(told.as_bytes())?;
         }
         Ok(text)
