@@ -83,11 +83,25 @@ impl<'i, R: Threads + Sync, G: Gate + Sync> Session<'i, R, G> {
         retell_traced(&tester, preamble, chosen.test, way, tells_statements)
     }
 
+    // How a test came to its end, where that is told: of one that failed, and of each that is traced.
+    fn retold_of(
+        &self,
+        chosen: &Chosen<'_, 'i, '_>,
+        ended: &Ended<'i>,
+    ) -> Result<Retold<'i>, NoMemory> {
+        let traces = self.limits.trace;
+        match &ended.verdict {
+            Verdict::Passed | Verdict::Undecided(_) if !traces => Ok(Retold::nothing(self.alloc)),
+            _ => self.retold(chosen, &ended.way, traces),
+        }
+    }
+
     // Says what came of a test that ended so.
     fn verdict_of(
         &self,
         chosen: &Chosen<'_, 'i, '_>,
         ended: &Ended<'i>,
+        told: &Retold<'i>,
         counts: &mut Counts,
     ) -> Result<Bytes, NoMemory>
         requires { HasEnded self.now.limits chosen.now ended.now }
@@ -105,8 +119,7 @@ impl<'i, R: Threads + Sync, G: Gate + Sync> Session<'i, R, G> {
             }
             Verdict::Failed(not_met) => {
                 counts.fail()?;
-                let told = self.retold(chosen, &ended.way, false)?;
-                file.not_passed(alloc, number, name, not_met, &told)
+                file.not_passed(alloc, number, name, not_met, told)
             }
             Verdict::Undecided(first) => {
                 counts.leave()?;
@@ -115,8 +128,8 @@ impl<'i, R: Threads + Sync, G: Gate + Sync> Session<'i, R, G> {
         }
     }
 
-    // What a test did on a way, as comments, where that is wanted.
-    fn comments(&self, chosen: &Chosen<'_, 'i, '_>, way: &Way) -> Result<Bytes, NoMemory>
+    // What a test did, as comments, where that is wanted.
+    fn comments(&self, chosen: &Chosen<'_, 'i, '_>, told: &Retold<'i>) -> Result<Bytes, NoMemory>
         ensures { IfOk result (λ told. (comments : List (List ℕ)) × (self.now.limits.trace ≡ false → comments ≡ []) × (told ≡ comments_text comments)) }
     {
         if !self.limits.trace {
@@ -125,8 +138,7 @@ impl<'i, R: Threads + Sync, G: Gate + Sync> Session<'i, R, G> {
             });
         }
         let suite = chosen.suite;
-        let told = self.retold(chosen, way, true)?;
-        let text = suite.test_file().traced(self.alloc, &told)?;
+        let text = suite.test_file().traced(self.alloc, told)?;
         Ok(text)
     }
 
@@ -140,8 +152,9 @@ impl<'i, R: Threads + Sync, G: Gate + Sync> Session<'i, R, G> {
         requires { HasEnded self.now.limits chosen.now ended.now }
         ensures { IfOk result (λ told. TellsTest self.now.limits chosen.now counts.old told counts.new) }
     {
-        let mut text = self.verdict_of(chosen, ended, counts)?;
-        let comments = self.comments(chosen, &ended.way)?;
+        let told = self.retold_of(chosen, ended)?;
+        let mut text = self.verdict_of(chosen, ended, &told, counts)?;
+        let comments = self.comments(chosen, &told)?;
         text.items.extend_from_slice(&comments.items)?;
         Ok(text)
     }
