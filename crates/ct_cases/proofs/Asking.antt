@@ -1,9 +1,7 @@
 -- What moves ask: a query asks no call, and a call no query; and of two states that are the same the same comes.
-use Rattle.std.proofs.Common.{◌≡◌, ℕ, Bool, true, false, List, [], ◌∷◌, Option, Some, None, refl, sym, ap, ap₂, ◌∙◌, subst, inl, inr}
+use Rattle.std.proofs.Common.{◌≡◌, ℕ, Bool, true, false, List, [], ◌∷◌, Option, Some, None, refl, ap, ◌∙◌, subst, inl, inr}
 use Rattle.std.specs.Prelude.{if◌then◌else◌, length, nat_lt}
 use Rattle.std.specs.Map.{lookup}
-use Rattle.ic_behaviour.specs.declared.charge.Charge.{Charge}
-use Rattle.ic_behaviour.specs.declared.call.Response.{Response}
 use Rattle.ic_behaviour.specs.declared.install.Mode.TheVariants.{Reinstall, Upgrade}
 use Rattle.ic_behaviour.specs.State.{at, Canister, State}
 use Rattle.ic_behaviour.specs.Counted.{CountedCanister, counted}
@@ -26,7 +24,7 @@ use Rattle.ct_asked.specs.declared.asked.Asked.TheVariants.{Call, Query, Nothing
 use Rattle.ct_asked.specs.Asked.{Asks, AsksBy, IsAsked, IsMessage, IsChange, most_bytes}
 use Rattle.ct_run.specs.Called.{came_of, doing}
 use Rattle.ct_run.specs.Statements.{Setting, IsMoveMet}
-use Rattle.ct_cases.specs.Interleaves.{is_query, IsAnswered, QueryIsMet, QueriesAreMet, Choose}
+use Rattle.ct_cases.specs.Interleaves.{is_query, IsAnswered, QueriesAreMet, Choose}
 
 -- ---- one or the other
 

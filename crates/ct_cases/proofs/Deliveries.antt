@@ -1,12 +1,12 @@
 -- Deliveries in any order that is allowed are orders of the search.
-use Rattle.std.proofs.Common.{◌≡◌, ℕ, List, [], ◌∷◌, refl, sym, ap, ◌∙◌, subst}
+use Rattle.std.proofs.Common.{◌≡◌, ℕ, List, [], ◌∷◌, refl, sym, ap}
 use Rattle.ic_behaviour.specs.State.{State}
 use Rattle.ic_behaviour.specs.Steps.{step}
 use Rattle.ic_order.proofs.Places.{listed, only}
 use Rattle.ct_run.specs.Called.{rules_of}
 use Rattle.ct_run.specs.Statements.{Setting}
 use Rattle.ct_search.specs.Meaning.{along, IsAllowed}
-use Rattle.ct_worlds.specs.Worlds.{Named, worlds}
+use Rattle.ct_worlds.specs.Worlds.{worlds}
 use Rattle.ct_cases.specs.Interleaves.{Deliver}
 
 module _ (setting : Setting) where

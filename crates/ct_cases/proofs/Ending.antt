@@ -1,8 +1,8 @@
 -- What an interleave comes to: it leads on, or a move cannot be submitted, or one is not met.
-use Rattle.std.proofs.Common.{◌≡◌, ◌⊎◌, ℕ, Bool, true, false, List, [], ◌∷◌, map, Option, Some, None, refl, sym, ap, ◌∙◌, subst, inl, inr}
+use Rattle.std.proofs.Common.{◌≡◌, ℕ, Bool, true, List, [], Option, Some, None, refl, sym, subst, inl, inr}
 use Rattle.std.specs.Prelude.{Result, Ok, Err, All, IfOk, OnOk}
 use Rattle.std.specs.Bool.{OnTrue, OnFalse}
-use Rattle.std.specs.List.{Any, AllByRecursion}
+use Rattle.std.specs.List.{Any}
 use Rattle.ic_behaviour.specs.State.{State}
 use Rattle.ct_check.specs.Moving.{Moving}
 use Rattle.ct_run.specs.Statements.{Setting}
@@ -11,7 +11,7 @@ use Rattle.ct_search.specs.declared.case.Case.{Case as Met}
 use Rattle.ct_search.specs.Visits.{IsVisit, IsComplete, IsMore}
 use Rattle.ct_search.specs.Search.{all_seen}
 use Rattle.ct_worlds.specs.declared.worlds.NamedWorld.{NamedWorld}
-use Rattle.ct_worlds.specs.Worlds.{worlds, IsKeptNamed, named_at}
+use Rattle.ct_worlds.specs.Worlds.{worlds, named_at}
 use Rattle.ct_cases.specs.declared.case.Case.{Case}
 use Rattle.ct_cases.specs.declared.case.Tables.{Tables}
 use Rattle.ct_cases.specs.declared.interleaving.Interleaved.{Interleaved}

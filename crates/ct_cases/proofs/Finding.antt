@@ -1,5 +1,5 @@
 -- Cases that are met are judged, one after another.
-use Rattle.std.proofs.Common.{◌≡◌, ℕ, ◌+◌, ◌<◌, ◌≤◌, List, [], ◌∷◌, ◌++◌, length, take, drop, map, Option, Some, None, refl, sym, ap, ap₂, ◌∙◌, subst, arith}
+use Rattle.std.proofs.Common.{◌≡◌, ℕ, ◌<◌, ◌≤◌, List, [], ◌∷◌, ◌++◌, length, take, drop, Option, Some, None, refl, sym, ◌∙◌, subst, arith}
 use Rattle.std.specs.Prelude.{All}
 use Rattle.std.specs.List.{Any}
 use Rattle.std.proofs.lemmas.List.{map-append, length-take, length-take-le, take_all, take-append-drop}
@@ -18,7 +18,7 @@ use Rattle.ct_cases.specs.declared.failing.Failing.{Failing}
 use Rattle.ct_cases.specs.Reached.{Reached}
 use Rattle.ct_cases.specs.Interleaves.{QueriesAreMet, CallsAreMet}
 use Rattle.ct_cases.specs.Holding.{IsRefuted}
-use Rattle.ct_cases.specs.Cases.{Grows, IsHeld, AreHeld, reached, all_reached, Stage, stage, all_stages, IsMetBehind, IsEndOf, HoldsIn, FrontHolds, IsRefutedIn, AreJudged}
+use Rattle.ct_cases.specs.Cases.{Grows, IsHeld, reached, all_reached, Stage, stage, all_stages, IsMetBehind, IsEndOf, HoldsIn, FrontHolds, IsRefutedIn, AreJudged}
 use Rattle.ct_cases.specs.Answers.{IsFound, AddsFound, AreFoundTo, AreFound}
 use Rattle.ct_cases.proofs.Lists.{all_as, all_none, rec_push, take_front}
 use Rattle.ct_cases.proofs.Moves.{queries_front, calls_front}

@@ -1,7 +1,6 @@
 -- Cases that go on, one after another.
 use Rattle.std.proofs.Common.{◌≡◌, ℕ, zero, suc, List, [], ◌∷◌, ◌++◌, length, Option, Some, refl, sym, ap, ◌∙◌, subst, append_assoc}
 use Rattle.std.specs.Prelude.{slice_get}
-use Rattle.std.specs.List.{Any, AllByRecursion}
 use Rattle.ic_behaviour.specs.State.{State}
 use Rattle.ct_check.specs.Moving.{Moving}
 use Rattle.ct_check.specs.declared.checked.CheckedKind.{CheckedKind}
@@ -9,7 +8,7 @@ use Rattle.ct_outcomes.specs.declared.came.Came.{Came}
 use Rattle.ct_outcomes.specs.declared.named.Named.{Named}
 use Rattle.ct_run.specs.Statements.{Setting}
 use Rattle.ct_cases.specs.declared.case.Tables.{Tables}
-use Rattle.ct_cases.specs.Meanings.{Meaning, meaning_at}
+use Rattle.ct_cases.specs.Meanings.{Meaning}
 use Rattle.ct_cases.specs.Reached.{Reached, IsBegun}
 use Rattle.ct_cases.specs.Interleaves.{AreSubmitted}
 use Rattle.ct_cases.specs.Holding.{IsStuck, IsRefuted}

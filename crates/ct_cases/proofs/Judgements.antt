@@ -1,12 +1,10 @@
 -- Moves that are judged: queries in each state, calls where no message is left.
-use Rattle.std.proofs.Common.{◌≡◌, ℕ, ◌+◌, ◌<◌, ◌≤◌, Bool, true, false, List, [], ◌∷◌, ◌++◌, length, take, drop, get_or, Option, Some, None, refl, sym, ap, ◌∙◌, subst, append-nil, arith}
+use Rattle.std.proofs.Common.{◌≡◌, ℕ, ◌+◌, ◌<◌, ◌≤◌, true, false, List, [], ◌∷◌, ◌++◌, length, take, drop, get_or, Option, Some, None, refl, sym, ap, ◌∙◌, subst, append-nil, arith}
 use Rattle.std.specs.Prelude.{Result, Ok, Err, IfOk, option_map, slice_get}
 use Rattle.std.specs.List.{list_any}
 use Rattle.std.proofs.lemmas.List.{take_all}
 use Rattle.std.proofs.Math.Seq.{take-length, take-append_seam, drop-append_seam}
 use Rattle.ic_behaviour.specs.State.{State}
-use Rattle.ic_behaviour.specs.Runs.{Act}
-use Rattle.ic_keep.specs.Kept.{state_at}
 use Rattle.ct_check.specs.Moving.{Moving}
 use Rattle.ct_check.specs.declared.checked.CheckedKind.TheVariants.{Move}
 use Rattle.ct_check.specs.declared.checked.CheckedOutcome.{CheckedOutcome}
@@ -29,9 +27,9 @@ use Rattle.ct_cases.specs.declared.judging.Refuted.{Refuted}
 use Rattle.ct_cases.specs.declared.failing.Failing.{Failing}
 use Rattle.ct_cases.specs.Meanings.{Meaning}
 use Rattle.ct_cases.specs.Reached.{Reached}
-use Rattle.ct_cases.specs.Cases.{Grows, Stage, stage, IsMetBehind}
-use Rattle.ct_cases.specs.Interleaves.{is_query, Choose, IsAnswered, IsEnd, QueryIsMet, CallIsMet, QueriesAreMet, CallsAreMet, came_under}
-use Rattle.ct_cases.specs.Holding.{IsQueryUnmet, IsCallUnmet, IsMoveUnmet, IsRefuted}
+use Rattle.ct_cases.specs.Cases.{Grows, stage, IsMetBehind}
+use Rattle.ct_cases.specs.Interleaves.{is_query, IsAnswered, IsEnd, QueriesAreMet, CallsAreMet, came_under}
+use Rattle.ct_cases.specs.Holding.{IsQueryUnmet, IsCallUnmet, IsRefuted}
 use Rattle.ct_cases.specs.Answers.{IsQueryJudged, IsCallJudged, IsMoveJudged, FrontIsMet, AreMovesJudged, IsStageJudged, IsLeft, IsFound}
 use Rattle.ct_cases.proofs.Asking.{chosen_true, chosen_false, no_call}
 use Rattle.ct_cases.proofs.Lists.{take_one, take_some, get_some}

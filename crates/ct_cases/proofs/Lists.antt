@@ -1,9 +1,8 @@
 -- Lists of which some element passes, and lists with one element more.
-use Rattle.std.proofs.Common.{◌≡◌, ℕ, ◌<◌, ◌≤◌, zero, suc, ◌+◌, List, [], ◌∷◌, ◌++◌, length, take, drop, get_or, map, Option, Some, None, refl, sym, ap, ◌∙◌, subst, drop-cons, arith}
+use Rattle.std.proofs.Common.{◌≡◌, ℕ, ◌<◌, ◌≤◌, zero, suc, ◌+◌, List, [], ◌∷◌, ◌++◌, length, take, drop, get_or, Some, refl, sym, ap, ◌∙◌, subst, drop-cons, arith}
 use Rattle.std.specs.Prelude.{All, slice_get}
 use Rattle.std.specs.List.{Any, AllByRecursion}
 use Rattle.std.proofs.Math.Seq.{take-suc, take-append_seam}
-use Rattle.ct_search.proofs.Lists.{any_at, any_longer}
 
 module _ {X : Type 0} (P : X → Type 0) where
   pub any_first : (x : X) (xs : List X) → P x → Any P (x ∷ xs)

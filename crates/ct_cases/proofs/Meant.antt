@@ -1,5 +1,5 @@
 -- Meanings that are the same.
-use Rattle.std.proofs.Common.{◌≡◌, ℕ, ◌<◌, ◌≤◌, ◌+◌, Bool, true, List, length, get_or, Option, Some, None, refl, sym, ap, ap₂, ◌∙◌, true≢false, arith, inl, inr}
+use Rattle.std.proofs.Common.{◌≡◌, ℕ, ◌<◌, ◌+◌, Bool, List, length, get_or, Option, Some, None, refl, sym, ap, ap₂, ◌∙◌, true≢false, arith, inl, inr}
 use Rattle.std.specs.Prelude.{nat_eq, nat_lt, IsTrue, ◌↔◌}
 use Rattle.std.specs.Bool.{Decides}
 use Rattle.std.specs.Option.{option_eq}

@@ -1,16 +1,14 @@
 -- Moves of an interleave, one after another: what is submitted and what is met, with one move more; and that it is so in one way.
-use Rattle.std.proofs.Common.{◌≡◌, ◌||◌, ℕ, zero, suc, Bool, true, false, List, [], ◌∷◌, ◌++◌, length, take, Option, Some, None, refl, sym, ap, ap₂, ◌∙◌, subst, append_assoc, arith}
+use Rattle.std.proofs.Common.{◌≡◌, ◌||◌, ℕ, zero, suc, Bool, true, false, List, [], ◌∷◌, ◌++◌, length, take, Option, Some, None, refl, sym, ap, ap₂, ◌∙◌, subst, append_assoc}
 use Rattle.std.specs.List.{list_any}
 use Rattle.std.proofs.lemmas.Bool.{true≢false}
 use Rattle.std.proofs.lemmas.List.{append-nil}
 use Rattle.ic_behaviour.specs.State.{State}
-use Rattle.ic_script.specs.declared.Ask.{Ask}
 use Rattle.ct_check.specs.Moving.{Moving}
 use Rattle.ct_check.specs.declared.checked.CheckedOutcome.{CheckedOutcome}
 use Rattle.ct_outcomes.specs.declared.named.Named.{Named}
 use Rattle.ct_outcomes.specs.declared.came.Came.{Came}
 use Rattle.ct_outcomes.specs.Types.{Types}
-use Rattle.ct_asked.specs.declared.asked.Asked.{Asked}
 use Rattle.ct_asked.specs.declared.asked.Asked.TheVariants.{Call}
 use Rattle.ct_asked.proofs.Once.{move_once}
 use Rattle.ct_run.specs.Called.{if_accepted}

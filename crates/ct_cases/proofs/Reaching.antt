@@ -1,8 +1,8 @@
 -- An interleave: what is met after the starts of cases is what every way through it comes to.
-use Rattle.std.proofs.Common.{◌≡◌, ◌⊎◌, ℕ, zero, suc, ◌+◌, ◌<◌, ◌≤◌, Bool, true, false, List, [], ◌∷◌, ◌++◌, length, take, get_or, map, Option, Some, None, refl, sym, ap, ◌∙◌, subst, inl, inr, arith}
+use Rattle.std.proofs.Common.{◌≡◌, ℕ, zero, suc, ◌+◌, ◌<◌, ◌≤◌, Bool, true, false, List, [], ◌∷◌, ◌++◌, length, take, Option, Some, refl, sym, ap, ◌∙◌, subst, arith}
 use Rattle.std.specs.Prelude.{All, slice_get}
 use Rattle.std.specs.Bool.{OnTrue, OnFalse}
-use Rattle.std.specs.List.{Any, AllByRecursion}
+use Rattle.std.specs.List.{Any}
 use Rattle.std.proofs.lemmas.List.{take_all}
 use Rattle.ic_base.proofs.Steps.{some_is}
 use Rattle.ic_behaviour.specs.State.{State}
@@ -25,7 +25,7 @@ use Rattle.ct_cases.specs.Interleaves.{AreSubmitted, Deliver, IsOnWay, IsEnd, Qu
 use Rattle.ct_cases.specs.Meanings.{Meaning, AreApart, meaning_at}
 use Rattle.ct_cases.specs.Reached.{Reached, IsBegun}
 use Rattle.ct_cases.specs.Holding.{IsRefuted}
-use Rattle.ct_cases.specs.Cases.{AreBegun, IsRefutedFrom, HoldsToFrom, IsBehind, HasCase, HoldsFrom, HasMore, Leads, Stage, stage, all_stages, order_at, order_of, reached, all_reached, IsEndOf, HoldsIn, FrontHolds, IsRefutedIn, AreJudged, AreMetBehind}
+use Rattle.ct_cases.specs.Cases.{AreBegun, IsRefutedFrom, HoldsToFrom, IsBehind, HasCase, HoldsFrom, HasMore, Leads, Stage, stage, all_stages, order_at, reached, all_reached, IsEndOf, HoldsIn, FrontHolds, IsRefutedIn, AreJudged, AreMetBehind}
 use Rattle.ct_cases.proofs.Asking.{queries_alike}
 use Rattle.ct_cases.proofs.Deliveries.{delivered, delivers}
 use Rattle.ct_cases.proofs.Lists.{any_first, any_later, any_split, any_as, all_as, all_first, all_later, all_none, all_cons, none_of, found}

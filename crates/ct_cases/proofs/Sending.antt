@@ -1,5 +1,5 @@
 -- Moves that are submitted, and the first that cannot be.
-use Rattle.std.proofs.Common.{◌≡◌, ℕ, suc, ◌+◌, ◌<◌, ◌≤◌, Bool, true, false, List, [], ◌∷◌, ◌++◌, length, take, drop, get_or, Option, Some, None, refl, sym, ap, ◌∙◌, subst, inl, inr, arith}
+use Rattle.std.proofs.Common.{◌≡◌, ℕ, suc, ◌+◌, ◌<◌, true, false, List, [], ◌∷◌, ◌++◌, length, take, drop, get_or, Option, None, refl, sym, subst, inl, inr, arith}
 use Rattle.std.specs.Prelude.{Result, Ok, Err, IfOk}
 use Rattle.std.proofs.lemmas.List.{length-take-le}
 use Rattle.ic_behaviour.specs.State.{State}
@@ -7,15 +7,15 @@ use Rattle.ic_script.specs.declared.Ask.{Ask}
 use Rattle.ct_check.specs.Moving.{Moving}
 use Rattle.ct_outcomes.specs.declared.named.Named.{Named}
 use Rattle.ct_outcomes.specs.declared.came.Came.{Came}
-use Rattle.ct_asked.specs.declared.asked.Asked.TheVariants.{Call, Query, Nothing}
+use Rattle.ct_asked.specs.declared.asked.Asked.TheVariants.{Call, Nothing}
 use Rattle.ct_asked.specs.Asked.{IsAsked}
 use Rattle.ct_run.specs.Statements.{Setting}
 use Rattle.ct_cases.specs.declared.submitting.Sent.{Sent}
 use Rattle.ct_cases.specs.declared.submitting.Sent.TheVariants.{As, Not}
 use Rattle.ct_cases.specs.Interleaves.{is_query, IsCallSubmitted, IsCallUnsent, IsSubmitted, AreSubmitted, IsUnsent}
 use Rattle.ct_cases.specs.Holding.{IsStuck}
-use Rattle.ct_cases.specs.Answers.{IsCallSent, IsSent, AreSent}
-use Rattle.ct_cases.proofs.Asking.{chosen_true, chosen_false, no_query}
+use Rattle.ct_cases.specs.Answers.{IsCallSent, IsSent}
+use Rattle.ct_cases.proofs.Asking.{chosen_true, chosen_false}
 use Rattle.ct_cases.proofs.Lists.{cut_at, take_one}
 use Rattle.ct_cases.proofs.Moves.{submitted_more}
 

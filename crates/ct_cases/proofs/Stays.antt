@@ -3,7 +3,7 @@ use Rattle.std.proofs.Common.{◌≡◌, ℕ, ◌<◌, ◌≤◌, ◌++◌, List
 use Rattle.std.specs.List.{AllByRecursion}
 use Rattle.std.proofs.lemmas.List.{append-nil, get_or_append_left, length-append}
 use Rattle.ic_behaviour.specs.State.{State}
-use Rattle.ic_keep.specs.Kept.{KeptState, state_at}
+use Rattle.ic_keep.specs.Kept.{state_at}
 use Rattle.ic_keep.specs.IsKept.{IsKept}
 use Rattle.ic_keep.specs.IsKept as kept
 use Rattle.ic_keep.proofs.Stays.{kept_stays}
@@ -15,7 +15,7 @@ use Rattle.ct_cases.specs.declared.case.Case.{Case}
 use Rattle.ct_cases.specs.declared.case.Tables.{Tables}
 use Rattle.ct_cases.specs.Meanings.{Meaning, meaning_at}
 use Rattle.ct_cases.specs.Reached.{Reached}
-use Rattle.ct_cases.specs.Cases.{IsHeld, AreHeld, Grows, reached, all_reached, Stage, stage, all_stages, order_at, IsMetBehind, AreMetBehind}
+use Rattle.ct_cases.specs.Cases.{IsHeld, AreHeld, Grows, reached, all_reached, Stage, stage, order_at, IsMetBehind, AreMetBehind}
 
 pub grows_not : (t : Tables) → Grows t t
 grows_not t = record { kept = λ k is. (is, refl); meanings = ([], sym (append-nil t.meanings)) }

@@ -9,22 +9,17 @@ use Rattle.ct_search.specs.declared.case.Case.{Case as Met}
 use Rattle.ic_script.specs.declared.Ask.{Ask}
 use Rattle.ct_check.specs.Moving.{Moving}
 use Rattle.ct_check.specs.declared.checked.CheckedKind.{CheckedKind}
-use Rattle.ct_check.specs.declared.checked.CheckedStep.{CheckedStep}
 use Rattle.ct_outcomes.specs.declared.named.Named.{Named}
 use Rattle.ct_outcomes.specs.declared.came.Came.{Came}
 use Rattle.ct_outcomes.specs.declared.came.Came.TheVariants.{TooManyCalls}
 use Rattle.ct_run.specs.Called.{most_calls, if_accepted}
 use Rattle.ct_run.specs.Statements.{Setting, IsMoveMet}
-use Rattle.ct_run.specs.declared.verdict.Unmet.{Unmet}
 use Rattle.ct_worlds.specs.declared.worlds.NamedWorld.{NamedWorld}
 use Rattle.ct_worlds.specs.Worlds.{IsKeptNamed, named_at}
 use Rattle.ct_cases.specs.declared.case.Case.{Case}
 use Rattle.ct_cases.specs.declared.case.Tables.{Tables}
-use Rattle.ct_cases.specs.declared.interleaving.Interleaved.{Interleaved}
-use Rattle.ct_cases.specs.declared.interleaving.Started.{Started}
 use Rattle.ct_cases.specs.declared.judging.Found.{Found}
 use Rattle.ct_cases.specs.declared.judging.Found.TheVariants.{Passed, End, Unmet as NotMet}
-use Rattle.ct_cases.specs.declared.judging.Judged.{Judged}
 use Rattle.ct_cases.specs.declared.judging.Refuted.{Refuted}
 use Rattle.ct_cases.specs.declared.statement.Goes.{Goes}
 use Rattle.ct_cases.specs.declared.statement.Goes.TheVariants as goes
@@ -32,12 +27,11 @@ use Rattle.ct_cases.specs.declared.statement.Going.{Going}
 use Rattle.ct_cases.specs.declared.statement.Going.TheVariants as going
 use Rattle.ct_cases.specs.declared.submitting.Sent.{Sent}
 use Rattle.ct_cases.specs.declared.submitting.Sent.TheVariants.{As, Not}
-use Rattle.ct_cases.specs.declared.submitting.Submitted.{Submitted}
 use Rattle.ct_cases.specs.declared.submitting.Unsent.{Unsent}
 use Rattle.ct_cases.specs.declared.failing.Failing.{Failing}
 use Rattle.ct_cases.specs.Interleaves.{IsSubmitted, AreSubmitted, IsUnsent, IsEnd, IsAnswered, came_under, QueryIsMet, QueriesAreMet, CallIsMet, CallsAreMet}
 use Rattle.ct_cases.specs.Meanings.{Meaning}
-use Rattle.ct_cases.specs.Reached.{Reached, IsBegun}
+use Rattle.ct_cases.specs.Reached.{IsBegun}
 use Rattle.ct_cases.specs.Holding.{IsStuck, IsQueryUnmet, IsCallUnmet, IsMoveUnmet, IsRefuted}
 use Rattle.ct_cases.specs.Cases.{IsHeld, AreHeld, reached, all_reached, IsAfter, AreAfter, IsUnmetIn, AreBegun, Begins, IsStuckIn, IsRefutedFrom, HoldsToFrom, HasMore, Leads, order_at, Stage, IsEndOf, FrontHolds, IsRefutedIn, AreJudged}
 

@@ -1,6 +1,6 @@
 -- What an interleave does in a case: its moves are submitted, and messages are delivered in any order that the specification
 -- allows (IC Interface Specification, "Ordering guarantees"); its queries may be asked in any state on the way.
-use Rattle.std.specs.Prelude.{◌≡◌, ◌⊎◌, ◌<◌, ◌++◌, ℕ, Bool, true, false, List, [], ◌∷◌, length, All, Option, Some, None}
+use Rattle.std.specs.Prelude.{◌≡◌, ◌⊎◌, ◌<◌, ◌++◌, ℕ, Bool, true, false, List, [], ◌∷◌, length, Option, Some, None}
 use Rattle.ic_behaviour.specs.State.{State}
 use Rattle.ic_behaviour.specs.Steps.{step}
 use Rattle.ic_script.specs.declared.Ask.{Ask}

@@ -15,20 +15,20 @@ use Rattle.ct_check.specs.declared.checked.CheckedStep.TheVariants.{Statement, I
 use Rattle.ct_outcomes.specs.declared.named.Named.{Named}
 use Rattle.ct_outcomes.specs.declared.came.Came.{Came as What}
 use Rattle.ct_run.specs.Called.{after_acts}
-use Rattle.ct_run.specs.Statements.{Setting, IsMet, IsUnmet, first_names}
+use Rattle.ct_run.specs.Statements.{Setting, IsMet, first_names}
 use Rattle.ct_run.specs.Runs.{Runs, Stops}
 use Rattle.ct_run.proofs.One.{MeetsOnce, met_once}
-use Rattle.ct_cases.specs.Interleaves.{IsOnWay, IsEnd, CallsAreMet}
+use Rattle.ct_cases.specs.Interleaves.{IsOnWay, CallsAreMet}
 use Rattle.ct_cases.specs.Meanings.{Meaning}
-use Rattle.ct_cases.specs.Reached.{Reached, IsBegun}
+use Rattle.ct_cases.specs.Reached.{Reached}
 use Rattle.ct_orders.specs.Ways.{Comes, begins, states, leaves}
-use Rattle.ct_cases.specs.Holding.{CanBegin, EndsWithin, HoldsTo}
-use Rattle.ct_orders.specs.Verdicts.{OnEachWayTo, AllHolds, Holds, HoldsBefore, IsAt, Passes, Fails, FailsFirst, IsStart, HasTooMany}
+use Rattle.ct_cases.specs.Holding.{CanBegin, HoldsTo}
+use Rattle.ct_orders.specs.Verdicts.{OnEachWayTo, AllHolds, Holds, HoldsBefore, IsAt, Passes, Fails, FailsFirst, IsStart}
 use Rattle.ct_orders.specs.Verdicts as fails
 use Rattle.ct_orders.specs.declared.verdict.TooMany.{TooMany}
-use Rattle.ct_cases.specs.Cases.{first_case, IsAfter, AreAfter, IsUnmetIn, AreBegun, Begins, IsStuckIn, IsRefutedFrom, HoldsToFrom, IsBehind, HasCase, HoldsFrom, HasMore, Leads}
+use Rattle.ct_cases.specs.Cases.{first_case, AreAfter, IsUnmetIn, AreBegun, Begins, IsStuckIn, IsRefutedFrom, HoldsToFrom, IsBehind, HasCase, HoldsFrom, HasMore, Leads}
 use Rattle.ct_orders.specs.Course.{first_undecided, HadTooMany, IsWhole, IsDecided, IsSoFar}
-use Rattle.ct_cases.proofs.Lists.{any_first, any_later, any_split, any_as, all_as, all_first, all_later, all_none, all_cons, front_is, none_of, found}
+use Rattle.ct_cases.proofs.Lists.{any_first, any_later, any_split, all_as, all_first, all_later, all_none, all_cons, front_is, none_of, found}
 use Rattle.ct_orders.proofs.Parts.{Came, at_first, by_statement, by_interleave, came, one_left, few_left}
 
 module _ (setting : Setting) (most : ℕ) (steps : List CheckedStep) where

@@ -1,8 +1,8 @@
 -- What a part of a test comes to, as code has it.
-use Rattle.std.proofs.Common.{◌≡◌, ◌⊎◌, ℕ, zero, suc, ◌+◌, ◌<◌, ◌≤◌, Bool, true, false, List, [], ◌∷◌, ◌++◌, length, take, drop, map, Option, Some, None, refl, sym, ap, ◌∙◌, subst, inl, inr, arith}
+use Rattle.std.proofs.Common.{◌≡◌, ℕ, ◌+◌, ◌<◌, ◌≤◌, Bool, false, List, [], ◌∷◌, ◌++◌, length, take, drop, map, Option, Some, None, refl, sym, ap, ◌∙◌, subst, inl, inr, arith}
 use Rattle.std.specs.Prelude.{Result, Ok, Err, IfOk}
 use Rattle.std.specs.List.{Any}
-use Rattle.std.proofs.lemmas.List.{append-nil, length-drop, take-append-drop, length-append, length-map}
+use Rattle.std.proofs.lemmas.List.{length-drop, take-append-drop, length-append, length-map}
 use Rattle.ic_behaviour.specs.State.{State}
 use Rattle.ic_behaviour.specs.Submitted.{empty}
 use Rattle.ct_check.specs.Moving.{Moving}
@@ -16,8 +16,6 @@ use Rattle.ct_run.specs.Runs.{Runs, Stops as StopsAt, Walks, without_interleaves
 use Rattle.ct_run.proofs.One.{MeetsOnce}
 use Rattle.ct_cases.specs.declared.case.Case.{Case}
 use Rattle.ct_cases.specs.declared.case.Tables.{Tables}
-use Rattle.ct_cases.specs.declared.statement.Going.{Going}
-use Rattle.ct_cases.specs.declared.statement.Going.TheVariants as going
 use Rattle.ct_orders.specs.declared.tester.Course.{Course}
 use Rattle.ct_orders.specs.declared.tester.Next.{Next}
 use Rattle.ct_orders.specs.declared.tester.Next.TheVariants.{On, Fails as Stops}
@@ -28,9 +26,9 @@ use Rattle.ct_orders.specs.declared.verdict.Verdict.{Verdict}
 use Rattle.ct_orders.specs.declared.verdict.Verdict.TheVariants.{Passed, Failed, Undecided}
 use Rattle.ct_cases.specs.declared.failing.Failing.{Failing}
 use Rattle.ct_cases.specs.Reached.{Reached}
-use Rattle.ct_orders.specs.Verdicts.{IsAt, FailsFirst, Passes, HasTooMany, whole}
-use Rattle.ct_cases.specs.Cases.{AreHeld, AreAfter, IsUnmetIn, reached, all_reached, first_case}
-use Rattle.ct_cases.specs.Answers.{GoesOn, IsInterleaved}
+use Rattle.ct_orders.specs.Verdicts.{IsAt, FailsFirst, HasTooMany, whole}
+use Rattle.ct_cases.specs.Cases.{AreHeld, AreAfter, IsUnmetIn, reached, all_reached}
+use Rattle.ct_cases.specs.Answers.{IsInterleaved}
 use Rattle.ct_orders.specs.Course.{first_undecided, is_interleave, ended_with, IsDecided, IsWhole, IsSoFar, IsNext, IsVerdict}
 use Rattle.ct_orders.proofs.Courses.{statement_goes_on, statement_fails, interleave_goes_on, none_goes_on, stuck_fails, refuted_fails, walks_on, stops_at, at_start, passes, one}
 

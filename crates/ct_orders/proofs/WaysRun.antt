@@ -1,12 +1,12 @@
 -- What happens on a way through a test is a run of any order.
-use Rattle.std.proofs.Common.{◌≡◌, ◌<◌, ◌^◌, ℕ, Bool, true, false, cond, List, [], ◌∷◌, ◌++◌, length, map, Option, Some, None, refl, sym, ap, ◌∙◌, subst, arith}
+use Rattle.std.proofs.Common.{◌≡◌, ◌<◌, ◌^◌, ℕ, Bool, true, false, cond, List, [], ◌∷◌, ◌++◌, length, Option, Some, None, refl, sym, ap, ◌∙◌, subst, arith}
 use Rattle.ic_behaviour.specs.State.{State}
 use Rattle.ic_behaviour.specs.Sound.{Sound}
 use Rattle.ic_behaviour.specs.Submitted.{empty, submitted, timed}
 use Rattle.ic_behaviour.proofs.Ties.{tallied, sound as sound_from}
 use Rattle.ic_behaviour.proofs.Changes.{empty_tallied, submitted_tallied, timed_tallied}
 use Rattle.ic_behaviour.specs.Steps.{Rules, step}
-use Rattle.ic_behaviour.specs.Runs.{Act, Delivers, Submits, SetsTime, after_act, after, IsAllowed, AreAllowed, HasMessage, IsAnyRun}
+use Rattle.ic_behaviour.specs.Runs.{Act, Delivers, Submits, SetsTime, after_act, after, IsAllowed, AreAllowed, HasMessage}
 use Rattle.ic_behaviour.proofs.RunLaws.{after-append, allowed-append, any_allowed}
 use Rattle.ic_run_laws.specs.RulesKeep.{RulesKeep}
 use Rattle.ic_run_laws.proofs.Delivers.{deliver_sound}
@@ -17,7 +17,7 @@ use Rattle.ic_asking.specs.Asking.{accepts_now}
 use Rattle.ct_check.specs.Moving.{Moving}
 use Rattle.ct_check.specs.declared.checked.CheckedStep.{CheckedStep}
 use Rattle.ct_outcomes.specs.declared.named.Named.{Named}
-use Rattle.ct_run.specs.Called.{rules_of, with_call, call_act, after_acts, if_accepted}
+use Rattle.ct_run.specs.Called.{rules_of, with_call, call_act, after_acts}
 use Rattle.ct_run.specs.Statements.{Setting}
 use Rattle.ct_run.proofs.Acts.{met_allowed}
 use Rattle.ct_cases.specs.Interleaves.{is_query, Choose, IsCallSubmitted, AreSubmitted, Deliver}

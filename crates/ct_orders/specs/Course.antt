@@ -1,12 +1,11 @@
 -- How far a test has come: its cases are those that it comes to, and what came before holds. No standard has this.
-use Rattle.std.specs.Prelude.{◌≡◌, ◌<◌, ◌≤◌, ◌++◌, ℕ, Bool, true, false, List, [], ◌∷◌, length, All, Option, Some, None}
+use Rattle.std.specs.Prelude.{◌≡◌, ◌<◌, ◌≤◌, ◌++◌, ℕ, Bool, true, false, List, ◌∷◌, length, All, Option, Some, None}
 use Rattle.ic_behaviour.specs.State.{State}
-use Rattle.ic_behaviour.specs.Runs.{Act}
 use Rattle.ct_check.specs.Moving.{Moving}
 use Rattle.ct_check.specs.declared.checked.CheckedStep.{CheckedStep}
 use Rattle.ct_check.specs.declared.checked.CheckedStep.TheVariants.{Statement, Interleave}
 use Rattle.ct_outcomes.specs.declared.named.Named.{Named}
-use Rattle.ct_run.specs.Statements.{Setting, IsMet}
+use Rattle.ct_run.specs.Statements.{Setting}
 use Rattle.ct_cases.specs.declared.case.Tables.{Tables}
 use Rattle.ct_orders.specs.declared.tester.Course.{Course}
 use Rattle.ct_orders.specs.declared.tester.Next.{Next}

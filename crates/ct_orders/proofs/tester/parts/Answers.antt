@@ -1,4 +1,4 @@
-use Rattle.std.proofs.Common.{◌≡◌, ◌+◌, ℕ, List, [], ◌∷◌, None, take, drop, ap, subst, arith}
+use Rattle.std.proofs.Common.{◌+◌, ℕ, List, [], ◌∷◌, None, take, drop, ap, subst, arith}
 use Rattle.std.specs.Prelude.{IfOk}
 use Rattle.ct_run.specs.Runs.{without_interleaves}
 use Rattle.ct_run.proofs.Walks.{stops_within, few_statements}

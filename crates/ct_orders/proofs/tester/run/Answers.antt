@@ -1,4 +1,4 @@
-use Rattle.std.proofs.Common.{◌≡◌, [], ◌∷◌, length, sym, ap, ◌∙◌, arith}
+use Rattle.std.proofs.Common.{◌≡◌, [], ◌∷◌, length, ap, ◌∙◌, arith}
 use Rattle.ct_check.specs.declared.checked.CheckedTest.{CheckedTest}
 use Rattle.ct_cases.specs.Holding.{Testing}
 use Rattle.ct_orders.specs.Verdicts.{whole}

@@ -1,4 +1,3 @@
-use Rattle.std.proofs.Common.{◌≡◌, sym}
 use Rattle.ct_orders.proofs.Stepping.{statement_next, statement_stops}
 use Rattle.ct_orders.proofs.tester.statement_of.Goals as goal
 

@@ -1,5 +1,4 @@
-use Rattle.std.proofs.Common.{◌≡◌, List, ℕ, map, sym, subst}
-use Rattle.ic_behaviour.specs.State.{State}
+use Rattle.std.proofs.Common.{List, map, sym, subst}
 use Rattle.ct_worlds.specs.Worlds.{named_at}
 use Rattle.ct_cases.specs.Meanings.{Meaning}
 use Rattle.ct_cases.specs.Cases.{AreBegun, all_reached}

@@ -6,7 +6,7 @@ use Rattle.ct_worlds.specs.declared.worlds.NamedWorld.{NamedWorld}
 use Rattle.ct_cases.specs.Cases.{IsMetBehind, all_stages}
 use Rattle.ct_cases.specs.Answers.{AreFoundTo}
 use Rattle.ct_cases.proofs.Stays.{met_stays}
-use Rattle.ct_cases.proofs.Finding.{found_none, found_more, found_of, behind_front}
+use Rattle.ct_cases.proofs.Finding.{found_more, found_of, behind_front}
 use Rattle.ct_cases.proofs.tester.Tester.judge.Goals as goal
 
 pub judge_case-requires-after_bounds : goal.judge_case-requires-after_bounds

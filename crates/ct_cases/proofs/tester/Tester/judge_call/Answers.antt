@@ -1,4 +1,4 @@
-use Rattle.std.proofs.Common.{◌≡◌, ℕ, ◌++◌, [], drop, ap, sym, ◌∙◌, take, append-nil}
+use Rattle.std.proofs.Common.{ℕ, ◌++◌, [], drop, ap, sym, ◌∙◌, take, append-nil}
 use Rattle.ct_check.specs.Moving.{Moving}
 use Rattle.ct_run.specs.Statements.{Setting, expected_of, reply_types}
 use Rattle.ct_cases.specs.Holding.{Testing}

@@ -1,5 +1,5 @@
-use Rattle.std.proofs.Common.{◌≡◌, ap, ◌∙◌, sym}
-use Rattle.ct_cases.specs.Cases.{Stage, stage}
+use Rattle.std.proofs.Common.{ap, ◌∙◌}
+use Rattle.ct_cases.specs.Cases.{Stage}
 use Rattle.ct_cases.proofs.Stays.{grows_not, known_stays, stage_stays}
 use Rattle.ct_cases.proofs.Ending.{ok_further}
 use Rattle.ct_cases.proofs.Judgements.{silent_found, unmet_found, all_left_found}

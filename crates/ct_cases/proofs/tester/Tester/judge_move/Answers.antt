@@ -1,4 +1,4 @@
-use Rattle.std.proofs.Common.{◌≡◌, sym, ap, ◌∙◌}
+use Rattle.std.proofs.Common.{sym, ap, ◌∙◌}
 use Rattle.ct_check.specs.Moving.{Moving}
 use Rattle.ct_run.specs.declared.verdict.Unmet.{Unmet}
 use Rattle.ct_cases.specs.Interleaves.{is_query}

@@ -1,4 +1,4 @@
-use Rattle.std.proofs.Common.{[], sym, subst}
+use Rattle.std.proofs.Common.{sym, subst}
 use Rattle.ct_cases.proofs.Judgements.{MovesSoFar, moves_none, moves_more, moves_refuted, moves_done}
 use Rattle.ct_cases.proofs.tester.Tester.judge_moves.Goals as goal
 

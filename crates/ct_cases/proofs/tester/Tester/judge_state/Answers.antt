@@ -1,4 +1,4 @@
-use Rattle.std.proofs.Common.{◌≡◌, ◌≤◌, List, Option, Some, None, ℕ, length, sym, ap, ◌∙◌, subst}
+use Rattle.std.proofs.Common.{◌≤◌, List, Option, Some, None, ℕ, length, sym, ap, ◌∙◌, subst}
 use Rattle.ct_cases.specs.Meanings.{Meaning}
 use Rattle.ct_cases.proofs.Stays.{grows_further, known_stays, meaning_stays}
 use Rattle.ct_cases.proofs.Judgements.{stage_judged}

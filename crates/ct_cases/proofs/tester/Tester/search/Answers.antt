@@ -1,6 +1,5 @@
-use Rattle.std.proofs.Common.{◌≡◌, ℕ, List, map, refl, sym, ap, ◌∙◌, subst}
+use Rattle.std.proofs.Common.{List, map, refl, sym, ap, ◌∙◌, subst}
 use Rattle.std.specs.Prelude.{All}
-use Rattle.std.specs.List.{AllByRecursion}
 use Rattle.ct_search.specs.declared.case.Case.{Case as Met}
 use Rattle.ct_search.specs.Visits.{IsVisit, IsMore}
 use Rattle.ct_search.specs.Search.{all_seen, AreHeld}

@@ -1,8 +1,7 @@
-use Rattle.std.proofs.Common.{◌≡◌, ◌+◌, ◌≤◌, ℕ, length, take, List, Option, None, sym, subst, ◌∙◌, arith}
+use Rattle.std.proofs.Common.{◌≡◌, take, List, Option, sym, subst, ◌∙◌, arith}
 use Rattle.std.proofs.lemmas.List.{take_all}
 use Rattle.ct_cases.specs.declared.case.Case.{Case}
 use Rattle.ct_cases.specs.declared.submitting.Unsent.{Unsent}
-use Rattle.ct_cases.specs.declared.failing.Failing.{Failing}
 use Rattle.ct_cases.specs.Answers.{IsStarted, AreStartedTo}
 use Rattle.ct_cases.proofs.Stays.{grows_further, held_stays}
 use Rattle.ct_cases.proofs.Starting.{held_at, stuck_place, next_started, next_stuck, started_of}

@@ -1,4 +1,4 @@
-use Rattle.std.proofs.Common.{◌≡◌, ◌++◌, List, [], ◌∷◌, sym, ap, ◌∙◌, subst, append_assoc}
+use Rattle.std.proofs.Common.{◌++◌, List, [], ◌∷◌, sym, ap, ◌∙◌, subst, append_assoc}
 use Rattle.std.specs.List.{Any, AllByRecursion}
 use Rattle.ct_cases.specs.declared.case.Case.{Case}
 use Rattle.ct_cases.specs.Cases.{IsHeld, AreHeld, AreAfter, IsUnmetIn, all_reached}
