@@ -53,6 +53,11 @@ def from_many(count):
     return CREATE * 2 + "drain\n" + calls + "".join(f"pick {left}\n" for left in range(count - 1, -1, -1))
 
 
+def made(count):
+    """Sixty canisters are made in one round, while so many messages wait for another."""
+    return CREATE * 2 + "drain\n" + waiting(count) + CREATE * 60 + "run 1\n"
+
+
 def short(rest):
     return f"call {ANYBODY} rwlgt-iiaaa-aaaaa-aaaaa-cai a -\n" * SHORT + rest
 
@@ -65,6 +70,7 @@ KINDS = {
     "run-and-pick": lambda count: lines(count, lambda left: "run 1\n" if left % 2 else "pick 0\n"),
     "state": lambda count: lines(count, lambda left: "state\n"),
     "query": lambda count: lines(count, lambda left: f"query {ANYBODY} {text(identity(1))} m -\n"),
+    "made": made,
     "create": lambda count: refused(b"create_canister", count),
     "status": lambda count: refused(b"canister_status", count),
 }
