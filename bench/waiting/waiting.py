@@ -46,11 +46,11 @@ def lines(count, line):
     return CREATE * 2 + "drain\n" + waiting(count) + "".join(line(left) for left in range(count, 0, -1))
 
 
-def from_many(count):
-    """So many messages, each from another user, and as many picks of the last."""
+def from_many(count, place):
+    """So many messages, each from another user, and as many picks."""
     users = (text(user.to_bytes(4, "big") + b"\x07") for user in range(count))
     calls = "".join(f"call {user} {text(identity(0))} m -\n" for user in users)
-    return CREATE * 2 + "drain\n" + calls + "".join(f"pick {left}\n" for left in range(count - 1, -1, -1))
+    return CREATE * 2 + "drain\n" + calls + "".join(f"pick {place(left)}\n" for left in range(count, 0, -1))
 
 
 def made(count):
@@ -66,7 +66,8 @@ KINDS = {
     "run": lambda count: lines(count, lambda left: "run 1\n"),
     "pick-first": lambda count: lines(count, lambda left: "pick 0\n"),
     "pick-refused": lambda count: lines(count, lambda left: f"pick {count - 1}\n"),
-    "pick-last": from_many,
+    "pick-last": lambda count: from_many(count, lambda left: left - 1),
+    "pick-anywhere": lambda count: from_many(count, lambda left: (count - left) * 7919 % left),
     "run-and-pick": lambda count: lines(count, lambda left: "run 1\n" if left % 2 else "pick 0\n"),
     "state": lambda count: lines(count, lambda left: "state\n"),
     "query": lambda count: lines(count, lambda left: f"query {ANYBODY} {text(identity(1))} m -\n"),
