@@ -85,7 +85,7 @@ fn hear(
 fn burned(world: &World) -> u128
     ensures { result ≡ world.now.burned }
 {
-    world.totals().burned
+    world.parts().burned
 }
 
 // How many messages are under way.

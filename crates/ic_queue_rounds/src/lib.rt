@@ -3,7 +3,7 @@
 //! `round` goes through the list of messages. In a `QueuedWorld` the messages are in the queues of `ic_queues`, so that a
 //! round need not pass those that it leaves. The first phase takes the first message of each canister's queue; the second
 //! phase walks from one message to no canister to the next. Where one of these in truth makes or deletes a canister, the
-//! messages are put into queues anew, and the walk goes on from where it is. That each phase is the phase that
+//! messages to this canister change their queue, and the walk goes on from where it is. That each phase is the phase that
 //! `ic_behaviour` defines over the list is proved. Which messages a round touches on the way no clause says. `run_rounds`
 //! makes queues of a `World` where many rounds follow one another.
 #![tactic(auto)]

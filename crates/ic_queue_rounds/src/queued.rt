@@ -15,8 +15,8 @@ use std::alloc::Global;
 use std::collections::BTreeMap;
 use std::marker::Model;
 
-/// A world whose messages are in queues. Contracts see the state that it stands for. It is public for the tests of
-/// `round_in_queues`.
+/// A world whose messages are in queues. Contracts see the state that it stands for. It is public for whoever keeps one over
+/// many rounds, as a script does.
 #[derive(Drop)]
 pub struct QueuedWorld {
     /// All but the messages.

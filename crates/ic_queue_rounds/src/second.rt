@@ -93,7 +93,7 @@ fn finish(alloc: Global, walk: Walk, rest: Parts) -> Result<QueuedWorld, NoMemor
 }
 
 /// The second phase of a round: a walk down the messages, which looks at no message to a canister. Where one in truth makes
-/// or deletes a canister, the messages to come are put into queues anew.
+/// or deletes a canister, the messages to this canister change their queue.
 pub fn outside_turns(
     alloc: Global,
     world: QueuedWorld,

@@ -17,7 +17,7 @@ use std::collections::VecDeque;
 use std::marker::Model;
 use std::mem::replace;
 
-/// Fewer places are not worth a thought.
+/// Up to this many empty places the queues stay as they are.
 const SPARSE: usize = 64;
 
 /// Messages under numbers that rise. The place of one that left stays empty until all before it have

@@ -27,7 +27,7 @@ labeled_hash label part = sha256 ((domain_sep (codes "ic-hashtree-labeled") ++ l
 abbrev pub leaf_hash : List ℕ → List ℕ
 leaf_hash bytes = sha256 (domain_sep (codes "ic-hashtree-leaf") ++ bytes)
 
--- the root hash; a pruned node has that of the tree in whose place it stands
+-- the root hash; a pruned node has that of the tree in whose place it is
 unfoldable pub root_hash : HashTree → List ℕ
 root_hash empty = empty_hash
 root_hash (fork left right) = fork_hash (root_hash left) (root_hash right)

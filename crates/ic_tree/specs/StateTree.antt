@@ -23,7 +23,7 @@ use Rattle.ic_tree.specs.RequestId.{request_id_of}
 abbrev pub code_leaf : Code → HashTree
 code_leaf code = leaf_at (codes "module_hash") code.hash
 
--- what stands under the id of a canister
+-- what is under the id of a canister
 abbrev pub canister_part : (certified : List ℕ) → Option Code → HashTree
 canister_part certified code = forked (leaf_at (codes "certified_data") certified ∷ option_to_list (option_map code_leaf code))
 
@@ -35,7 +35,7 @@ canister_tree e = labeled e.0 (canister_part e.1.certified e.1.code)
 abbrev pub status_leaf : List ℕ → HashTree
 status_leaf status = leaf_at (codes "status") status
 
--- what stands under the id of a request
+-- what is under the id of a request
 abbrev pub request_part : Option Response → HashTree
 request_part None = forked (status_leaf (codes "processing") ∷ [])
 request_part (Some (Reply bytes)) = forked (leaf_at (codes "reply") bytes ∷ status_leaf (codes "replied") ∷ [])
@@ -58,7 +58,7 @@ fields_of number r =
 unfoldable pub id_of_request : ℕ → Request → List ℕ
 id_of_request number r = request_id_of (fields_of number r)
 
--- what stands under the ids of the requests, in rising order; of two requests with one id the earlier stands
+-- what is under the ids of the requests, in rising order; of two requests with one id the earlier
 unfoldable pub by_id : ℕ → List Request → List (List ℕ × HashTree)
 by_id number [] = []
 by_id number (r ∷ rs) =
@@ -67,7 +67,7 @@ by_id number (r ∷ rs) =
 abbrev pub request_tree : List ℕ × HashTree → HashTree
 request_tree e = labeled e.0 e.1
 
--- the id of a request that is lent, and what stands under it
+-- the id of a request that is lent, and what is under it
 abbrev pub part_of : List ℕ × Bor Request → List ℕ × HashTree
 part_of e = (e.0, request_part e.1.now.answer)
 

@@ -107,7 +107,7 @@ impl Pairs {
     }
 }
 
-// Where the first pair above this one stands.
+// The index of the first pair above this one.
 fn place(pairs: &[Bytes], pair: &Bytes) -> usize
     ensures within { result ≤ length pairs.now }
     ensures place { insert pairs.now result pair.now ≡ put_in_order pair.now pairs.now }

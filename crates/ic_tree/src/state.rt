@@ -25,7 +25,7 @@ const LIFETIME: u64 = 300_000_000_000;
 
 /// The tree of a state (IC Interface Specification, "The system state tree"): the time, of each
 /// canister its certified data and the hash of its code, and of each request how far it is. Of two
-/// requests with one id the earlier stands.
+/// requests with one id it has the earlier.
 #[tactic(auto, unfolding(crate::specs::StateTree::kept, crate::specs::StateTree::state_tree_of))]
 pub fn state_tree(alloc: Global, world: &World) -> Result<Tree, NoMemory>
     ensures { IfOk result (λ tree. view tree ≡ state_tree_of world.now) }
@@ -42,8 +42,8 @@ pub fn tree_of_parts(alloc: Global, parts: &Parts) -> Result<Tree, NoMemory>
     tree_of(alloc, parts, Keep::Whole)
 }
 
-/// The root hash of the tree of a state. What stands for a request is hashed and let go before that
-/// of the next is made, so that the whole tree never stands.
+/// The root hash of the tree of a state. The tree of a request is hashed and let go before that
+/// of the next is made, so that the whole tree is never there.
 pub fn state_root(alloc: Global, world: &World) -> Result<[u8; 32], NoMemory>
     ensures { IfOk result (λ hash. hash ≡ root_hash (state_tree_of world.now)) }
 {
@@ -55,7 +55,7 @@ pub fn state_root(alloc: Global, world: &World) -> Result<[u8; 32], NoMemory>
 #[derive(Clone, Copy)]
 enum Keep {
     Whole,
-    /// As root hashes, in whose place no tree stands.
+    /// As root hashes, in place of trees.
     Root,
 }
 
@@ -139,7 +139,7 @@ fn requests_tree(alloc: Global, requests: &[Request], keep: Keep) -> Result<Tree
     }
 }
 
-// The next `count` requests under forks. Each fork is kept as its requests are, so that no list of trees stands beside the order.
+// The next `count` requests under forks. Each fork is kept as its requests are, so that there is no list of trees beside the order.
 fn forked_requests<'a>(
     alloc: Global,
     order: &mut IntoIter<[u8; 32], &'a Request>,
@@ -169,7 +169,7 @@ fn request_tree(alloc: Global, id: &[u8; 32], request: &Request) -> Result<Tree,
     labeled(alloc, id.as_slice(), part)
 }
 
-// The requests by their ids. The last goes first, so that of two with one id the earlier stands.
+// The requests by their ids. The last goes first, so that of two with one id the earlier is kept.
 fn in_order<'a>(
     alloc: Global,
     requests: &'a [Request],

@@ -11,7 +11,7 @@ use std::alloc::Global;
 pub enum Tree {
     Empty,
     Fork(Box<Tree>, Box<Tree>),
-    /// What stands under a label.
+    /// What is under a label.
     Labeled(Bytes, Box<Tree>),
     Leaf(Bytes),
     /// Stands for a tree with this root hash.

@@ -17,7 +17,7 @@ pub struct Ask {
     pub arg: Bytes,
 }
 
-/// Its argument is one list behind the other.
+/// Its argument is one list after the other.
 pub fn joined(
     alloc: Global,
     callee: &[u8],
