@@ -25,7 +25,7 @@ use Rattle.cd_codec.specs.ReadPlain.{counted_at, principal_at, func_at, primitiv
 use Rattle.cd_codec.specs.ReadValue.{Budgeted, alone, then_make, opt_at, items_at, seq_at, each_at, field_at, record_at, case_at, variant_at, entry_at, shape_at, value_at, all_read, values_at}
 use Rattle.cd_codec.proofs.PlainLaws.{SpellsAt, counted_exact, principal_exact, func_exact, primitive_exact}
 
--- what is read: a front of the bytes that spells it, within the depth, and so many values that those left are left
+-- what is read: a front of the bytes that spells it, within the depth, and that many values that those left are left
 pub record Consumes {A : Type 0} (P : Spelling A) (deepest many : A → ℕ) (depth n : ℕ) (bytes : List ℕ) (z : A × ℕ × List ℕ) : Type 0 where
   pub front : List ℕ
   pub parts : bytes ≡ front ++ z.2
@@ -50,7 +50,7 @@ alone_takes {A} table type f P read exact spells one_deep one depth n bytes z e 
     subst (Consumes (Wire table type) nesting number (suc depth) (suc n) bytes) (some_is {A = Content × ℕ × List ℕ} (f a.0.0, n, a.0.1) z a.2)
     (record { front = t.front; parts = t.parts; spelled = spells a.0.0 t.front t.spelled; deep = omega (arith, one_deep a.0.0); left = omega (arith, one a.0.0) })
 
--- a value around its parts, behind some bytes
+-- a value around its parts, after some bytes
 around : {A : Type 0} (table : List Entry) (type : TyRef) (f : A → Content) (P : Spelling A) (deepest many : A → ℕ) (prefix : List ℕ)
     → ((x : A) (bytes : List ℕ) → P x bytes → Wire table type (f x) (prefix ++ bytes)) → ((x : A) → nesting (f x) ≡ suc (deepest x)) → ((x : A) → number (f x) ≡ suc (many x))
     → (depth n : ℕ) (whole bytes : List ℕ) → whole ≡ prefix ++ bytes → (read : Option (A × ℕ × List ℕ)) → ((y : A × ℕ × List ℕ) → read ≡ Some y → Consumes P deepest many depth n bytes y)
@@ -78,7 +78,7 @@ opt_takes table type inner is depth read law n (suc zero ∷ rest) z e =
     around table type some (Wire table inner) nesting number (1 ∷ []) (λ v bytes w. (inner, is, bytes, refl, w)) (λ v. refl) (λ v. refl) depth n (1 ∷ rest) rest refl (read n rest) (law n rest) z e
 opt_takes table type inner is depth read law n (suc (suc b) ∷ rest) z e = absurd cc
 
--- so many values of a type
+-- that many values of a type
 abbrev Items : List Entry → TyRef → ℕ → Spelling (List Content)
 Items table item count vs bytes = (count_of (contents_of vs) ≡ count) × WireAll table item (contents_of vs) bytes
 

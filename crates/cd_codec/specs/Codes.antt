@@ -26,7 +26,7 @@ primitive_numbers =
 abbrev pub is_float : ℕ → Bool
 is_float code = code == 12 || code == 13
 
--- the primitive type so many below -1; where floats are admitted, they stand for null
+-- the primitive type whose number is that far below -1; where floats are admitted, they stand for null
 abbrev pub primitive_named : Bool → ℕ → Option Primitive
 primitive_named floats code = if floats && is_float code then Some primitives.Null else option_flatten (slice_get primitive_numbers code)
 

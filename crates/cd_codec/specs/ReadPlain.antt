@@ -22,7 +22,7 @@ natural_at width = map_at (from_le_bytes width) (filter_at are_bytes (bytes_at (
 unfoldable pub integer_at : Width → Reader ℤ
 integer_at width = map_at (cast_signed width) (natural_at width)
 
--- so many bytes as the count before them says
+-- that many bytes as the count before them says
 unfoldable pub counted_at : Reader (List ℕ)
 counted_at bytes = do
   n ← unsigned_reader Candid bytes
@@ -32,7 +32,7 @@ counted_at bytes = do
 unfoldable pub text_at : Reader (List ℕ)
 text_at = filter_at is_utf8 counted_at
 
--- a value behind the byte 01
+-- a value after the byte 01
 abbrev pub tagged_at : {A : Type 0} → Reader A → Reader A
 tagged_at read [] = None
 tagged_at read (zero ∷ rest) = None

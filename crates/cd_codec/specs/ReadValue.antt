@@ -1,5 +1,5 @@
 -- The grammar of values as functions that read (Candid specification, "Binary Format", M): they read what Wire spells,
--- within a depth and with so many values allowed, which are limits of this replica.
+-- within a depth and with that many values allowed, which are limits of this replica.
 use Rattle.std.specs.Prelude.{ℕ, zero, suc, Bool, true, false, List, [], ◌∷◌, Option, Some, None, slice_get}
 use Rattle.ic_base.specs.Reader.{Reader, ◌>>=◌}
 use Rattle.ic_leb.specs.declared.width.Width.TheVariants.{Candid}
@@ -35,14 +35,14 @@ opt_at read left (zero ∷ rest) = Some (none, left, rest)
 opt_at read left (suc zero ∷ rest) = then_make some (read left rest)
 opt_at read left (suc (suc b) ∷ rest) = None
 
--- so many values
+-- that many values
 unfoldable pub items_at : Budgeted Content → ℕ → Budgeted (List Content)
 items_at read zero left bytes = Some ([], left, bytes)
 items_at read (suc n) left bytes = do
   x ← read left bytes
   then_make (λ vs. x.0 ∷ vs) (items_at read n x.1 x.2)
 
--- a vec: bytes, or a count and so many values
+-- a vec: bytes, or a count and that many values
 unfoldable pub seq_at : Bool → Budgeted Content → Budgeted Content
 seq_at true read left bytes = alone blob counted_at left bytes
 seq_at false read left bytes = do

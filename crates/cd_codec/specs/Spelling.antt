@@ -5,11 +5,11 @@ use Rattle.ic_leb.specs.Spelling.{unsigned_spelling, signed_spelling}
 use Rattle.cd_codec.specs.Content.{Plain, null, bool, nat, int, nat8, nat16, nat32, nat64, int8, int16, int32, int64, text, reserved, func, service, principal, Content, plain, blob, none, some, list, record_of, variant, Contents, no_content, content, Parts, no_part, part, count_of}
 use Rattle.cd_codec.specs.Plain.{bool_byte}
 
--- bytes behind their number
+-- bytes after their number
 abbrev pub counted : List ℕ → List ℕ
 counted s = unsigned_spelling (length s) ++ s
 
--- a principal: the byte 01, and its bytes behind their number
+-- a principal: the byte 01, and its bytes after their number
 abbrev pub principal_spelling : List ℕ → List ℕ
 principal_spelling p = 1 ∷ counted p
 

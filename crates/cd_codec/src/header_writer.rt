@@ -10,7 +10,7 @@ use ic_base::NoMemory;
 use ic_leb::{write_s, write_u};
 use ic_principal::Text;
 
-/// What stands in the lists of a header.
+/// What is in the lists of a header.
 trait Encode {
     /// How it is written.
     ghost bytes: { Self → List ℕ };
@@ -38,7 +38,7 @@ fn write_list<T: Encode>(items: &[T], out: &mut Vec<u8>) -> Result<(), NoMemory>
     Ok(())
 }
 
-/// Appends bytes behind their number. After an error some of them may be appended.
+/// Appends bytes after their number. After an error some of them may be appended.
 pub(crate) fn write_counted(bytes: &[u8], out: &mut Vec<u8>) -> Result<(), NoMemory>
     ensures { OnOk result (out.new.items ≡ out.old.items ++ counted bytes.now) }
 {

@@ -112,7 +112,7 @@ all_only c types place [] all = refl
 all_only c types place (u ∷ us) all =
     rw (fits_head c types place u us (all 0)) (all_only c types (suc place) us (λ i. fits_tail c types place u us i (all (suc i))))
 
--- the first that does not fit, so many places on
+-- the first that does not fit, that many places on
 pub record FirstUnfit (c : Setting) (types : List TyRef) (place : ℕ) (us : List TyRef) (on : ℕ) : Type 0 where
   pub before : (i : ℕ) → i < on → FitsAt c types place us i
   pub type : TyRef

@@ -71,7 +71,7 @@ same_parts_nesting : (ps : Parts) → nesting_each (field_values ps) ≡ nesting
 same_parts_nesting no_part = refl
 same_parts_nesting (part i v ps) = ap (max (nesting v)) (same_parts_nesting ps)
 
--- what stands under an id nests no deeper than the deepest
+-- what is under an id nests no deeper than the deepest
 under_nested : (fs : List (ℕ × TyRef)) (vs : List Content) (i : ℕ) (f : TyRef × Content) → under i (with_fields fs vs) ≡ Some f → nesting f.1 ≤ nesting_each vs
 under_nested [] vs i f e = absurd cc
 under_nested (g ∷ fs) [] i f e = absurd cc

@@ -49,7 +49,7 @@ at_index P [] i x all e = absurd cc
 at_index {A} P (y ∷ xs) zero x all e = subst P (some_is {A = A} y x e) all.0
 at_index P (y ∷ xs) (suc i) x all e = at_index P xs i x all.1 e
 
--- what stands under an id, where its type is known
+-- what is under an id, where its type is known
 Under : (type : Option TyRef) → Option (TyRef × Content) → Type 0
 Under (Some type) found = (v : Content) × (found ≡ Some (type, v))
 Under None found = found ≡ None

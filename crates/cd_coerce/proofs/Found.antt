@@ -151,7 +151,7 @@ seq_found B c v vs rds bytes is all are t u r e =
     let x = bind_some (seq_of (shape c.expected u)) (λ x. items_at c bytes rds w.0 x (is_nat8 x)) r w.2 in
     items_found B c v vs rds bytes is all are t u w.0 x.0 r (seq_of_is _ w.0 w.1) (seq_of_is _ x.0 x.1) (is_nat8 x.0) refl x.2
 
--- what stands under an id: the coercions of the value that stands there
+-- what is under an id: the coercions of the value that is there
 abbrev pub Matches : (TyRef → TyRef → Type 0) → Setting → Option (TyRef × Content) → Option (TyRef × Coercions) → Type 0
 Matches B c None None = Unit {0}
 Matches B c None (Some rd) = ⊥

@@ -133,7 +133,7 @@ none_only B c decides v t u w upper (inr (inr (inr (inr (is, h))))) =
     constituent_read c v t u w false upper is
     (untrue (may_miss (shape c.expected w)) (c.below t w) (λ m. elim (decides t w) [ inl p ↦ h (m.0, p.1) | inr p ↦ let k : true ≡ false = sym m.1 ∙ p.0 in cc ]))
 
--- what stands under an id, with what reads it
+-- what is under an id, with what reads it
 abbrev linked : Setting → Option (TyRef × Content) → Option (TyRef × Coercions)
 linked c None = None
 linked c (Some f) = Some (f.0, coercions c f.1)

@@ -73,7 +73,7 @@ list_items c values t u w x lower upper other =
     list_at c values t u ∙ seq_items c (bytes_of rds) rds t u w x lower upper ∙ ap (items_at c (bytes_of rds) rds w x) (sym other)
     ∙ ap (λ (o : Option (List Content)). o >>= λ rs. Some (list (contents_of rs))) (all_each c w x view values)
 
--- what is under an id stands at the place of that id
+-- what is under an id is at the place of that id
 found_at : {A : Type 0} → ℕ → List A → Option (ℕ × TyRef) → Option (TyRef × A)
 found_at place xs None = None
 found_at place xs (Some p) = slice_get xs (p.0 - place) >>= λ x. Some (p.1, x)

@@ -22,7 +22,7 @@ no_value : (table : List Entry) (o : Option TyRef) → WireAt table o None
 no_value table None = tt
 no_value table (Some t) = tt
 
--- what stands at a place of the values of a message
+-- what is at a place of the values of a message
 wire_at : (table : List Entry) (vs : List Content) (types : List TyRef) (bytes : List ℕ) → WireEach table types vs bytes → AreBytes bytes → (i : ℕ) → WireAt table (slice_get types i) (slice_get vs i)
 wire_at table [] types bytes wire all i = no_value table (slice_get types i)
 wire_at table (v ∷ vs) types bytes (type, more, is, front, rest, whole, first, wire) all i =

@@ -119,7 +119,7 @@ items_typed table t w (list ws) vs bytes is e (item, at, other, count, rest, who
     )
 items_typed table t w _ vs bytes is e wire all = absurd cc
 
--- what stands under an id has its type
+-- what is under an id has its type
 under_typed : (table : List Entry) (fs : List (ℕ × TyRef)) (ps : Parts) (bytes : List ℕ) (i : ℕ) (f : TyRef × Content) → WireParts table fs ps bytes → AreBytes bytes
     → under i (with_fields fs (field_values ps)) ≡ Some f → (out : List ℕ) × Wire table f.0 f.1 out × AreBytes out
 under_typed table [] ps bytes i f wire all e = absurd cc
@@ -141,7 +141,7 @@ missing_typed table u (primitive Reserved) r is e = subst (IsTyped table u) (som
 missing_typed table u (compound (Opt type)) r is e = subst (IsTyped table u) (some_is none r e) (0 ∷ [], (type, is, refl))
 missing_typed table u _ r is e = absurd cc
 
--- the case with an id stands at its place
+-- the case with an id is at its place
 pub case_at : (gs : List (ℕ × TyRef)) (place id i : ℕ) (w : TyRef) → case_from place id gs ≡ Some (i, w) → (d : ℕ) × (i ≡ place + d) × (slice_get gs d ≡ Some (id, w)) × (d < length gs)
 case_at [] place id i w e = absurd cc
 case_at (g ∷ gs) place id i w e =

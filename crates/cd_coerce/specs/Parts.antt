@@ -36,13 +36,13 @@ is_constituent none = false
 is_constituent (some v) = false
 is_constituent _ = true
 
--- the fields of a record type, each with what stands at its place
+-- the fields of a record type, each with what is at its place
 abbrev pub with_fields : {A : Type 0} → List (ℕ × TyRef) → List A → List (ℕ × (TyRef × A))
 with_fields [] xs = []
 with_fields (field ∷ fields) [] = []
 with_fields (field ∷ fields) (x ∷ xs) = (field.0, (field.1, x)) ∷ with_fields fields xs
 
--- what stands under an id
+-- what is under an id
 abbrev pub under : {A : Type 0} → ℕ → List (ℕ × A) → Option A
 under id [] = None
 under id (x ∷ xs) = if x.0 == id then Some x.1 else under id xs

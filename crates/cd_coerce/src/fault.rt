@@ -10,7 +10,7 @@ pub enum DidlFault {
     /// no subtype. Arguments are counted from 0.
     NotSubtype { argument: u32 },
     /// The bytes after the header are not values of its types within nesting 128 and 1,000,000
-    /// values, or a `nat` of 2^127 or more stands where an `int` is expected.
+    /// values, or a `nat` of 2^127 or more is where an `int` is expected.
     BadValue,
     NoMemory,
 }

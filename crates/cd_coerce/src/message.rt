@@ -92,7 +92,7 @@ fn arguments_of(
     }
 }
 
-/// Reads a message as `decode` does, and as at most so many values: `NoMemory` also comes for a
+/// Reads a message as `decode` does, and as at most that many values: `NoMemory` also comes for a
 /// message that would be read as more, where a `vec nat8` counts as one.
 pub fn decode_within(
     alloc: Global,

@@ -54,7 +54,7 @@ pub(crate) enum Step {
 }
 
 impl<'a> Coercion<'a> {
-    /// A coercion that makes at most so many values.
+    /// A coercion that makes at most that many values.
     pub(crate) fn new(
         alloc: Global,
         wire: &'a TypeTable,

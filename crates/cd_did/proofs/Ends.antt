@@ -190,7 +190,7 @@ none_vacuous defs apart bound ends has e p vacuous =
     let g : true ≡ false = sym end.1 ∙ none in
     absurd cc
 
--- what stands behind a definition, where none leads back
+-- what comes after a definition, where none leads back
 pub record Settled (defs : Definitions) (ends : List ℕ) (i : ℕ) (d : List ℕ × Part) : Type 0 where
   pub end : ℕ
   pub row : List ℕ × Part

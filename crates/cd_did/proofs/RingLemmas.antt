@@ -211,7 +211,7 @@ distinct_or_ring defs (suc m) i = elim (distinct_or_ring defs m (next_place defs
   ]
 ]
 
--- behind as many steps as there are definitions one is on a ring
+-- after as many steps as there are definitions one is on a ring
 pub ends_on_ring : (defs : Definitions) (k i : ℕ) → ((a : ℕ) → after_steps defs a i < length defs) → length defs ≤ k → (p : ℕ) × (after_steps defs (suc p) (after_steps defs k i) ≡ after_steps defs k i)
 ends_on_ring defs k i inside long = elim (distinct_or_ring defs (suc (length defs)) i) [
   | inl distinct ↦

@@ -38,7 +38,7 @@ pub record Known (defs : Definitions) (ends : List ℕ) : Type 0 where
   pub has : HasEnds defs ends
   pub none : least_from (is_named_at defs) None ends ≡ None
 
--- what was found behind a part: itself, or the type of a definition
+-- what was found after a part: itself, or the type of a definition
 pub record Behind (defs : Definitions) (ends : List ℕ) (part : Part) : Type 0 where
   pub stands : StandsBehind defs part (found_at defs ends part)
   pub from : (found_at defs ends part ≡ part) ⊎ ((i : ℕ) × (d : List ℕ × Part) × (slice_get defs i ≡ Some d) × (found_at defs ends part ≡ d.1))
@@ -65,7 +65,7 @@ no_more defs Float e = refl
 no_more defs (Name name) e = absurd cc
 no_more defs (Place place) e = refl
 
--- one part stands behind another
+-- one part comes after another
 pub one_behind : (defs : Definitions) (a b : ℕ) (part p q : Part) → is_name p ≡ false → is_name q ≡ false → replaced_times defs a part ≡ Some p → replaced_times defs b part ≡ Some q → p ≡ q
 one_behind defs zero zero part p q np nq e f = some_is {A = Part} p q (sym e ∙ f)
 one_behind defs zero (suc b) part p q np nq e f =
@@ -84,7 +84,7 @@ one_behind defs (suc a) (suc b) part p q np nq e f =
     let same : x.0 ≡ y.0 = some_is {A = Part} x.0 y.0 (sym x.1 ∙ y.1) in
     one_behind defs a b x.0 p q np nq x.2 (ap (replaced_times defs b) same ∙ y.2)
 
--- a test of what stands behind a part is one of what was found
+-- a test of what comes after a part is one of what was found
 pub is_decided : (test : Option Written → Bool) (file : File) (ends : List ℕ) → Known file.definitions ends → (part : Part) → is_bound file.definitions part ≡ true → Is test file part → test (type_at_place file.types (found_at file.definitions ends part)) ≡ true
 is_decided test file ends known part bound is =
     let b = found_stands file.definitions ends known part bound in

@@ -10,7 +10,7 @@ use Rattle.cd_grammar.specs.File.{File}
 use Rattle.cd_grammar.specs.declared.written.Main.{Main}
 use Rattle.cd_grammar.specs.Fits.{parts_of, all_in_main}
 
--- a test of each type that stands in the file
+-- a test of each type that is in the file
 abbrev pub all_parts : (Part → Bool) → File → Bool
 all_parts test file = list_all (λ written. list_all test (parts_of written)) file.types && (list_all (λ d. test d.1) file.definitions && all_in_main test file.main)
 

@@ -1,4 +1,4 @@
--- The tests of the types that stand in a file.
+-- The tests of the types that are in a file.
 use Rattle.std.specs.Prelude.{Bool}
 use Rattle.cd_did.specs.declared.checks.Test.{Test}
 use Rattle.cd_did.specs.declared.checks.Test.TheVariants.{NoFloat, Bound}

@@ -109,7 +109,7 @@ fn main_passes(test: &Test<'_, '_>, main: &Option<Main>) -> bool
     }
 }
 
-/// Whether each type that stands in the file passes.
+/// Whether each type that is in the file passes.
 pub(crate) fn file_passes(test: &Test<'_, '_>, file: &File) -> bool
     ensures { result ≡ all_parts (passes test.now) file.now }
 {

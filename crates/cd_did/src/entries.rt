@@ -31,7 +31,7 @@ fn tuples_of(
     }
 }
 
-// The annotations stand in the order in which they are written.
+// The annotations are in the order in which they are written.
 fn func_of(
     ended: &Ended<'_, '_>,
     args: &[Part],

@@ -7,7 +7,7 @@ use ic_base::NoMemory;
 use ic_principal::Bytes;
 use std::alloc::Global;
 
-// The place that a definition leads to, which stands at a place.
+// The place that a definition leads to, which is at a place.
 fn leads_to(names: &Names<'_>, here: usize, part: &Part) -> usize
     ensures { result ≡ leads_to names.now.definitions here part.now }
 {

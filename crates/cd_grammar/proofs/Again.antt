@@ -18,7 +18,7 @@ use Rattle.cd_tokens.proofs.Parts.{Complete}
 use Rattle.cd_grammar.proofs.PartLemmas.{enclosed_again}
 use Rattle.cd_grammar.proofs.Takes.{first_way, second_way}
 
--- behind a type: no colon and no annotation
+-- after a type: no colon and no annotation
 abbrev pub is_none : Option ℕ → Bool
 is_none None = true
 is_none (Some n) = false
@@ -46,7 +46,7 @@ no_note rest e = none_is (first_note rest) (both (not (starts (is_mark 58) rest)
 
 -- ---- how a type begins
 
--- it begins with a word or a name, behind which no colon follows
+-- it begins with a word or a name, after which no colon follows
 pub record Begins (front rest : List Token) : Type 0 where
   pub first : List ℕ
   pub more : List Token
@@ -64,7 +64,7 @@ first_run (suc depth) before part after front w = elim w [
   | inr worded ↦ (spelling worded.0, worded.1, worded.2)
 ]
 
--- behind the word of a type no colon follows
+-- after the word of a type no colon follows
 behind_second : (depth : ℕ) (w : Word) (before : List Written) (part : Part) (after : List Written) (front rest : List Token) → WritesBehind (WritesType depth) (WritesMethodType depth) w before part after front → is_free rest ≡ true → starts (is_mark 58) (front ++ rest) ≡ false
 behind_second depth (words.Prim p) before part after front rest w free = rw w.2 (no_colon rest free)
 behind_second depth words.Float32 before part after front rest w free = rw w.2 (no_colon rest free)

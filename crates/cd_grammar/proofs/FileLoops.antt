@@ -35,7 +35,7 @@ none_follows front most i types tokens total below none so_far =
     let s : then_make (λ ds. front ++ ds) (definitions_at (most - i) types tokens) ≡ Some (front, types, tokens) = rw (more, none) (ap (λ (ds : List Definition). Some (ds, types, tokens)) (append-nil front)) in
     sym so_far ∙ s
 
--- what a definition was put behind
+-- what a definition was put after
 abbrev pub Defined : Type 0
 Defined = List (List ℕ × Part) × ℕ × List Written × List Token
 

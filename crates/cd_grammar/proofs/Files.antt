@@ -194,7 +194,7 @@ rest_takes types (t ∷ rest) z e = elim (true_or_false (is_word is_service t)) 
   | inr never ↦ let f : None ≡ Some z = rw never at e in absurd cc
 ]
 
--- the definitions, where what stands behind them is read
+-- the definitions, where what comes after them is read
 abbrev Leads : List Written → List Token → List (List ℕ × Part) × List Written × List Token → Type 0
 Leads types tokens z = (y : Option Main × List Written) → rest_at z.1 z.2 ≡ Some y → WritesFile z.0 types y.0 y.1 tokens
 

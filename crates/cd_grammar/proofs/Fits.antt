@@ -47,7 +47,7 @@ parts_append n xs ys p q = list_all-append (part_fits n) xs ys ∙ both (list_al
 
 -- ---- what is written keeps it
 
--- behind something whose parts are these
+-- after something whose parts are these
 pub record Kept {A : Type 0} (parts : A → List Part) (before : List Written) (x : A) (after : List Written) : Type 0 where
   pub fit : Fit after
   pub longer : length before ≤ length after

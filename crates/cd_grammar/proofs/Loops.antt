@@ -13,7 +13,7 @@ use Rattle.cd_grammar.specs.declared.word.Word.{Word}
 use Rattle.cd_grammar.specs.declared.written.Written.{Written}
 use Rattle.cd_grammar.specs.Read.{Reading, is_mark, starts, put_behind, token_note, first_note, notes_at, first_word, named_at, after_word_at, type_at, method_type_at}
 
--- what a part was put behind tells of the part
+-- what a part was put after tells of the part
 pub by_part : {S A : Type 0} (read : Option (A × S × List Token)) (step : A → ℕ) (front : List A) (P : List A × ℕ × S × List Token → Type 0) → ((x : A × S × List Token) → read ≡ Some x → P (front ++ x.0 ∷ [], step x.0, x.1, x.2))
     → (y : List A × ℕ × S × List Token) → (read >>= put_behind step front) ≡ Some y → P y
 by_part {S} {A} read step front P law y e =

@@ -18,7 +18,7 @@ parts_of (Var cases) = map (λ f. f.1) cases
 parts_of (Func args results notes) = args ++ results
 parts_of (Service methods) = map (λ m. m.1) methods
 
--- a test of each type that stands in the service
+-- a test of each type that is in the service
 abbrev pub all_in_main : (Part → Bool) → Option Main → Bool
 all_in_main test None = true
 all_in_main test (Some main) = list_all test main.tuple && test main.service

@@ -38,7 +38,7 @@ abbrev pub WritesCase : Writes Part → ℕ → Writes (ℕ × Part)
 WritesCase P next before field after tokens = WritesLabelled P before field after tokens
     ⊎ ((label : Token) × (tokens ≡ label ∷ []) × IsLabel field.0 label × (field.1 ≡ Prim primitives.Null) × (after ≡ before))
 
--- the id behind a field
+-- the id after a field
 abbrev pub after_field : ℕ × Part → ℕ
 after_field field = suc field.0
 
@@ -52,7 +52,7 @@ IsArgumentName (quoted s) = (said : List ℕ) × Unescaped said s
 IsArgumentName (mark m) = ⊥
 IsArgumentName arrow = ⊥
 
--- a type of a tuple, maybe behind a name and a colon
+-- a type of a tuple, maybe after a name and a colon
 abbrev pub WritesArgument : Writes Part → ℕ → Writes Part
 WritesArgument P next before part after tokens = P before part after tokens
     ⊎ ((name : Token) × (inner : List Token) × (tokens ≡ name ∷ colon ∷ inner) × IsArgumentName name × P before part after inner)
@@ -94,16 +94,16 @@ abbrev pub WritesService : Writes Part → Writes Part
 WritesService M before part after tokens = (methods : List (List ℕ × Part)) × (between : List Written) × (rest : List Token) × (tokens ≡ open_brace ∷ rest)
     × WritesParts semicolon close_brace (WritesMethod M) no_place 0 before methods between rest × Adds between (Service methods) part after
 
--- a record or a variant behind its word: fields in braces
+-- a record or a variant after its word: fields in braces
 abbrev pub WritesFields : (ℕ → Writes (ℕ × Part)) → (ℕ × Part → ℕ) → (List (ℕ × Part) → Written) → Writes Part
 WritesFields P step made before part after tokens = (fields : List (ℕ × Part)) × (between : List Written) × (rest : List Token) × (tokens ≡ open_brace ∷ rest)
     × WritesParts semicolon close_brace P step 0 before fields between rest × Adds between (made fields) part after
 
--- an opt or a vec behind its word
+-- an opt or a vec after its word
 abbrev pub WritesInner : Writes Part → (Part → Written) → Writes Part
 WritesInner P made before part after tokens = (inner : Part) × (between : List Written) × P before inner between tokens × Adds between (made inner) part after
 
--- what is written behind a word that begins a type
+-- what is written after a word that begins a type
 abbrev pub WritesBehind : Writes Part → Writes Part → Word → Writes Part
 WritesBehind P M (words.Prim p) before part after tokens = (part ≡ Prim p) × (after ≡ before) × (tokens ≡ [])
 WritesBehind P M words.Float32 before part after tokens = (part ≡ Float) × (after ≡ before) × (tokens ≡ [])
@@ -133,7 +133,7 @@ abbrev mutual
 abbrev pub max_depth : ℕ
 max_depth = 128
 
--- the end of the file, maybe behind a semicolon
+-- the end of the file, maybe after a semicolon
 abbrev pub IsEnd : List Token → Type 0
 IsEnd tokens = (tokens ≡ []) ⊎ (tokens ≡ semicolon ∷ [])
 
@@ -163,12 +163,12 @@ pub record WritesMain (before : List Written) (main : Main) (after : List Writte
 abbrev pub WritesDefinition : Writes (List ℕ × Part)
 WritesDefinition before definition after tokens = (rest : List Token) × (tokens ≡ word words.Definition ∷ run definition.0 ∷ equals ∷ rest) × IsFreeName definition.0 × WritesType max_depth before definition.1 after rest
 
--- what stands behind the definitions
+-- what comes after the definitions
 abbrev pub WritesRest : Writes (Option Main)
 WritesRest before None after tokens = (tokens ≡ []) × (after ≡ before)
 WritesRest before (Some main) after tokens = WritesMain before main after tokens
 
--- definitions, each with a semicolon, which may be missing at the end of the file, and what stands behind them
+-- definitions, each with a semicolon, which may be missing at the end of the file, and what comes after them
 abbrev pub WritesFile : List (List ℕ × Part) → Writes (Option Main)
 WritesFile [] before main after tokens = WritesRest before main after tokens
 WritesFile (definition ∷ definitions) before main after tokens = (between : List Written) × (front : List Token) × (rest : List Token) × (tokens ≡ front ++ rest) × WritesDefinition before definition between front

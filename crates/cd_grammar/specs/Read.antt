@@ -31,14 +31,14 @@ is_arrow (quoted s) = false
 is_arrow (mark m) = false
 is_arrow arrow = true
 
--- a part behind those before it, and what `step` makes of it
+-- a part after those before it, and what `step` makes of it
 abbrev pub put_behind : {S A : Type 0} → (A → ℕ) → List A → A × S × List Token → Option (List A × ℕ × S × List Token)
 put_behind step front x = Some (front ++ x.0 ∷ [], step x.0, x.1, x.2)
 
 abbrev pub with_part : {S A : Type 0} → (A → ℕ) → List A → Option (A × S × List Token) → Option (List A × ℕ × S × List Token)
 with_part step front read = read >>= put_behind step front
 
--- parts behind an opening mark
+-- parts after an opening mark
 abbrev pub enclosed_at : {S A : Type 0} → ℕ → ℕ → ℕ → (ℕ → Reading S A) → (A → ℕ) → Reading S (List A)
 enclosed_at begin separator end read step state tokens =
     if starts (is_mark begin) tokens then parts_at separator end read step (length tokens) 0 state (drop 1 tokens) else None
@@ -54,7 +54,7 @@ token_word (quoted s) = None
 token_word (mark m) = None
 token_word arrow = None
 
--- the word that stands first
+-- the word that comes first
 abbrev pub first_word : List Token → Option Word
 first_word [] = None
 first_word (t ∷ rest) = token_word t
@@ -75,7 +75,7 @@ abbrev pub named_at : Reads Part
 named_at types [] = None
 named_at types (t ∷ rest) = free_name t >>= λ name. Some (Name name, types, rest)
 
--- a type behind its label and a colon
+-- a type after its label and a colon
 abbrev pub labelled_at : Reads Part → Token → Reads (ℕ × Part)
 labelled_at read label types tokens = label_of label >>= λ id. then_make (λ part. (id, part)) (read types tokens)
 
@@ -130,7 +130,7 @@ abbrev pub with_note : Option ℕ → List Token → List ℕ × List Token → 
 with_note None tokens more = ([], tokens)
 with_note (Some note) tokens more = (note ∷ more.0, more.1)
 
--- the annotation that stands first
+-- the annotation that comes first
 abbrev pub first_note : List Token → Option ℕ
 first_note [] = None
 first_note (t ∷ rest) = token_note t
@@ -163,7 +163,7 @@ fields_at read step made types tokens = enclosed_at 123 59 125 read step types t
 abbrev pub inner_at : Reads Part → (Part → Written) → Reads Part
 inner_at read made types tokens = read types tokens >>= added made
 
--- a type behind its word
+-- a type after its word
 unfoldable pub after_word_at : Reads Part → Reads Part → Word → Reads Part
 after_word_at read method (words.Prim p) types tokens = Some (Prim p, types, tokens)
 after_word_at read method words.Float32 types tokens = Some (Float, types, tokens)
@@ -177,7 +177,7 @@ after_word_at read method words.Func types tokens = function_at read types token
 after_word_at read method words.Service types tokens = service_at method types tokens
 after_word_at read method _ types tokens = None
 
--- a type behind its first token, if that is a word; else a name
+-- a type after its first token, if that is a word; else a name
 abbrev pub worded_at : Reads Part → Reads Part → Option Word → Token → Reads Part
 worded_at read method None t types rest = named_at types (t ∷ rest)
 worded_at read method (Some w) t types rest = after_word_at read method w types rest
@@ -194,7 +194,7 @@ unfoldable mutual
   method_type_at zero types tokens = None
   method_type_at (suc depth) types tokens = if starts (is_mark 40) tokens then function_at (type_at depth) types tokens else named_at types tokens
 
--- a definition behind the word `type`
+-- a definition after the word `type`
 abbrev pub defined_as : List ℕ → Reads (List ℕ × Part)
 defined_as name types rest = if starts (is_mark 61) rest then then_make (λ part. (name, part)) (type_at max_depth types (drop 1 rest)) else None
 
@@ -223,7 +223,7 @@ abbrev pub are_none : List Token → Bool
 are_none [] = true
 are_none (t ∷ rest) = false
 
--- behind a definition: the end of the file, or a semicolon and more
+-- after a definition: the end of the file, or a semicolon and more
 abbrev pub behind_definition : Reads (List (List ℕ × Part)) → (List ℕ × Part) × List Written × List Token → Option (List (List ℕ × Part) × List Written × List Token)
 behind_definition more x =
     if are_none x.2 then Some (x.0 ∷ [], x.1, x.2)
@@ -242,7 +242,7 @@ is_any_word (quoted s) = false
 is_any_word (mark m) = false
 is_any_word arrow = false
 
--- behind the service's name and colon
+-- after the service's name and colon
 abbrev pub past_colon : List Token → Option (List Token)
 past_colon tokens = if starts (is_mark 58) tokens then Some (drop 1 tokens) else None
 
@@ -268,14 +268,14 @@ is_end (t ∷ u ∷ rest) = false
 abbrev pub main_of : List Part → Part × List Written × List Token → Option (Main × List Written)
 main_of tuple x = if is_end x.2 then Some (record { tuple = tuple; service = x.0 }, x.1) else None
 
--- the service behind the types that it is installed with, and the end
+-- the service after the types that it is installed with, and the end
 abbrev pub main_with : List Part → List Written → List Token → Option (Main × List Written)
 main_with tuple types tokens = served_at types tokens >>= main_of tuple
 
 abbrev pub main_behind : List Written → List Token → Option (Main × List Written)
 main_behind types tokens = installed_at types tokens >>= λ installed. main_with installed.0 installed.1 installed.2
 
--- the service behind its word, and the end
+-- the service after its word, and the end
 abbrev pub main_at : List Written → List Token → Option (Main × List Written)
 main_at types tokens = past_name tokens >>= main_behind types
 
@@ -284,7 +284,7 @@ abbrev pub rest_at : List Written → List Token → Option (Option Main × List
 rest_at types [] = Some (None, types)
 rest_at types (t ∷ rest) = if is_word is_service t then (main_at types rest >>= λ x. Some (Some x.0, x.1)) else None
 
--- the file of definitions, types and what stands behind the definitions
+-- the file of definitions, types and what comes after the definitions
 abbrev pub with_rest : List (List ℕ × Part) × List Written × List Token → Option File
 with_rest x = rest_at x.1 x.2 >>= λ y. Some (record { types = y.1; definitions = x.0; main = y.0 })
 

@@ -38,7 +38,7 @@ fn is_service(token: &Token<'_>) -> bool
     }
 }
 
-// Whether the word `type` stands first.
+// Whether the word `type` comes first.
 fn starts_type(tokens: &[Token<'_>]) -> bool
     ensures { result ≡ starts (is_word is_type) (token_views tokens.now) }
 {
@@ -51,7 +51,7 @@ fn starts_type(tokens: &[Token<'_>]) -> bool
     }
 }
 
-// A definition behind the word `type`.
+// A definition after the word `type`.
 fn definition_of(reader: &mut Reader<'_, '_>) -> Result<(Bytes, Part), ReadError>
     ensures { Gives (λ x. (x, reader.new.types.items, token_views reader.new.rest.now)) result (definition_at reader.old.types.items (token_views reader.old.rest.now)) }
 {
@@ -68,7 +68,7 @@ fn definition_of(reader: &mut Reader<'_, '_>) -> Result<(Bytes, Part), ReadError
     }
 }
 
-// What a name is defined as, behind `=`.
+// What a name is defined as, after `=`.
 fn defined_as(reader: &mut Reader<'_, '_>, name: Bytes) -> Result<(Bytes, Part), ReadError>
     ensures { Gives (λ x. (x, reader.new.types.items, token_views reader.new.rest.now)) result (defined_as name reader.old.types.items (token_views reader.old.rest.now)) }
 {
@@ -123,7 +123,7 @@ fn add_definitions(
     Err(ReadError::Refused)
 }
 
-// Moves behind a colon, where one stands.
+// Moves past a colon, where there is one.
 fn past_colon(reader: &mut Reader<'_, '_>) -> bool
     ensures rest { (if result then Some (token_views reader.new.rest.now) else None) ≡ past_colon (token_views reader.old.rest.now) }
     ensures types { reader.new.types.items ≡ reader.old.types.items }
@@ -135,7 +135,7 @@ fn past_colon(reader: &mut Reader<'_, '_>) -> bool
     true
 }
 
-// Moves behind the service's name and its colon, where they stand.
+// Moves past the service's name and its colon, where they are there.
 fn past_name(reader: &mut Reader<'_, '_>) -> bool
     ensures rest { (if result then Some (token_views reader.new.rest.now) else None) ≡ past_name (token_views reader.old.rest.now) }
     ensures types { reader.new.types.items ≡ reader.old.types.items }
@@ -197,7 +197,7 @@ fn is_end(tokens: &[Token<'_>]) -> bool
     }
 }
 
-// The service behind the types that it is installed with, and the end of the file.
+// The service after the types that it is installed with, and the end of the file.
 fn main_with(reader: &mut Reader<'_, '_>, tuple: Parts) -> Result<Main, ReadError>
     ensures { Gives (λ main. (main, reader.new.types.items)) result (main_with tuple reader.old.types.items (token_views reader.old.rest.now)) }
 {
@@ -213,7 +213,7 @@ fn main_with(reader: &mut Reader<'_, '_>, tuple: Parts) -> Result<Main, ReadErro
     }
 }
 
-// The service behind its word, and the end of the file.
+// The service after its word, and the end of the file.
 fn main_of(reader: &mut Reader<'_, '_>) -> Result<Main, ReadError>
     ensures { Gives (λ main. (main, reader.new.types.items)) result (main_at reader.old.types.items (token_views reader.old.rest.now)) }
 {

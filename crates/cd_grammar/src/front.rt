@@ -37,7 +37,7 @@ pub(crate) fn word_of(token: &Token<'_>) -> Option<Word>
     }
 }
 
-/// The word that stands first.
+/// The word that comes first.
 pub fn first_word(tokens: &[Token<'_>]) -> Option<Word>
     ensures { result ≡ first_word (token_views tokens.now) }
 {

@@ -2,7 +2,7 @@
 //! and files): what a file says, as it is written.
 //!
 //! `specs/Grammar` says which tokens are which file. A file is read exactly: a text is one file at
-//! most, and what is read is what stands there. Whether the file makes sense is not asked here.
+//! most, and what is read is what is there. Whether the file makes sense is not asked here.
 #![tactic(auto)]
 
 mod file;

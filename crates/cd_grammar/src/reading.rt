@@ -52,7 +52,7 @@ pub(crate) fn named_of(reader: &mut Reader<'_, '_>) -> Result<Part, ReadError>
     }
 }
 
-// The annotation that stands first.
+// The annotation that comes first.
 fn first_note(tokens: &[Token<'_>]) -> Option<u8>
     ensures value { result ≡ first_note (token_views tokens.now) }
     ensures bound { IfSome result (λ note. 0 < length tokens.now) }
@@ -66,7 +66,7 @@ fn first_note(tokens: &[Token<'_>]) -> Option<u8>
     }
 }
 
-// The annotations that stand first.
+// The annotations that come first.
 fn notes_of(reader: &mut Reader<'_, '_>) -> Result<Bytes, ReadError>
     ensures notes { Gives (λ x. (x, token_views reader.new.rest.now)) result (Some (notes_at (token_views reader.old.rest.now))) }
     ensures types { reader.new.types.items ≡ reader.old.types.items }
@@ -79,7 +79,7 @@ fn notes_of(reader: &mut Reader<'_, '_>) -> Result<Bytes, ReadError>
     Ok(Bytes { items: notes })
 }
 
-// A function type behind its results: the annotations.
+// A function type after its results: the annotations.
 fn noted(reader: &mut Reader<'_, '_>, args: Parts, results: Parts) -> Result<Part, ReadError>
     ensures { Gives (λ x. (x, reader.new.types.items, token_views reader.new.rest.now)) result (noted args (results, reader.old.types.items, token_views reader.old.rest.now)) }
 {
@@ -96,7 +96,7 @@ fn noted(reader: &mut Reader<'_, '_>, args: Parts, results: Parts) -> Result<Par
     }
 }
 
-// Which rows stand between braces: the fields of a record, or the cases of a variant.
+// Which rows are between braces: the fields of a record, or the cases of a variant.
 #[derive(Clone, Copy)]
 enum Rows {
     Fields,
@@ -112,7 +112,7 @@ fn rows_made(rows: Rows, items: WrittenFields) -> Written
     }
 }
 
-// The id of a field behind one with this id. No case goes by it.
+// The id of a field after one with this id. No case goes by it.
 fn id_after(rows: Rows, id: u64) -> u64
     requires { suc id < 2 ^ 64 }
     ensures { result ≡ id_after rows id }
@@ -210,7 +210,7 @@ fn vec_of(reader: &mut Reader<'_, '_>, depth: u32) -> Result<Part, ReadError>
     }
 }
 
-// A record or a variant behind its word.
+// A record or a variant after its word.
 #[cycle(reader)]
 fn rows_of(reader: &mut Reader<'_, '_>, depth: u32, rows: Rows) -> Result<Part, ReadError>
     ensures { Gives (λ x. (x, reader.new.types.items, token_views reader.new.rest.now)) result (fields_at (row_at rows (type_at depth)) (after_row rows) (rows_made rows) reader.old.types.items (token_views reader.old.rest.now)) }
@@ -227,7 +227,7 @@ fn rows_of(reader: &mut Reader<'_, '_>, depth: u32, rows: Rows) -> Result<Part, 
     }
 }
 
-// The fields or cases behind the brace.
+// The fields or cases after the brace.
 #[cycle(reader)]
 fn add_rows(
     reader: &mut Reader<'_, '_>,
@@ -259,7 +259,7 @@ fn add_rows(
     Err(ReadError::Refused)
 }
 
-// One field or case more: the id behind it.
+// One field or case more: the id after it.
 #[cycle(reader)]
 fn add_row(
     reader: &mut Reader<'_, '_>,
@@ -313,7 +313,7 @@ fn row_of(
     }
 }
 
-// A type behind its label and a colon.
+// A type after its label and a colon.
 #[cycle(reader)]
 fn labelled_of(
     reader: &mut Reader<'_, '_>,
@@ -358,7 +358,7 @@ pub(crate) fn tuple_of(reader: &mut Reader<'_, '_>, depth: u32) -> Result<Vec<Pa
     }
 }
 
-// The types of a tuple, behind its parenthesis.
+// The types of a tuple, after its parenthesis.
 #[cycle(reader)]
 fn add_arguments(
     reader: &mut Reader<'_, '_>,
@@ -404,7 +404,7 @@ fn add_argument(
     }
 }
 
-// A type of a tuple, maybe behind a name and `:`.
+// A type of a tuple, maybe after a name and `:`.
 #[cycle(reader)]
 fn argument_of(reader: &mut Reader<'_, '_>, depth: u32) -> Result<Part, ReadError>
     ensures { Gives (λ x. (x, reader.new.types.items, token_views reader.new.rest.now)) result (argument_at (type_at depth) 0 reader.old.types.items (token_views reader.old.rest.now)) }
@@ -436,7 +436,7 @@ fn function_of(reader: &mut Reader<'_, '_>, depth: u32) -> Result<Part, ReadErro
     }
 }
 
-// A function type behind its arguments.
+// A function type after its arguments.
 #[cycle(reader)]
 fn results_of(reader: &mut Reader<'_, '_>, depth: u32, args: Parts) -> Result<Part, ReadError>
     ensures { Gives (λ x. (x, reader.new.types.items, token_views reader.new.rest.now)) result (results_at (type_at depth) (args, reader.old.types.items, token_views reader.old.rest.now)) }
@@ -468,7 +468,7 @@ pub(crate) fn service_of(reader: &mut Reader<'_, '_>, depth: u32) -> Result<Part
     }
 }
 
-// The methods of a service, behind its brace.
+// The methods of a service, after its brace.
 #[cycle(reader)]
 fn add_methods(
     reader: &mut Reader<'_, '_>,

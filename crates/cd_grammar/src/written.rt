@@ -2,7 +2,7 @@ use cd_types::Primitive;
 use ic_principal::{Bytes, Text};
 use std::marker::Model;
 
-/// A type where a part may stand.
+/// A type where a part may be.
 #[derive(Drop)]
 pub enum Part {
     Prim(Primitive),
@@ -87,7 +87,7 @@ pub struct Main {
     pub service: Part,
 }
 
-/// An interface file: the types with parts that are written in it, each behind its own parts; the
+/// An interface file: the types with parts that are written in it, each after its own parts; the
 /// definitions, names and types; and its service, if it has one. Contracts see these.
 #[derive(Drop)]
 pub struct File {

@@ -56,7 +56,7 @@ module _ (R : TyRef → TyRef → Type 0) where
   turned (compound (Service ms)) s' (ns, e, r) = subst (λ (x : Shape). Alike (Turned R) x (compound (Service ms))) (sym e) (ms, refl, under_turned ms ns r)
   turned dangling s' e = absurd e
 
-  -- what stands at a place of one list stands at that of the other
+  -- what is at a place of one list is at that of the other
   pub under_at : (fs gs : List (ℕ × TyRef)) (i : ℕ) (f : ℕ × TyRef) → AlikeUnder R fs gs → slice_get fs i ≡ Some f → (u : TyRef) × (slice_get gs i ≡ Some (f.0, u)) × R f.1 u
   under_at [] gs i f alike at = absurd cc
   under_at (g ∷ fs) gs zero f (u, more, e, r, rest) at =

@@ -42,6 +42,6 @@ a_function = record {
   references = refl;
 }
 
--- an entry that is met twice stands once, and one that is met from no type does not stand there
+-- an entry that is met twice is there once, and one that is met from no type is not there
 met_twice : IsPart (Opt (Prim Nat) ∷ Seq (Prim Nat) ∷ []) (Index 1 ∷ Index 1 ∷ []) (Seq (Prim Nat) ∷ [], Index 0 ∷ Index 0 ∷ [])
 met_twice = record { met = 1 ∷ []; order = first _ refl refl (primitive (again 0 refl done)); entries = refl; references = refl }

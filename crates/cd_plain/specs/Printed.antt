@@ -12,11 +12,11 @@ use Rattle.cd_names.specs.Names.{IdNames, name_for}
 use Rattle.cd_codec.specs.Content.{Content, Plain, null, bool, nat, int, nat8, nat16, nat32, nat64, int8, int16, int32, int64, text, reserved, func, service, principal, plain, blob, none, some, list, record_of, variant, Contents, no_content, content, Parts, no_part, part}
 use Rattle.cd_plain.specs.Types.{inner_of, item_of, fields_of, nth_field, nth_type}
 
--- a byte by two lower hex digits behind a backslash
+-- a byte by two lower hex digits after a backslash
 abbrev pub hex_escape : ℕ → List ℕ
 hex_escape b = 92 ∷ digit_char (b / 16) ∷ digit_char (b % 16) ∷ []
 
--- a byte of a text: " and \ behind a backslash, control characters as hex, all else as it stands
+-- a byte of a text: " and \ after a backslash, control characters as hex, all else as it is
 abbrev pub escape : ℕ → List ℕ
 escape b = if b == 34 || b == 92 then 92 ∷ b ∷ [] else if nat_lt b 32 || b == 127 then hex_escape b else b ∷ []
 
@@ -101,12 +101,12 @@ unfoldable mutual
   item_texts names table item no_content = []
   item_texts names table item (content v vs) = value_text names table item v ∷ item_texts names table item vs
 
-  -- the fields of a record, the first of which stands at this place
+  -- the fields of a record, the first of which is at this place
   pub field_texts : Option IdNames → List Entry → List (ℕ × TyRef) → ℕ → Parts → List (List ℕ)
   field_texts names table fields place no_part = []
   field_texts names table fields place (part id v ps) = labelled (label_text names id) (value_text names table (nth_field fields place).1 v) ∷ field_texts names table fields (suc place) ps
 
--- each value at its type; the first stands at this place
+-- each value at its type; the first is at this place
 abbrev pub argument_texts : Option IdNames → List Entry → List TyRef → ℕ → List Content → List (List ℕ)
 argument_texts names table types place [] = []
 argument_texts names table types place (v ∷ vs) = value_text names table (nth_type types place) v ∷ argument_texts names table types (suc place) vs

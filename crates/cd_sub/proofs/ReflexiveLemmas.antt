@@ -28,7 +28,7 @@ use Rattle.cd_types.proofs.EntryLemmas.{entry_formed}
 less_other : (o : Ordering) → o ≡ Less → is_eq o ≡ false
 less_other o less = rw less refl
 
--- a type of its own label is looked up behind a first one too
+-- a type of its own label is looked up after a first one too
 behind_first : {K : Type 0} (cmp : K → K → Ordering) (field : K × TyRef) (fields more : List (K × TyRef)) → AllByRecursion (λ later. cmp field.0 later.0 ≡ Less) more
     → AllByRecursion (λ f. type_under cmp f.0 fields ≡ Some f.1) more → AllByRecursion (λ f. type_under cmp f.0 (field ∷ fields) ≡ Some f.1) more
 behind_first cmp field fields [] above own = tt

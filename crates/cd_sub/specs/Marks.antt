@@ -20,7 +20,7 @@ is_failed Unknown = false
 is_failed Holds = false
 is_failed Fails = true
 
--- each mark is right, but that what is marked `Holds` may also stand among `met`, still to be shown
+-- each mark is right, but that what is marked `Holds` may also be among `met`, still to be shown
 pub record IsRightBut (met : List ℕ) (first second : List Entry) (marks : List Mark) : Type 0 where
   pub holds : (place : ℕ) → mark_at marks place ≡ Holds → Contains met place ⊎ PlaceSub first second place
   pub fails : (place : ℕ) → mark_at marks place ≡ Fails → PlaceSub first second place → ⊥
@@ -35,7 +35,7 @@ pub record Knows (first second : List Entry) (marks : List Mark) : Type 0 where
   pub room : (length marks ≡ 0) ⊎ (length marks ≡ 2 * (length first * length second))
   pub right : IsRight first second marks
 
--- some of the parts that were unknown are now marked `Holds` and stand behind what was met before
+-- some of the parts that were unknown are now marked `Holds` and come after what was met before
 pub record Notes (old new : List Mark) (before after parts : List ℕ) : Type 0 where
   pub kept : (place : ℕ) → mark_at old place ≡ Holds → mark_at new place ≡ Holds
   pub fails : (place : ℕ) → mark_at new place ≡ Fails → mark_at old place ≡ Fails

@@ -1,5 +1,5 @@
 -- Candid specification, "Subtyping": what a rule leaves to show of two entries, as the places of
--- pairs of entries among the marks, or none where no rule fits. `found` is what stands before;
+-- pairs of entries among the marks, or none where no rule fits. `found` is what comes before;
 -- `turned` says that the lower type is of the second table.
 use Rattle.std.specs.Prelude.{ℕ, ◌+◌, ◌*◌, Bool, true, false, not, ◌&&◌, List, [], ◌∷◌, ◌++◌, length, Option, Some, None, nat_lt, if◌then◌else◌}
 use Rattle.std.specs.Option.{option_and_then}

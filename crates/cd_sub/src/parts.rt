@@ -14,7 +14,7 @@ use cd_types::{Entry, TyRef, TypeTable};
 use ic_base::NoMemory;
 use ic_principal::Text;
 
-/// What stands under a label: an expected field of a record, a case of a variant, or an expected
+/// What is under a label: an expected field of a record, a case of a variant, or an expected
 /// method of a service. A sequence is like a record whose labels are places.
 #[derive(Clone, Copy)]
 pub(crate) enum Labelled {

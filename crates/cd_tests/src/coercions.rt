@@ -140,7 +140,7 @@ static ROWS: [Row; 41] = [
         b"DIDL\x01\x6c\x01\x00\x7d\x01\x00\x05",
         Ok(b"\x00"),
     ),
-    // Fields that are not expected, in front and behind.
+    // Fields that are not expected, before and after.
     (
         b"DIDL\x01\x6c\x01\x05\x7d\x01\x00",
         b"DIDL\x01\x6c\x03\x00\x71\x05\x7d\x06\x71\x01\x00\x01a\x07\x01b",

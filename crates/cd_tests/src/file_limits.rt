@@ -4,7 +4,7 @@ use ic_base::NoMemory;
 use std::alloc::Global;
 use std::test::*;
 
-/// Pieces of a text one after the other, each so many times, and the text's fault.
+/// Pieces of a text one after the other, each that many times, and the text's fault.
 type Row = (&'static [(&'static [u8], usize)], Option<DidFault>);
 
 const NOT_INTERFACE: Option<DidFault> = Some(DidFault::NotInterface);

@@ -95,7 +95,7 @@ static ROWS: [(&[u8], Option<DidFault>); 84] = [
     (b"type A = vec(nat)", NOT_INTERFACE),
     (b"service : { f : (nat nat) -> () }", NOT_INTERFACE),
     (b"service : { f : () -> () g : () -> () }", NOT_INTERFACE),
-    // What is missing, or stands where something else must.
+    // What is missing, or is where something else must.
     (b"type", NOT_INTERFACE),
     (b"type 1 = nat", NOT_INTERFACE),
     (b"type \"A\" = nat", NOT_INTERFACE),

@@ -3,7 +3,7 @@ use ic_base::NoMemory;
 use std::alloc::Global;
 use std::test::*;
 
-/// Bytes, and how often they stand there.
+/// Bytes, and how often they are there.
 type Piece = (&'static [u8], usize);
 
 /// A header with the expected types, the pieces of a text, and whether it says values.

@@ -8,15 +8,15 @@ use std::test::*;
 enum Wanted {
     Header(HeaderFault),
     Values(ValueFault),
-    /// So many values.
+    /// That many values.
     Read(usize),
-    /// A record with so many fields of the kinds that belong to their ids.
+    /// A record with that many fields of the kinds that belong to their ids.
     Kinds(usize),
     /// Values that are written so.
     Written(&'static [u8]),
     /// Values that are written as they were.
     Same,
-    /// Values that are read again as they were: so many types, and as many values.
+    /// Values that are read again as they were: that many types, and as many values.
     Again(usize),
 }
 
@@ -32,7 +32,7 @@ const EVERY_KIND: &[u8] =
 \x00\x7e\x01\x7c\x02\x7b\x03\x76\x04\x00\x05\x01\x06\x02\x07\x68\x08\x03\x09\x04\x01\x05\
 \x01\x7f\x07\xfe\xff\x01\x05\x02ab\x01\x09\x01\x01\x04\x01\x01\x00\x01m\x01\x00";
 
-// A table in a test would be long to prove, so each stands behind a function.
+// A table in a test would be long to prove, so a function gives each.
 static MESSAGES: [(&[u8], Wanted); 44] = [
     (b"DIDL\x00\x00", Wanted::Read(0)),
     (b"DIDL\x00\x01\x7d\x2a", Wanted::Read(1)),
@@ -120,7 +120,7 @@ static MESSAGES: [(&[u8], Wanted); 44] = [
         b"DIDL\x80\x00\x81\x00\xfd\x7f\xaa\x00",
         Wanted::Written(b"DIDL\x00\x01\x7d\x2a"),
     ),
-    // -2^127 behind a padded count, and a text.
+    // -2^127 after a padded count, and a text.
     (
         b"DIDL\x00\x82\x00\x7c\x71\x80\x80\x80\x80\x80\x80\x80\x80\x80\x80\x80\x80\x80\x80\x80\x80\x80\x80\x7e\x02hi",
         Wanted::Written(

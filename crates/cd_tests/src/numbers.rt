@@ -25,7 +25,7 @@ static ROWS: [Row; 48] = [
     (NAT, b"(0X2a)", None),
     (NAT, b"(42nat)", None),
     (NAT, b"(4.2)", None),
-    // A sign stands at its digits.
+    // A sign is at its digits.
     (NAT, b"(-1)", None),
     (NAT, b"(- 42)", None),
     (INT, b"(-42)", Some(b"(-42)")),

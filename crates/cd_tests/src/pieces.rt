@@ -1,7 +1,7 @@
 use ic_base::NoMemory;
 use std::alloc::Global;
 
-/// Bytes, and how often they stand there.
+/// Bytes, and how often they are there.
 pub(crate) type Piece<'a> = (&'a [u8], usize);
 
 fn repeat(bytes: &[u8], times: usize, message: &mut Vec<u8>) -> Result<(), NoMemory> {

@@ -81,7 +81,7 @@ fn extend(alloc: Global, sketches: &[Sketch], entries: &mut Vec<Entry>) -> Resul
     Ok(())
 }
 
-/// The entries, so many times.
+/// The entries, that many times.
 pub(crate) fn entries(
     alloc: Global,
     sketches: &[Sketch],

@@ -4,7 +4,7 @@ use ic_base::NoMemory;
 use std::alloc::Global;
 use std::test::*;
 
-/// Entries, how often they stand there, and the fault.
+/// Entries, how often they are there, and the fault.
 type Row = (&'static [Sketch], usize, Option<TableFault>);
 
 const NAT: TyRef = TyRef::Prim(Prim::Nat);

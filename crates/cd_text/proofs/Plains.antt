@@ -157,7 +157,7 @@ principal_at_again : Again (OneToken (StringOf IsPrincipalText)) principal_text_
 unfolding principal_text_at
 principal_at_again = first_again (StringOf IsPrincipalText) (string_says (λ s. text_of s >>= principal_of)) (string_again IsPrincipalText (λ s. text_of s >>= principal_of) principal_again)
 
--- behind a word
+-- after a word
 behind_takes : {A : Type 0} (w : List ℕ) (P : Words A) (read : Taking A) → Takes P read → (tokens : List Token) (z : A × List Token) → after_word w read tokens ≡ Some z → (front : List Token) × (tokens ≡ run w ∷ (front ++ z.1)) × P z.0 front
 behind_takes w P read law tokens z e = elim (true_or_false (starts (is_word w) tokens)) [
   | inl found ↦

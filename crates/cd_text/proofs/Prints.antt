@@ -15,7 +15,7 @@ use Rattle.cd_text.specs.Said.{Saying, SaysParts, InBraces}
 use Rattle.cd_text.proofs.Escapes.{ascii_before}
 use Rattle.cd_text.proofs.Values.{both}
 
--- the bytes are UTF-8, and the tokens stand in them, also where a text without a word byte in front follows
+-- the bytes are UTF-8, and the tokens are in them, also where a text without a word byte in front follows
 pub record Prints (tokens : List Token) (bytes : List ℕ) : Type 0 where
   pub lexed : (more : List Token) (rest : List ℕ) → goes_on rest ≡ false → IsTokens false more rest → IsTokens false (tokens ++ more) (bytes ++ rest)
   pub utf8 : IsUtf8 bytes

@@ -32,7 +32,7 @@ empty_slots fields = map (λ f. None) fields
 abbrev pub seen_slots : List (ℕ × Content) → List (ℕ × TyRef) → List (Option Content)
 seen_slots done fields = map (λ f. value_of done f.0) fields
 
--- what is still to be placed, and what stands in its place
+-- what is still to be placed, and what is in its place
 pub record Filling (fields : List (ℕ × TyRef)) (said : List (ℕ × Content)) (slots : List (Option Content)) (all : List (ℕ × Content)) : Type 0 where
   pub done : List (ℕ × Content)
   pub parts : all ≡ said ++ done
@@ -102,7 +102,7 @@ taken_twice fields said more x k d v slots all e place there f =
     ]) in
     rw (whole, not_fit fields said (x ∷ f.done) bad) refl
 
--- one more value stands in its place
+-- one more value is in its place
 no_type : (fields : List (ℕ × TyRef)) (done : List (ℕ × Content)) (x : ℕ × Content) → type_of fields x.0 ≡ None → seen_slots (x ∷ done) fields ≡ seen_slots done fields
 no_type [] done x e = refl
 no_type (f ∷ fields) done x e = elim (true_or_false (f.0 == x.0)) [

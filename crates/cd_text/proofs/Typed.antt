@@ -404,7 +404,7 @@ typed table formed (suc depth) type v tokens small (inr is) =
 abbrev IsArgument : List Entry → List TyRef → ℕ × Content → Type 0
 IsArgument table types x = (type : TyRef) × (slice_get types x.0 ≡ Some type) × IsTyped table type x.1
 
--- the arguments stand at the places from `next` on
+-- the arguments are at the places from `next` on
 abbrev ArePlaced : ℕ → List (ℕ × Content) → Type 0
 ArePlaced next [] = Unit {0}
 ArePlaced next (x ∷ xs) = (x.0 ≡ next) × ArePlaced (suc next) xs

@@ -51,7 +51,7 @@ name_takes p rest after e = elim (true_or_false (starts (is_word (name_of p)) re
   | inr other ↦ let g : None ≡ Some after = rw other at e in absurd cc
 ]
 
--- behind the value: nothing more, or its type's name
+-- after the value: nothing more, or its type's name
 past_takes : (type : TyRef) (rest after : List Token) → past_annotation type rest ≡ Some after → (rest ≡ after) ⊎ ((p : Primitive) × (type ≡ Prim p) × (rest ≡ mark 58 ∷ run (name_of p) ∷ after))
 past_takes (Prim p) rest after e = elim (true_or_false (starts (is_mark 58) rest)) [
   | inl colon ↦
@@ -89,7 +89,7 @@ closed_takes {A} x z e = elim (true_or_false (starts (is_mark 41) x.2)) [
   | inr never ↦ let f : None ≡ Some z = rw never at e in absurd cc
 ]
 
--- what stands in parentheses
+-- what is in parentheses
 enclosed_takes : {A : Type 0} (type : TyRef) (P : Saying A) (many : A → ℕ) (read : Budgeted A) → Sound P many read → (n : ℕ) (tokens : List Token) (z : A × ℕ × List Token) → starts (is_mark 40) tokens ≡ true → parenthesized_at type read n tokens ≡ Some z
     → Consumes (λ v. InParentheses type (P v)) many n tokens z
 enclosed_takes {A} type P many read law n tokens z paren e =
@@ -533,7 +533,7 @@ ended_takes x z e = elim (true_or_false (starts (is_mark 125) x.2)) [
   ]
 ]
 
--- a case behind its label
+-- a case after its label
 record Chosen (table : List Entry) (depth : ℕ) (cases : List (ℕ × TyRef)) (id n : ℕ) (tokens : List Token) (z : Content × ℕ × List Token) : Type 0 where
   place : ℕ
   type : TyRef

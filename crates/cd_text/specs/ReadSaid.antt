@@ -20,7 +20,7 @@ use Rattle.cd_text.specs.Said.{type_of, value_of, is_absent, left_out, filled, p
 pub use Rattle.cd_tokens.specs.ReadParts.{then_make, parts_at}
 use Rattle.cd_plain.specs.ReadPlain.{is_word, is_mark, starts, after_word, natural_at, string_at, principal_text_at, func_at, primitive_at, Budgeted, alone}
 
--- behind the annotation, where one stands
+-- after the annotation, where there is one
 abbrev pub past_name : Primitive → List Token → Option (List Token)
 past_name p rest = if starts (is_word (name_of p)) rest then Some (drop 1 rest) else None
 
@@ -34,11 +34,11 @@ with_annotation type x = past_annotation type x.2 >>= λ rest. Some (x.0, x.1, r
 abbrev pub annotated_at : {A : Type 0} → TyRef → Budgeted A → Budgeted A
 annotated_at type read left tokens = read left tokens >>= with_annotation type
 
--- what stands in parentheses
+-- what is in parentheses
 abbrev pub closed : {A : Type 0} → A × ℕ × List Token → Option (A × ℕ × List Token)
 closed x = if starts (is_mark 41) x.2 then Some (x.0, x.1, drop 1 x.2) else None
 
--- behind an opening parenthesis
+-- after an opening parenthesis
 abbrev pub parenthesized_at : {A : Type 0} → TyRef → Budgeted A → Budgeted A
 parenthesized_at type read left tokens = annotated_at type read left (drop 1 tokens) >>= closed
 
@@ -89,7 +89,7 @@ field_at read fields next left [] = None
 field_at read fields next left (t ∷ rest) =
     if starts (is_mark 61) rest then (label_of t >>= λ id. typed_at read fields id left (drop 1 rest)) else typed_at read fields next left (t ∷ rest)
 
--- the place behind a field
+-- the place after a field
 abbrev pub after_field : ℕ × Content → ℕ
 after_field f = suc f.0
 
@@ -161,7 +161,7 @@ chosen_at read depth table cases id left tokens = do
   type ← type_of cases id
   then_make (λ v. variant place v) (case_at read depth table type left tokens >>= variant_ended)
 
--- a variant behind its brace
+-- a variant after its brace
 abbrev pub labelled_at : (TyRef → Budgeted Content) → ℕ → List Entry → List (ℕ × TyRef) → Budgeted Content
 labelled_at read depth table cases left [] = None
 labelled_at read depth table cases left (t ∷ rest) = label_of t >>= λ id. chosen_at read depth table cases id left rest
@@ -201,7 +201,7 @@ value_at table (suc depth) type left tokens =
 abbrev pub argument_at : List Entry → List TyRef → ℕ → Budgeted (ℕ × Content)
 argument_at table types place left tokens = slice_get types place >>= λ type. then_make (λ v. (place, v)) (annotated_at type (value_at table 128 type) left tokens)
 
--- all arguments, and nothing behind them
+-- all arguments, and nothing after them
 abbrev pub all_said : List TyRef → List (ℕ × Content) × ℕ × List Token → Option (List Content)
 all_said types (arguments, left, []) = if length arguments == length types then Some (map (λ x. x.1) arguments) else None
 all_said types (arguments, left, t ∷ rest) = None

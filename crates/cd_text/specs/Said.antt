@@ -22,7 +22,7 @@ use Rattle.cd_text.specs.SaysPlain.{SaysNatural, SaysPlain, SaysPrincipal, SaysF
 abbrev pub Saying : Type 0 → Type 1
 Saying A = A → List Token → Type 0
 
--- a value, after which : and its type's name may stand where it is primitive
+-- a value, after which : and its type's name may be where it is primitive
 pub data Annotated (type : TyRef) (P : List Token → Type 0) (tokens : List Token) : Type 0 where
   bare : P tokens → Annotated type P tokens
   annotated : (p : Primitive) (front : List Token) → type ≡ Prim p → tokens ≡ front ++ colon ∷ run (name_of p) ∷ [] → P front → Annotated type P tokens
@@ -79,7 +79,7 @@ abbrev pub are_distinct : List (ℕ × Content) → Bool
 are_distinct [] = true
 are_distinct (said ∷ more) = is_absent said.0 more && are_distinct more
 
--- a value that may be left out where a part may stand: one level below its record
+-- a value that may be left out where a part may be: one level below its record
 abbrev pub left_out : ℕ → Shape → Option Content
 left_out zero s = None
 left_out (suc depth) s = missing s
@@ -146,7 +146,7 @@ SaysShape depth table P (compound (Func args results notes)) v tokens = (p : Lis
 SaysShape depth table P (compound (Service methods)) v tokens = (p : List ℕ) × (v ≡ plain (service p)) × SaysPrincipal (codes "service") p tokens
 SaysShape depth table P dangling v tokens = ⊥
 
--- the tokens say the value at the type, within a number of levels: values and their parts are one below another, and so is what stands in parentheses
+-- the tokens say the value at the type, within a number of levels: values and their parts are one below another, and so is what is in parentheses
 abbrev pub Says : List Entry → ℕ → TyRef → Saying Content
 Says table zero type v tokens = ⊥
 Says table (suc depth) type v tokens = SaysShape depth table (Says table depth) (shape table type) v tokens ⊎ InParentheses type (Says table depth type v) tokens

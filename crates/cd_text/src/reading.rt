@@ -43,7 +43,7 @@ pub fn name_of(prim: Prim) -> &'static [u8]
     }
 }
 
-/// The tokens behind the name of the type, where a colon and a name stand.
+/// The tokens after the name of the type, where a colon and a name stand.
 pub(crate) fn past_annotation<'t, 'a>(ty: TyRef, tokens: &'t [Token<'a>]) -> Option<&'t [Token<'a>]>
     ensures { option_map (λ rest. token_views rest.now) result ≡ past_annotation ty (token_views tokens.now) }
 {
@@ -63,14 +63,14 @@ pub(crate) fn past_annotation<'t, 'a>(ty: TyRef, tokens: &'t [Token<'a>]) -> Opt
     }
 }
 
-// Whether the word stands first, and a brace behind it.
+// Whether the word comes first, and a brace after it.
 fn starts_braces(tokens: &[Token<'_>], word: &[u8]) -> bool
     ensures { result ≡ (starts (is_word word.now) (token_views tokens.now) && starts (is_mark 123) (drop 1 (token_views tokens.now))) }
 {
     starts_word(tokens, word) && starts_mark(rest_of(tokens), b'{')
 }
 
-// The tokens behind the end of a variant.
+// The tokens after the end of a variant.
 fn past_variant<'t, 'a>(tokens: &'t [Token<'a>]) -> Option<&'t [Token<'a>]>
     ensures { (v : Content) (left : ℕ) → option_map (λ rest. (v, left, token_views rest.now)) result ≡ variant_ended (v, left, token_views tokens.now) }
 {
@@ -142,7 +142,7 @@ fn annotated_byte<'t, 'a>(
     Some((byte, left, rest))
 }
 
-// The numbers of a vec nat8, behind its brace.
+// The numbers of a vec nat8, after its brace.
 fn bytes_of<'t, 'a>(
     alloc: Global,
     item: TyRef,
@@ -241,7 +241,7 @@ fn value_of<'t, 'a>(
     }
 }
 
-/// A value within a number of levels, and its type's name where one stands.
+/// A value within a number of levels, and its type's name where there is one.
 #[cycle(reader)]
 pub(crate) fn annotated_of<'t, 'a>(
     alloc: Global,
@@ -502,7 +502,7 @@ fn variant_of<'t, 'a>(
     }
 }
 
-// The case with an id, behind its label.
+// The case with an id, after its label.
 #[cycle(reader)]
 fn chosen_of<'t, 'a>(
     alloc: Global,

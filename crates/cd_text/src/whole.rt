@@ -50,7 +50,7 @@ fn argument_of<'t, 'a>(
     }
 }
 
-// The arguments behind the opening parenthesis.
+// The arguments after the opening parenthesis.
 fn arguments_of<'t, 'a>(
     alloc: Global,
     table: &TypeTable,
@@ -81,7 +81,7 @@ fn arguments_of<'t, 'a>(
     Err(ReadError::Refused)
 }
 
-// Whether there is a value for each type, and nothing behind them.
+// Whether there is a value for each type, and nothing after them.
 fn is_all(values: usize, types: usize, rest: &[Token<'_>]) -> bool
     ensures { result ≡ (length rest.now == 0 && values == types) }
 {

@@ -128,7 +128,7 @@ piece_before comments p front bytes more rest e is (all last none) = all (elim l
   | inr h ↦ inr (front ++ h.0, h.1, h.2, e ∙ ap (λ xs. front ++ xs) h.3 ∙ sym (append_assoc front h.0 (47 ∷ 47 ∷ h.1)), more_pieces comments p front h.0 is h.4, h.5)
 ]) none
 
--- a comment that ends, and what is passed behind it
+-- a comment that ends, and what is passed after it
 record Ends (comments : Bool) (Is : List ℕ → Type 0) (bytes rest : List ℕ) : Type 0 where
   front : List ℕ
   more : List ℕ
@@ -166,7 +166,7 @@ two_bytes b k bytes others first e = rw (first, e) refl
 more_left : (front more bytes : List ℕ) → bytes ≡ front ++ more → length more < suc (length bytes)
 more_left front more bytes e = let n = ap length e in let m = length-append front more in omega (arith, n, m)
 
--- behind a slash: a comment
+-- after a slash: a comment
 slash_takes : (comments : Bool) (bytes rest : List ℕ) → comments ≡ true → past_from comments Slash bytes ≡ Some rest → ((more : List ℕ) → length more < length bytes → past_from comments Between more ≡ Some rest → Passes comments more rest) → Passes comments (47 ∷ bytes) rest
 unfolding past_from
 slash_takes comments [] rest on e law = absurd cc

@@ -17,11 +17,11 @@ use Rattle.cd_tokens.specs.ReadTokens.{tokens_from, tokens_of}
 use Rattle.cd_tokens.proofs.Gaps.{is_clear, clear_stays, gap_again, last_again, gap, all, gap_takes}
 use Rattle.cd_tokens.proofs.Firsts.{token_again, token_takes, token_clear, some_byte}
 
--- a token and what follows it, where no gap stands before
+-- a token and what follows it, where no gap comes before
 at_once : (comments : Bool) (t : Token) (tokens : List Token) (front rest : List ℕ) → IsToken t front → IsEnded t rest → IsTokens comments tokens rest → IsTokens comments (t ∷ tokens) (front ++ rest)
 at_once comments t tokens front rest is ends follows = record { gap = []; front = front; rest = rest; whole = refl; is_gap = ([], refl); is_token = is; ended = ends; follows = follows }
 
--- what the tokens say of what is behind the gap
+-- what the tokens say of what is after the gap
 record Past (comments : Bool) (tokens : List Token) (text : List ℕ) : Type 0 where
   rest : List ℕ
   passed : past_gap comments text ≡ Some rest
@@ -79,7 +79,7 @@ before comments tokens text rest e is = elim (gap_takes comments text rest e) [
   | all last none ↦ subst (λ ts. IsTokens comments ts text) (sym (only_empty comments tokens (subst (IsTokens comments tokens) none is))) last
 ]
 
--- a token that is read stands before the tokens of what follows
+-- a token that is read comes before the tokens of what follows
 one_before : (comments : Bool) (t : Token) (tokens : List Token) (text rest : List ℕ) → token_at text ≡ Some (t, rest) → IsTokens comments tokens rest → IsTokens comments (t ∷ tokens) text
 one_before comments t tokens text rest e is =
     let r = token_takes text (t, rest) e in
@@ -139,7 +139,7 @@ one_read comments done rest text t after behind r some e passed = record {
 none_some : {A : Type 0} (x : A) (read : Option A) → read ≡ None → read ≡ Some x → ⊥
 none_some x read e f = cc
 
--- no token stands where one should
+-- no token is where one should
 pub no_token : (comments : Bool) (done : List Token) (rest text : List ℕ) → Read comments done rest text → 0 < length rest → token_at rest ≡ None → (tokens : List Token) → IsTokens comments tokens text → ⊥
 no_token comments done rest text r some e tokens is =
     let m = r.only tokens is in

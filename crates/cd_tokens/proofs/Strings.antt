@@ -137,7 +137,7 @@ number_push : (n : ℕ) (ds : List ℕ) (d : ℕ) → number_from_digits_after 1
 number_push n [] d = refl
 number_push n (e ∷ ds) d = number_push (n * 16 + e) ds d
 
--- what the rest of a string says, behind what stands before it
+-- what the rest of a string says, after what comes before it
 Claim : Within → List ℕ → List ℕ → Type 0
 Claim Plain bytes what = Unescaped what bytes
 Claim Backslash bytes what = Unescaped what (92 ∷ bytes)

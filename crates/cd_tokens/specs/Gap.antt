@@ -1,4 +1,4 @@
--- What may stand between tokens (Candid specification, "Comments"): blanks, and comments where they are admitted.
+-- What may be between tokens (Candid specification, "Comments"): blanks, and comments where they are admitted.
 use Rattle.std.specs.Prelude.{◌≡◌, ℕ, Bool, true, false, ◌==◌, ◌&&◌, not, List, [], ◌∷◌, ◌++◌, ◌⊎◌, if◌then◌else◌}
 use Rattle.std.specs.List.{list_all}
 use Rattle.ic_base.specs.Spelling.{SpellsMany}
@@ -15,12 +15,12 @@ abbrev pub is_end : List ℕ → Bool
 is_end [] = true
 is_end (b ∷ bytes) = false
 
--- a line feed ends the bytes, and stands nowhere before
+-- a line feed ends the bytes, and is nowhere before
 abbrev pub is_line : List ℕ → Bool
 is_line [] = false
 is_line (b ∷ bytes) = if b == 10 then is_end bytes else is_line bytes
 
--- */ ends the bytes, and stands nowhere before; `star`: a * stands before
+-- */ ends the bytes, and is nowhere before; `star`: a * comes before
 abbrev pub is_block : Bool → List ℕ → Bool
 is_block star [] = false
 is_block star (b ∷ bytes) = if star && b == 47 then is_end bytes else is_block (b == 42) bytes
@@ -39,7 +39,7 @@ IsGap comments bytes = (pieces : List Piece) × SpellsMany (IsPiece comments) pi
 abbrev pub is_inside_line : ℕ → Bool
 is_inside_line b = not (b == 10)
 
--- the bytes are the gap behind the last token: it may end within a comment to the end of its line
+-- the bytes are the gap after the last token: it may end within a comment to the end of its line
 abbrev pub IsLastGap : Bool → List ℕ → Type 0
 IsLastGap comments bytes = IsGap comments bytes
     ⊎ ((front rest : List ℕ) × (comments ≡ true) × (bytes ≡ front ++ (47 ∷ 47 ∷ rest)) × IsGap comments front × (list_all is_inside_line rest ≡ true))

@@ -8,7 +8,7 @@ use Rattle.cd_tokens.specs.Numeral.{IsNumeral}
 use Rattle.cd_tokens.specs.Unescaped.{Unescaped}
 use Rattle.cd_tokens.specs.Token.{Token, run, quoted, mark, arrow}
 
--- what stands between the quotes says this text
+-- what is between the quotes says this text
 abbrev pub IsTextOf : List ℕ → List ℕ → Type 0
 IsTextOf text written = Unescaped text written × (is_utf8 text ≡ true)
 

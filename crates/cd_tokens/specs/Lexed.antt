@@ -5,7 +5,7 @@ use Rattle.ic_base.specs.declared.read_error.ReadError.TheVariants.{NoMemory, Re
 use Rattle.cd_tokens.specs.Token.{Token, IsToken, IsEnded}
 use Rattle.cd_tokens.specs.Gap.{IsGap, IsLastGap}
 
--- a token behind a gap, and what follows
+-- a token after a gap, and what follows
 pub record Next (comments : Bool) (t : Token) (Rest : List ℕ → Type 0) (text : List ℕ) : Type 0 where
   pub gap : List ℕ
   pub front : List ℕ
@@ -16,7 +16,7 @@ pub record Next (comments : Bool) (t : Token) (Rest : List ℕ → Type 0) (text
   pub ended : IsEnded t rest
   pub follows : Rest rest
 
--- the tokens stand in the text, in order, with gaps before, between and after them
+-- the tokens are in the text, in order, with gaps before, between and after them
 abbrev pub IsTokens : Bool → List Token → List ℕ → Type 0
 IsTokens comments [] text = IsLastGap comments text
 IsTokens comments (t ∷ tokens) text = Next comments t (IsTokens comments tokens) text

@@ -18,10 +18,10 @@ abbrev pub IsNumeral : ℕ → List ℕ → Type 0
 IsNumeral n bytes = ((ds : List ℕ) × AreDigits 10 ds bytes × (n ≡ number_from_digits 10 ds))
     ⊎ ((rest ds : List ℕ) × (bytes ≡ 48 ∷ 120 ∷ rest) × AreDigits 16 ds rest × (n ≡ number_from_digits 16 ds))
 
--- a natural number: a numeral, maybe behind +
+-- a natural number: a numeral, maybe after +
 abbrev pub IsNatural : ℕ → List ℕ → Type 0
 IsNatural n bytes = IsNumeral n bytes ⊎ ((rest : List ℕ) × (bytes ≡ 43 ∷ rest) × IsNumeral n rest)
 
--- an integer: a natural number, or a numeral behind -
+-- an integer: a natural number, or a numeral after -
 abbrev pub IsInteger : ℤ → List ℕ → Type 0
 IsInteger z bytes = ((n : ℕ) × (z ≡ pos n) × IsNatural n bytes) ⊎ ((n : ℕ) × (rest : List ℕ) × (z ≡ neg_ℤ (pos n)) × (bytes ≡ 45 ∷ rest) × IsNumeral n rest)

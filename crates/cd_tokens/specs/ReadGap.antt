@@ -4,7 +4,7 @@ use Rattle.cd_tokens.specs.Bytes.{is_blank}
 use Rattle.cd_tokens.specs.declared.gap.Place.{Place}
 use Rattle.cd_tokens.specs.declared.gap.Place.TheVariants.{Between, Slash, Line, Block}
 
--- the place behind one more byte, where the gap goes on
+-- the place after one more byte, where the gap goes on
 abbrev pub step : Bool → Place → ℕ → Option Place
 step comments Between b = if is_blank b then Some Between else if comments && b == 47 then Some Slash else None
 step comments Slash b = if b == 47 then Some Line else if b == 42 then Some (Block false) else None
@@ -29,7 +29,7 @@ abbrev pub or_stopped : {A : Type 0} → Option Place → (Place → A) → A �
 or_stopped None go stopped = stopped
 or_stopped (Some place) go stopped = go place
 
--- what stands behind the gap, of which a front is read
+-- what comes after the gap, of which a front is read
 unfoldable pub past_from : Bool → Place → List ℕ → Option (List ℕ)
 past_from comments place [] = if may_end place then Some [] else None
 past_from comments place (b ∷ bytes) = or_stopped (step comments place b) (λ next. past_from comments next bytes) (if may_stop place then Some (b ∷ bytes) else None)

@@ -16,7 +16,7 @@ bytes_of said.Nothing = []
 bytes_of (said.Byte b) = b ∷ []
 bytes_of (said.Char c) = encode_utf8 c
 
--- behind a backslash: a letter, u, or a hex digit
+-- after a backslash: a letter, u, or a hex digit
 abbrev pub behind_backslash : Option ℕ → Bool → Option ℕ → Option (Within × Said)
 behind_backslash (Some c) is_u digit = Some (Plain, said.Byte c)
 behind_backslash None true digit = Some (Brace, said.Nothing)
@@ -31,7 +31,7 @@ paired d e = below (2 ^ 8) (Some (d * 16 + e)) >>= λ b. Some (Plain, said.Byte 
 abbrev pub with_digit : ℕ → ℕ → ℕ → Option (Within × Said)
 with_digit count n d = below (2 ^ 32) (Some (n * 16 + d)) >>= λ m. Some (Scalar (count + 1) m, said.Nothing)
 
--- where one stands behind one more byte, and what that byte says
+-- where one comes after one more byte, and what that byte says
 abbrev pub string_step : Within → ℕ → Option (Within × Said)
 string_step Plain b = if b == 92 then Some (Backslash, said.Nothing) else if nat_lt b 32 || b == 34 then None else Some (Plain, said.Byte b)
 string_step Backslash b = behind_backslash (letter_says b) (b == 117) (digit_of 16 b)

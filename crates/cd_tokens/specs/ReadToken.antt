@@ -14,7 +14,7 @@ unfoldable pub end_of : Bool → List ℕ → Option ℕ
 end_of escaped [] = None
 end_of escaped (b ∷ bytes) = if not escaped && b == 34 then Some 0 else after_one (end_of (not escaped && b == 92) bytes)
 
--- a string behind its first quote
+-- a string after its first quote
 abbrev pub string_at : Reader Token
 string_at bytes = do
   n ← end_of false bytes

@@ -3,7 +3,7 @@ use Rattle.std.specs.Prelude.{◌≡◌, ℕ, Bool, true, false, ◌==◌, ◌&&
 use Rattle.std.specs.List.{list_all}
 use Rattle.cd_tokens.specs.Bytes.{is_word_byte, is_sign, is_mark, goes_on}
 
--- a word or a number, a string as it stands between its quotes, a mark, or ->
+-- a word or a number, a string as it is between its quotes, a mark, or ->
 pub data Token : Type 0 where
   run : List ℕ → Token
   quoted : List ℕ → Token
@@ -19,7 +19,7 @@ abbrev pub is_run : List ℕ → Bool
 is_run [] = false
 is_run (b ∷ bytes) = begins_run b bytes && list_all is_word_byte bytes
 
--- each backslash stands before a byte that it escapes, and each quote is escaped; `escaped`: a backslash stands before
+-- each backslash comes before a byte that it escapes, and each quote is escaped; `escaped`: a backslash comes before
 abbrev pub is_closed : Bool → List ℕ → Bool
 is_closed escaped [] = not escaped
 is_closed escaped (b ∷ bytes) = not (not escaped && b == 34) && is_closed (not escaped && b == 92) bytes

@@ -4,7 +4,7 @@ use Rattle.std.specs.Int.Digits.{number_from_digits}
 use Rattle.std.specs.Char.{IsScalar}
 use Rattle.cd_tokens.specs.Numeral.{digit_of}
 
--- a piece of a string, and the bytes that it says: a byte as it stands, a letter behind a backslash, two hex digits behind one,
+-- a piece of a string, and the bytes that it says: a byte as it is, a letter after a backslash, two hex digits after one,
 -- a scalar value in braces
 pub data Part : Type 0 where
   byte : ℕ → Part
@@ -12,7 +12,7 @@ pub data Part : Type 0 where
   pair : ℕ → ℕ → Part
   scalar : List ℕ → Part
 
--- the byte that a letter behind a backslash says: n, r, t, \, " and '
+-- the byte that a letter after a backslash says: n, r, t, \, " and '
 abbrev pub letter_says : ℕ → Option ℕ
 letter_says b = if b == 110 then Some 10 else if b == 114 then Some 13 else if b == 116 then Some 9 else if b == 92 || b == 34 || b == 39 then Some b else None
 
@@ -34,6 +34,6 @@ abbrev pub SayParts : List Part → List ℕ → List ℕ → Type 0
 SayParts [] said written = (said ≡ []) × (written ≡ [])
 SayParts (p ∷ ps) said written = (first : List ℕ) × (rest : List ℕ) × (front : List ℕ) × (back : List ℕ) × (said ≡ first ++ rest) × (written ≡ front ++ back) × SaysPart p first front × SayParts ps rest back
 
--- what stands between the quotes says these bytes
+-- what is between the quotes says these bytes
 abbrev pub Unescaped : List ℕ → List ℕ → Type 0
 Unescaped said written = (ps : List Part) × SayParts ps said written

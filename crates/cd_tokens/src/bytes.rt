@@ -29,7 +29,7 @@ pub(crate) fn is_mark(byte: u8) -> bool
     )
 }
 
-/// Whether a letter, a digit or `_` stands first.
+/// Whether a letter, a digit or `_` comes first.
 pub(crate) fn goes_on(bytes: &[u8]) -> bool
     ensures { result ≡ goes_on bytes.now }
 {

@@ -7,7 +7,7 @@ ghost use Rattle.cd_tokens.specs.ReadGap.{step, may_end, may_stop, past_gap};
 enum Place {
     /// Before a blank, a comment or a token.
     Between,
-    /// Behind the first slash of a comment.
+    /// After the first slash of a comment.
     Slash,
     /// In a comment to the end of its line.
     Line,
@@ -86,7 +86,7 @@ impl Place {
     }
 }
 
-/// What stands behind the gap. `None`: a comment is not closed.
+/// What comes after the gap. `None`: a comment is not closed.
 pub(crate) fn past_gap(comments: bool, text: &[u8]) -> Option<&[u8]>
     ensures { option_map (λ rest. rest.now) result ≡ past_gap comments text.now }
 {

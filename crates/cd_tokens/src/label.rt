@@ -29,7 +29,7 @@ fn utf8_of(bytes: Vec<u8>) -> Option<Text>
     }
 }
 
-/// The text that a string says, of what stands between its quotes. `Refused`: it says no text.
+/// The text that a string says, of what is between its quotes. `Refused`: it says no text.
 #[tactic(auto, unfolding(crate::specs::ReadLabel::text_of))]
 pub fn text_of(alloc: Global, written: &[u8]) -> Result<Text, ReadError>
     ensures { Gives (λ text. text) result (text_of written.now) }

@@ -1,9 +1,9 @@
 //! The tokens of Candid's textual formats, of values and of interface files (Candid specification,
 //! "Core Grammar"): words, numbers, strings, labels and marks.
 //!
-//! `specs/Lexed` says which tokens stand in a text, `specs/Numeral`, `specs/Unescaped` and
+//! `specs/Lexed` says which tokens are in a text, `specs/Numeral`, `specs/Unescaped` and
 //! `specs/Label` what a token says. Each is read exactly: a text has one list of tokens at most, and
-//! what is read is what stands there.
+//! what is read is what is there.
 #![tactic(auto)]
 
 mod bytes;

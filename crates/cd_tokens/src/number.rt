@@ -109,7 +109,7 @@ pub fn numeral_of(bytes: &[u8]) -> Option<u128>
 }
 
 /// The natural number that a token says: decimal digits, or `0x` and hex digits, with single `_`
-/// between digits, maybe behind `+`. `None` where it says none below 2^128.
+/// between digits, maybe after `+`. `None` where it says none below 2^128.
 #[tactic(auto, unfolding(crate::specs::ReadNumeral::natural_of))]
 pub fn natural_of(bytes: &[u8]) -> Option<u128>
     ensures { result ≡ below (2 ^ 128) (natural_of bytes.now) }
@@ -153,7 +153,7 @@ fn positive(amount: Option<u128>, half: u128) -> Option<i128>
     }
 }
 
-/// The integer that a token says: a natural number, or one without `+` behind `-`. `None` where it
+/// The integer that a token says: a natural number, or one without `+` after `-`. `None` where it
 /// says none from -half to half - 1.
 #[tactic(auto, unfolding(crate::specs::ReadNumeral::integer_of))]
 pub fn integer_of(bytes: &[u8], half: u128) -> Option<i128>

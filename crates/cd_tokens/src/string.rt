@@ -14,11 +14,11 @@ use std::alloc::Global;
 enum Within {
     Plain,
     Backslash,
-    /// Behind the first of two hex digits.
+    /// After the first of two hex digits.
     Pair { high: u8 },
-    /// Behind `\u`.
+    /// After `\u`.
     Brace,
-    /// In braces, behind so many hex digits of this number.
+    /// In braces, after that many hex digits of this number.
     Scalar { count: u32, number: u32 },
 }
 
@@ -175,7 +175,7 @@ impl Within {
     }
 }
 
-/// Whether a string says bytes, of what stands between its quotes.
+/// Whether a string says bytes, of what is between its quotes.
 pub fn says_bytes(written: &[u8]) -> bool
     ensures { result ≡ is_some (unescaped_of written.now) }
 {
@@ -189,7 +189,7 @@ pub fn says_bytes(written: &[u8]) -> bool
     within.is_plain()
 }
 
-/// The bytes that a string says, of what stands between its quotes; they may be no UTF-8.
+/// The bytes that a string says, of what is between its quotes; they may be no UTF-8.
 /// `Refused`: it says none.
 pub fn unescaped_of(alloc: Global, written: &[u8]) -> Result<Vec<u8>, ReadError>
     ensures { Gives (λ said. said.items) result (unescaped_of written.now) }

@@ -18,7 +18,7 @@ use std::alloc::Global;
 pub enum Token<'a> {
     /// A word or a number, with its sign.
     Run(Piece<'a>),
-    /// A string, as it stands between its quotes.
+    /// A string, as it is between its quotes.
     Quoted(Piece<'a>),
     /// One of `(` `)` `{` `}` `:` `;` `,` `=` `.`
     Mark(u8),

@@ -13,7 +13,7 @@ pub enum TyRef {
 }
 
 impl TyRef {
-    /// Whether the reference is inside a table of so many entries: a primitive type is inside each.
+    /// Whether the reference is inside a table of that many entries: a primitive type is inside each.
     pub fn is_inside(self, count: usize) -> bool
         ensures { result ≡ is_inside count self }
     {

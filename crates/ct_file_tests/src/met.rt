@@ -164,7 +164,7 @@ fn is_name(placed: &PlacedToken<'_>) -> bool {
     }
 }
 
-// The name in the first slot stands where `a` does.
+// The name in the first slot is where `a` is.
 fn filled<'f, 'a>(
     alloc: Global,
     arguments: &'f Arguments<'a>,

@@ -1,4 +1,4 @@
--- What the tokens of arguments are to names: a word is a use of a name where a value may stand.
+-- What the tokens of arguments are to names: a word is a use of a name where a value may be.
 use Rattle.std.specs.Prelude.{ℕ, Bool, true, false, ◌==◌, ◌&&◌, ◌||◌, not, bytes_eq, if◌then◌else◌, List, [], ◌∷◌, codes}
 use Rattle.cd_tokens.specs.Token.{Token, run, quoted, mark, arrow}
 use Rattle.cd_tokens.specs.Front.{is_mark, starts}

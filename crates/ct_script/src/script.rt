@@ -88,7 +88,7 @@ impl Script {
         }
     }
 
-    /// So many cycles were burned in the delivery that began last.
+    /// That many cycles were burned in the delivery that began last.
     pub fn burn(&mut self, burned: u128) {
         if let Some(trace) = &mut self.trace {
             trace.burn(burned);

@@ -151,14 +151,14 @@ impl Deliveries {
         Ok(())
     }
 
-    // The delivery that is under way used so many instructions more.
+    // The delivery that is under way used that many instructions more.
     fn spend(&mut self, used: u64) {
         if let Some(last) = self.items.last_mut() {
             last.used = last.used.saturating_add(used);
         }
     }
 
-    // In the delivery that is under way so many cycles more were burned.
+    // In the delivery that is under way that many cycles more were burned.
     fn burn(&mut self, burned: u128) {
         if let Some(last) = self.items.last_mut() {
             last.burned = last.burned.saturating_add(burned);
@@ -243,7 +243,7 @@ impl Trace {
         self.fall_all(canister, heard.trapped())
     }
 
-    /// So many cycles were burned in the delivery that began last.
+    /// That many cycles were burned in the delivery that began last.
     pub(crate) fn burn(&mut self, burned: u128) {
         self.deliveries.burn(burned);
     }

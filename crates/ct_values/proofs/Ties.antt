@@ -200,7 +200,7 @@ list_of ours left tokens v vs less rest word brace opens ps = record {
   met = one_met (sequence (length vs)) v vs ps.steps opens ps.met;
 }
 
--- what stands in braces after a word
+-- what is in braces after a word
 pub braces_are : {A : Type 0} (word : List ℕ) (read : ℕ → Budgeted A) (step : A → ℕ) (left : ℕ) (tokens : List Token) (y : List A × ℕ × List Token) → in_braces word read step left tokens ≡ Some y
     → (starts (is_word word) tokens ≡ true) × (starts (is_mark 123) (drop 1 tokens) ≡ true) × (their_parts 59 125 read step (length tokens) 0 left (drop 1 (drop 1 tokens)) ≡ Some y)
 braces_are {A} word read step left tokens y e = elim (true_or_false (starts (is_word word) tokens && starts (is_mark 123) (drop 1 tokens))) [

@@ -110,8 +110,8 @@ fn view(alloc: Global, outstanding: u32) -> Result<View, NoMemory>
     })
 }
 
-/// A page of stable memory, in which `keeps` stands at 16, and so many of memory, in which the id of
-/// canister 4 stands at 0 and `relay` and a byte that is no UTF-8 behind it.
+/// A page of stable memory, in which `keeps` is at 16, and that many of memory, in which the id of
+/// canister 4 is at 0 and `relay` and a byte that is no UTF-8 after it.
 fn store(alloc: Global, pages: u32) -> Result<Store, NoMemory>
     requires { pages ≤ 256 }
 {
@@ -122,7 +122,7 @@ fn store(alloc: Global, pages: u32) -> Result<Store, NoMemory>
     Ok(store)
 }
 
-/// A machine with so many pages of memory, and so many calls that have no answer yet.
+/// A machine with that many pages of memory, and that many calls that have no answer yet.
 pub fn begun(
     alloc: Global,
     kind: EntryKind,

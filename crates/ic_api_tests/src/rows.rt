@@ -24,7 +24,7 @@ fn kinds() -> [(EntryKind, char); 9] {
     ]
 }
 
-/// Makes the call that stands before.
+/// Makes the call that comes before.
 fn prepare(rt: &impl Abort, machine: &mut Machine, before: Before) -> Result<(), NoMemory> {
     let (call, args) = match before {
         Before::Nothing => return Ok(()),

@@ -1,4 +1,4 @@
-// Calls one after the other: limits on both sides, and what comes behind an answer or a call.
+// Calls one after the other: limits on both sides, and what comes after an answer or a call.
 use crate::machine::*;
 use ic_api::EntryKind;
 use ic_base::NoMemory;
@@ -17,7 +17,7 @@ fn three(call: SystemCall, a: u64, b: u64, c: u64, answer: Answer) -> Turn {
     asking(call, [a, b, c, 0, 0, 0, 0, 0], answer)
 }
 
-/// A call to so many bytes of memory, with a name of so many.
+/// A call to that many bytes of memory, with a name of that many.
 fn new_call(callee: u64, name: u64, answer: Answer) -> Turn {
     asking(
         SystemCall::CallNew,

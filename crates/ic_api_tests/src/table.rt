@@ -42,7 +42,7 @@ fn plain(call: SystemCall, kinds: &'static str, charge: u64, answer: Answer) -> 
     }
 }
 
-/// A copy of so many bytes from the place to 64.
+/// A copy of that many bytes from the place to 64.
 fn copies(
     call: SystemCall,
     kinds: &'static str,

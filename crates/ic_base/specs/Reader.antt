@@ -50,7 +50,7 @@ filter_at test read bytes = do
   x ← read bytes
   cond (test x.0) (Some x) None
 
--- so many values, one after the other
+-- that many values, one after the other
 unfoldable pub many_at : {A : Type 0} → Reader A → ℕ → Reader (List A)
 many_at read zero bytes = Some ([], bytes)
 many_at read (suc n) bytes = do
@@ -58,7 +58,7 @@ many_at read (suc n) bytes = do
   xs ← many_at read n x.1
   Some (x.0 ∷ xs.0, xs.1)
 
--- a count, and so many values
+-- a count, and that many values
 abbrev pub vec_at : {A : Type 0} → Reader ℕ → Reader A → Reader (List A)
 vec_at count read bytes = do
   n ← count bytes
@@ -72,7 +72,7 @@ ended x = cond (nat_lt 0 (length x.1)) None (Some x.0)
 abbrev pub whole : {A : Type 0} → Reader A → List ℕ → Option A
 whole read bytes = read bytes >>= ended
 
--- a size in bytes, and a value that takes so many
+-- a size in bytes, and a value that takes that many
 abbrev pub sized_at : {A : Type 0} → Reader ℕ → Reader A → Reader A
 sized_at size read bytes = do
   n ← size bytes

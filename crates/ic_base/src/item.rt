@@ -6,7 +6,7 @@ use crate::read_error::ReadError;
 use crate::room::room_claimed;
 use std::alloc::Global;
 
-/// A value that stands in the lists of a binary format. `context` is what its reading depends on,
+/// A value that is in the lists of a binary format. `context` is what its reading depends on,
 /// `()` where it depends on nothing.
 pub trait Item<C>: Drop {
     /// What reads a value in the context.
@@ -20,7 +20,7 @@ pub trait Item<C>: Drop {
 
 /// Reads `count` values, one after the other, and gives the bytes after them. Memory is taken as
 /// values are read, whatever `count` claims; the caller bounds `count` where a value may take no
-/// byte. `Refused`: fewer values stand there.
+/// byte. `Refused`: fewer values are there.
 pub fn many<'a, C, T: Item<C>>(
     alloc: Global,
     context: &C,

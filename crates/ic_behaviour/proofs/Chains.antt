@@ -92,7 +92,7 @@ turns_eligible rules s (key ∷ keys) distinct ready =
           (others_ready rules s key ready.0.0 found keys (IsDistinct-head _ key keys distinct) ready.1),
     )
 
--- each canister stands once, in rising id
+-- each canister is there once, in rising id
 abbrev pub Rises : State → Type 0
 Rises s = IsStrictlySortedBy (slice_cmp nat_cmp) (keys_of s.canisters)
 

@@ -227,7 +227,7 @@ module _ (s : State) (c : Canister) (sound : Tallied s) (is_new : IsNew s.next_c
     λ k fits is. (let old = given.1 k fits is in omega (arith, old)),
   )
 
-  -- it stands under its own id, and has no items
+  -- it is under its own id, and has no items
   new_entry : IsEntry (s.next_canister + 1) (key, c)
   new_entry = record {
     own_id = refl;

@@ -67,7 +67,7 @@ module _ (rank : CallId → ℕ) where
     by true is later = omega (arith, all.0, ap rank (same_id-is id x is))
     by false is later = later (omega (arith, some, ap one is))
 
-  -- of two that stand there the lower comes first
+  -- of two that are there the lower comes first
   stands_before : (low high : CallId) (xs : List CallId) → Rises xs → 0 < total (λ i. one (same_id low i)) xs → 0 < total (λ i. one (same_id high i)) xs → rank low < rank high → place_in xs low < place_in xs high
   stands_before low high [] r a b h = absurd (not-suc-le-zero a)
   stands_before low high (x ∷ xs) r a b h = by (same_id low x) refl (same_id high x) refl (λ c d. stands_before low high xs r.1 c d h) where

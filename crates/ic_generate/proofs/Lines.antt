@@ -28,6 +28,6 @@ call_more n calls x lt =
     let more : n - calls ≡ suc (n - (calls + 1)) = omega arith in
     ap (λ left. call_lines left calls x) more
 
--- a call and what follows it stand before the calls that are left
+-- a call and what follows it come before the calls that are left
 pub moved : (text call run left : List ℕ) → ((text ++ call) ++ run) ++ left ≡ text ++ ((call ++ run) ++ left)
 moved text call run left = ap (λ l. l ++ left) (append_assoc text call run) ∙ append_assoc text (call ++ run) left

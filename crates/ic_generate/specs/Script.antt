@@ -23,7 +23,7 @@ unfoldable pub create_line : List ℕ
 create_line =
     codes "call 2vxsx-fae aaaaa-aa provisional_create_canister_with_cycles 4449444c026e7d6c01d8a38ca80d0001010180a094a58d1d" ++ newline
 
--- so many of them
+-- that many of them
 unfoldable pub create_lines : ℕ → List ℕ
 create_lines zero = []
 create_lines (suc count) = create_lines count ++ create_line
@@ -36,7 +36,7 @@ abbrev pub install_values : List ℕ → ℕ → List ℕ
 install_values code counter =
     0 ∷ (unsigned_spelling (length code) ++ code) ++ (0 ∷ 1 ∷ 10 ∷ []) ++ canister_id_of counter
 
--- behind the Candid header of that argument
+-- after the Candid header of that argument
 unfoldable pub install_line : List ℕ → ℕ → List ℕ
 install_line code counter =
     codes "call 2vxsx-fae aaaaa-aa install_code 4449444c036d7b6b019baaebec087f6c04d6fca70200a79fc97e00e3a683c30401b3c4b1f204680102"
@@ -71,7 +71,7 @@ call_line y =
 unfoldable pub run_line : ℕ → List ℕ
 run_line calls = if calls % 50 == 0 then codes "run 2" ++ newline else []
 
--- so many calls more, after this many, from this number on
+-- that many calls more, after this many, from this number on
 unfoldable pub call_lines : (left calls x : ℕ) → List ℕ
 call_lines zero calls x = []
 call_lines (suc left) calls x =

@@ -6,7 +6,7 @@ use ic_principal::Principal;
 use ic_script::hex_word;
 use std::alloc::Global;
 
-/// So many calls, chosen from that number on.
+/// That many calls, chosen from that number on.
 pub fn push_calls(alloc: Global, n: u32, text: &mut Vec<u8>) -> Result<(), NoMemory>
     requires { n ≤ 10000 }
     ensures { OnOk result (text.new.items ≡ text.old.items ++ call_lines n 0 n) }

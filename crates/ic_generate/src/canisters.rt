@@ -9,7 +9,7 @@ use std::alloc::Global;
 const CREATE: &str =
     "call 2vxsx-fae aaaaa-aa provisional_create_canister_with_cycles 4449444c026e7d6c01d8a38ca80d0001010180a094a58d1d\n";
 
-/// The lines that make so many canisters.
+/// The lines that make that many canisters.
 pub fn push_creates(count: u64, text: &mut Vec<u8>) -> Result<(), NoMemory>
     ensures { OnOk result (text.new.items ≡ text.old.items ++ create_lines count) }
 {
@@ -27,7 +27,7 @@ fn push_create(text: &mut Vec<u8>) -> Result<(), NoMemory>
     Ok(())
 }
 
-/// The lines that install a module in the first canisters, so many of them.
+/// The lines that install a module in the first canisters, that many of them.
 pub fn push_installs(
     alloc: Global,
     code: &[u8],
@@ -66,7 +66,7 @@ fn install_line(alloc: Global, code: &[u8], counter: u64) -> Result<String, NoMe
     )
 }
 
-// Behind the Candid header of an argument of install_code.
+// After the Candid header of an argument of install_code.
 fn install_values(alloc: Global, code: &[u8], counter: u64) -> Result<Vec<u8>, NoMemory>
     ensures { IfOk result (λ values. values.items ≡ install_values code.now counter) }
 {

@@ -117,7 +117,7 @@ impl Heard {
         Ok(())
     }
 
-    /// An execution used so many instructions. What was said stays.
+    /// An execution used that many instructions. What was said stays.
     pub fn spend(&mut self, used: u64)
         ensures { self.new ≡ self.old }
     {

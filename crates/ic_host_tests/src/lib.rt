@@ -1,7 +1,7 @@
 //! Tests of the crates of the host, beside them: a crate with tests of its own is proved twice.
 //!
-//! Tables stand behind functions without a contract, and a value that is dropped is asked about by a
-//! function that borrows it: written out in a test, both would be long to prove.
+//! Functions without a contract give the tables, and a function that borrows asks about a value that is
+//! dropped: written out in a test, both would be long to prove.
 #![tactic(auto)]
 
 #[cfg(test)]

@@ -9,7 +9,7 @@ use std::thread::Threads;
 #[derive(Clone, Copy)]
 pub struct Run<'a> {
     pub words: &'a [&'a str],
-    /// Texts, each so many times.
+    /// Texts, each that many times.
     pub script: &'a [(&'a str, usize)],
     /// The most bytes of a read and of a write, each pair in a run of its own.
     pub pieces: &'a [(usize, usize)],
@@ -19,7 +19,7 @@ pub struct Run<'a> {
     /// How many bytes the sink takes.
     pub room: usize,
     pub printed: &'a [u8],
-    /// What is printed behind it where the script's end is reached.
+    /// What is printed after it where the script's end is reached.
     pub end: &'a [u8],
     pub status: Status,
     /// How many bytes the source has left, where that is looked at.
@@ -62,7 +62,7 @@ fn repeat(text: &str, times: usize, script: &mut Vec<u8>) -> Result<(), NoMemory
     Ok(())
 }
 
-/// Texts, each so many times.
+/// Texts, each that many times.
 fn script_of(alloc: Global, texts: &[(&str, usize)]) -> Result<Vec<u8>, NoMemory> {
     let mut script = Vec::new(alloc);
     for (text, times) in texts {

@@ -68,7 +68,7 @@ fn reads_a_standard_stream(rt: HostRuntime) {
     assert!(rt; first == Ok(2) && last == Ok(0) && buffer == *b"ab\0");
 }
 
-// A writer that notes each flush by a bar behind what was written.
+// A writer that notes each flush by a bar after what was written.
 #[derive(Drop)]
 struct Flushed<'a> {
     noted: &'a mut Vec<u8>,

@@ -6,7 +6,7 @@ use ic_outside::{
 use std::alloc::Global;
 
 /// A script, how it is read (bytes a read, reads that fail), its limits (line, script), and the
-/// lines and the end or the fault that come of it. Behind `<` stands what the source has left.
+/// lines and the end or the fault that come of it. After `<` stands what the source has left.
 type Script = (
     &'static str,
     usize,
@@ -45,7 +45,7 @@ static SCRIPTS: [Script; 17] = [
         4,
         "abc|the script is too long at line 2<e",
     ),
-    // The byte too many of the line and of the script: the one that stands first decides.
+    // The byte too many of the line and of the script: the one that comes first decides.
     ("abcd", 9, &[], 3, 3, "line 1 is too long<"),
     ("abcd", 9, &[], 3, 2, "the script is too long at line 1<"),
     // A read that fails takes nothing, and the lines before it are handed out.
@@ -110,7 +110,7 @@ fn note_lines(
     Ok(())
 }
 
-// Notes a line with a bar behind it, and whether its number is this one.
+// Notes a line with a bar after it, and whether its number is this one.
 fn note_line(line: &Line, number: u64, text: &mut Vec<u8>) -> Result<(), NoMemory> {
     text.extend_from_slice(if line.number == number { b"" } else { b"?" })?;
     text.extend_from_slice(&line.bytes.items)?;

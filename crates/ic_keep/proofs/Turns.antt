@@ -1,4 +1,4 @@
--- A store is turned into another: ranges are written over those that stand there.
+-- A store is turned into another: ranges are written over those that are there.
 use Rattle.std.proofs.Common.{◌≡◌, ℕ, zero, suc, ◌+◌, ◌*◌, ◌<◌, true, List, [], ◌∷◌, ◌++◌, map, length, take, drop, Some, None, refl, sym, ap, ap₂, subst, ◌∙◌, if◌then◌else◌, arith}
 use Rattle.std.specs.Prelude.{slice_index_or, slice_set, nat_le}
 use Rattle.std.specs.List.{AllByRecursion}

@@ -60,7 +60,7 @@ by_size format bytes (Err Wide) none = absurd none
 pub answered : {A : Type 0} (format : Format A) (bytes : List ℕ) (r : Result (A × ℕ) LebFault) → number_by format bytes ≡ r → Answered format bytes r
 answered format bytes r e = subst (Answered format bytes) e (by_size format bytes (size_at format.most bytes) (sized format.most bytes))
 
--- one number of at most so many bytes is found, whatever follows
+-- one number of at most that many bytes is found, whatever follows
 one_again : (most : ℕ) (front rest : List ℕ) → IsOneNumber front → length front ≤ most → size_at most (front ++ rest) ≡ Ok (length front)
 one_again most front rest one room =
     let e : front ++ rest ≡ one.front ++ one.last ∷ rest = ap (λ xs. xs ++ rest) one.whole ∙ append_assoc one.front (one.last ∷ []) rest in

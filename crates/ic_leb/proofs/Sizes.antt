@@ -13,7 +13,7 @@ use Rattle.ic_leb.specs.Reading.{size_at, and_one}
 pub some_bytes : (bytes : List ℕ) → IsOneNumber bytes → 0 < length bytes
 some_bytes bytes one = omega (arith, ap length one.whole ∙ length-append one.front (one.last ∷ []))
 
--- the first so many bytes are one number
+-- the first bytes, that many, are one number
 pub record IsFound (most : ℕ) (bytes : List ℕ) (size : ℕ) : Type 0 where
   pub one : IsOneNumber (take size bytes)
   pub some : 0 < size
@@ -27,7 +27,7 @@ Sized most bytes (Err Short) = IsCutShort most bytes
 Sized most bytes (Err Long) = RunsOn most bytes
 Sized most bytes (Err Wide) = ⊥
 
--- behind a byte that continues
+-- after a byte that continues
 one_more : (b : ℕ) (most : ℕ) (bytes : List ℕ) (r : Result ℕ LebFault) → 128 ≤ b → Sized most bytes r → Sized (suc most) (b ∷ bytes) (and_one r)
 one_more b most bytes (Ok size) h found = record {
   one = record {

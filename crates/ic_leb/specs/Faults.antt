@@ -1,4 +1,4 @@
--- Where no number stands at the front of the bytes, and why.
+-- Where no number is at the front of the bytes, and why.
 use Rattle.std.specs.Prelude.{◌≡◌, ℕ, ◌<◌, ◌≤◌, ◌^◌, List, ◌++◌, length, take, FitsSigned}
 use Rattle.std.specs.List.{AllByRecursion}
 use Rattle.ic_leb.specs.declared.width.Width.{Width}

@@ -12,13 +12,13 @@ abbrev pub and_one : Result ℕ LebFault → Result ℕ LebFault
 and_one (Ok size) = Ok (suc size)
 and_one (Err e) = Err e
 
--- how many bytes the number at the front has, of at most so many
+-- how many bytes the number at the front has, of at most that many
 unfoldable pub size_at : ℕ → List ℕ → Result ℕ LebFault
 size_at zero bytes = Err Long
 size_at (suc most) [] = Err Short
 size_at (suc most) (b ∷ bytes) = if nat_lt b 128 then Ok 1 else and_one (size_at most bytes)
 
--- what so many bytes stand for, beside their number, where it fits
+-- what that many bytes stand for, beside their number, where it fits
 abbrev pub value_of : {A : Type 0} → (List ℕ → A) → (A → Bool) → List ℕ → Result ℕ LebFault → Result (A × ℕ) LebFault
 value_of value fits bytes (Err e) = Err e
 value_of value fits bytes (Ok size) = if fits (value (take size bytes)) then Ok (value (take size bytes), size) else Err Wide

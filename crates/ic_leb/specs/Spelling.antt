@@ -3,7 +3,7 @@
 use Rattle.std.specs.Prelude.{ℕ, zero, suc, ◌+◌, ◌/◌, List, [], ◌∷◌, Bool, true, false, nat_lt, ℤ, pos, negsuc}
 use Rattle.ic_leb.specs.Magnitude.{low_bits}
 
--- seven bits a byte, lowest first, up to a last byte below `end`; there are at most so many bytes, and n + 1 are enough
+-- seven bits a byte, lowest first, up to a last byte below `end`; there are at most that many bytes, and n + 1 are enough
 unfoldable pub seven_bits_each : ℕ → Bool → ℕ → ℕ → List ℕ
 seven_bits_each end negative zero n = []
 seven_bits_each end negative (suc most) n =

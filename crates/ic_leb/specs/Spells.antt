@@ -13,7 +13,7 @@ pub record IsOneNumber (bytes : List ℕ) : Type 0 where
   pub continued : AllByRecursion (λ byte. 128 ≤ byte) front
   pub ended : last < 128
 
--- one number of at most so many bytes, which stands for x; and x fits
+-- one number of at most that many bytes, which stands for x; and x fits
 pub record Spells {A : Type 0} (value : List ℕ → A) (Fits : A → Type 0) (most : ℕ) (x : A) (bytes : List ℕ) : Type 0 where
   pub one : IsOneNumber bytes
   pub size : length bytes ≤ most

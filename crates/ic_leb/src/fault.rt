@@ -3,7 +3,7 @@ ghost use Rattle.ic_base.specs.declared.read_error.ReadError.TheVariants.{Refuse
 
 use ic_base::ReadError;
 
-/// Why no number stands at the front of the bytes.
+/// Why no number is at the front of the bytes.
 #[derive(Clone, Copy, Debug, PartialEq, Eq)]
 pub enum LebFault {
     /// The bytes end before the number does.

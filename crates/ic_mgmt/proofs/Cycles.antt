@@ -15,7 +15,7 @@ use Rattle.ic_mgmt_laws.specs.Moves.{message_of}
 use Rattle.ic_behaviour.specs.declared.call.IncomingCall.{IncomingCall}
 use Rattle.ic_mgmt.specs.Taken.{Taken, HasRoom, HoldsCycles}
 
--- what stands at one place is within the whole
+-- what is at one place is within the whole
 within : (w : Message → ℕ) (ms : List Message) (place : ℕ) (m : Message) → slice_get ms place ≡ Some m → w m ≤ total w ms
 within w [] place m is = cc
 within w (x ∷ ms) zero m is = let same : x ≡ m = cc in omega (arith, ap w same)

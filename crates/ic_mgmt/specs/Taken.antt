@@ -19,7 +19,7 @@ AreCanisters p = AllByRecursion (λ (e : List ℕ × Canister). IsCanister e.1) 
 abbrev pub HaveCounts : State → Parts → Type 0
 HaveCounts now p = AllByRecursion (HasCounts now) p.canisters.entries
 
--- with messages that stand elsewhere, and the call among them, the parts are a sound state
+-- with messages that are elsewhere, and the call among them, the parts are a sound state
 pub record Taken (p : Parts) (call : IncomingCall) : Type 0 where
   pub whole : State
   pub place : ℕ

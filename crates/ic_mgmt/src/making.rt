@@ -50,7 +50,7 @@ fn unless_full(parts: &Parts) -> Result<(), Denial>
     unless(room, Denial::TooManyCanisters)
 }
 
-/// So many cycles more may be created.
+/// That many cycles more may be created.
 pub fn unless_above(created: u128, amount: u128) -> Result<(), Denial>
     ensures { result ≡ unless (nat_le (created + amount) (2 ^ 127 - 1)) denial.TooManyCycles }
 {

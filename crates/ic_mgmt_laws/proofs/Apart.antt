@@ -74,7 +74,7 @@ module _ (enters : EntersAfter) (limit : ℕ) (now other s : State) (call : Inco
   pub same_counts : handled enters limit other s call ≡ handled enters limit now s call
   same_counts = ap (ended s call) (bound (ordered (controllers_in s) call.origin call.sender call.method call.arg) (row enters limit other s call) (row enters limit now s call) row_counts)
 
--- ---- messages that stand before
+-- ---- messages that come before
 
 module _ (enters : EntersAfter) (limit : ℕ) (now s : State) (call : IncomingCall) (front : List Message) where
   abbrev behind : State → State

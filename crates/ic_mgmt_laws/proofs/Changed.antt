@@ -50,7 +50,7 @@ set_found test (e ∷ es) a b found = by (test e.0) refl found (λ h. set_found 
   by true is found later = rw is (rw is refl)
   by false is found later = rw is (rw is (later found))
 
--- the canister c, which stands under id, becomes b
+-- the canister c, which is under id, becomes b
 module _ (s : State) (id : List ℕ) (c : Canister) (found : lookup (at id) s.canisters ≡ Some c) where
   abbrev p : Spot id s.canisters c
   p = spot id s.canisters c found

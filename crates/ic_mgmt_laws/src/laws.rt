@@ -82,7 +82,7 @@ pub fn management_keeps()
     ensures calls { (enters : EntersAfter) (limit : ℕ) (s : State) (place : ℕ) (call : IncomingCall) (callee : List ℕ)
         → Sound s → slice_get s.messages place ≡ Some (message_of call callee)
         → KeepsCalls s (manage enters limit (without s place) (message_of call callee)) }
-    // so it may stand in every run
+    // so it may be in every run
     ensures outside { (enters : EntersAfter) → OutsideKeeps (manage enters) }
 {}
 

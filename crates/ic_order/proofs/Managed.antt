@@ -14,7 +14,7 @@ use Rattle.ic_order.proofs.Ways.{ways_append, ways_behind}
 use Rattle.ic_order.proofs.Same.{outstanding_same}
 
 module _ (enters : EntersAfter) (limit : ℕ) (call : IncomingCall) where
-  -- what it does to a state without messages, put behind the messages that were there
+  -- what it does to a state without messages, put after the messages that were there
   abbrev done : State → State → State
   done now s = handled enters limit now (without_messages s) call
 

@@ -27,7 +27,7 @@ IsSound-handed_out l now line piece kept sound is shorter some ahead fits is_kep
       block = sound.block;
     }
 
--- what was kept was searched, and at most one block came behind it
+-- what was kept was searched, and at most one block came after it
 pub IsSound-filled : (l : Inside) (now : LineReader) (searched : ℕ) (read kept : List ℕ) (block : Vec ℕ Global) (ended : Bool) → IsSound l → reader_of l ≡ now
     → HasNoLf now.kept → excess now.limits now.offset (length now.kept) (length now.kept) ≡ None → searched ≡ length l.kept
     → kept ≡ l.kept ++ read → length read ≤ 65536 → IsBlock (vec_len block)

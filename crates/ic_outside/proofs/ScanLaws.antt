@@ -6,7 +6,7 @@ use Rattle.std.proofs.lemmas.List.Elements.{All-from_get_or}
 use Rattle.ic_outside.specs.Pieces.{HasNoLf}
 use Rattle.ic_outside.specs.Steps.{BeginsWithLine}
 
--- where the first s bytes and the m bytes behind them hold no LF
+-- where the first s bytes and the m bytes after them hold no LF
 pub none_below : (kept : List ℕ) (s m : ℕ) → HasNoLf (take s kept) → ((k : ℕ) → k < m → (get_or (drop s kept) k 0 == 10) ≡ true → ⊥)
     → HasNoLf (take (s + m) kept)
 none_below kept s m front behind =
@@ -36,7 +36,7 @@ line_found kept s n front behind within is_lf =
       len = omega (arith, length-take (s + n) kept);
     }
 
--- where no byte behind the first s is an LF
+-- where no byte after the first s is an LF
 pub no_line : (kept : List ℕ) (s : ℕ) → s ≤ length kept → HasNoLf (take s kept) → ((k : ℕ) → k < length (drop s kept) → (get_or (drop s kept) k 0 == 10) ≡ true → ⊥)
     → HasNoLf kept
 no_line kept s within front behind =

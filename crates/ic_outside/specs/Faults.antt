@@ -7,7 +7,7 @@ use Rattle.ic_outside.specs.declared.error.LineFault.TheVariants.{ReadFault}
 abbrev pub next_count : ℕ → ℕ
 next_count n = min (n + 1) (2 ^ 64 - 1)
 
--- a count is higher than before, or stands at 2^64-1
+-- a count is higher than before, or is at 2^64-1
 abbrev pub Rose : ℕ → ℕ → Type 0
 Rose before now = next_count before ≤ now
 

@@ -18,7 +18,7 @@ pub data Excess : Type 0 where
 
 -- The limit that is passed by a line of `line` bytes whose piece of the script, its LF included, has
 -- `piece` bytes and begins at the offset. Where both are passed, the one whose first byte too many
--- stands first; at the same byte the line's.
+-- comes first; at the same byte the line's.
 unfoldable pub excess : Limits → ℕ → ℕ → ℕ → Option Excess
 excess limits offset line piece =
     if nat_lt limits.line line && nat_le (offset + limits.line) limits.script then Some LongLine

@@ -16,7 +16,7 @@ reader_of l = record {
   fault = l.fault;
 }
 
--- The bytes searched hold no LF and pass no limit, at most one block was read behind them, and
+-- The bytes searched hold no LF and pass no limit, at most one block was read after them, and
 -- nothing that is counted overflows.
 pub record IsSound (l : Inside) : Type 0 where
   pub searched : l.searched ≤ length l.kept

@@ -13,7 +13,7 @@ pub record MemoryReader : Type 0 where
   pub faults : ℕ
   pub ended : Bool
 
--- whether the next read fails: its number, counted from 1, stands in the list
+-- whether the next read fails: its number, counted from 1, is in the list
 abbrev pub read_fails : MemoryReader → Bool
 read_fails s = list_any (λ n. n == next_count s.reads) s.failing
 
@@ -21,7 +21,7 @@ read_fails s = list_any (λ n. n == next_count s.reads) s.failing
 abbrev pub read_size : MemoryReader → ℕ → ℕ
 read_size s room = min (min s.piece room) (length s.left)
 
--- the source after a read into a buffer of so many bytes
+-- the source after a read into a buffer of that many bytes
 abbrev pub after_read : MemoryReader → ℕ → MemoryReader
 after_read s room =
     if read_fails s then record s { reads = next_count s.reads; faults = next_count s.faults }

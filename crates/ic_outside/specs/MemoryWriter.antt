@@ -13,7 +13,7 @@ pub record MemoryWriter : Type 0 where
   pub writes : ℕ
   pub faults : ℕ
 
--- whether the next write fails: its number, counted from 1, stands in the list, or there are bytes
+-- whether the next write fails: its number, counted from 1, is in the list, or there are bytes
 -- to write and no room is left
 abbrev pub write_fails : MemoryWriter → List ℕ → Bool
 write_fails s bytes =

@@ -10,7 +10,7 @@ abbrev pub onto_first : ℕ → List (List ℕ) → List (List ℕ)
 onto_first b [] = (b ∷ []) ∷ []
 onto_first b (piece ∷ rest) = (b ∷ piece) ∷ rest
 
--- the bytes, cut behind each LF; where they end with an LF no empty piece follows
+-- the bytes, cut after each LF; where they end with an LF no empty piece follows
 unfoldable pub pieces : List ℕ → List (List ℕ)
 pieces [] = []
 pieces (b ∷ bs) = if b == 10 then (b ∷ []) ∷ pieces bs else onto_first b (pieces bs)

@@ -23,7 +23,7 @@ pub record HandsOut (old : LineReader) (seen : List ℕ) (line : Line) (new : Li
   pub handed : new.handed ≡ old.handed + 1
   pub fault : new.fault ≡ old.fault
   pub still : IsTrue old.ended → IsTrue new.ended
-  -- at most so many bytes past the line's end were taken from the source
+  -- at most that many bytes past the line's end were taken from the source
   pub ahead : length new.kept ≤ 65536
 
 -- A limit is passed: whatever bytes follow what was seen, the first piece of them passes it.

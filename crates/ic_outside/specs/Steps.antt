@@ -30,7 +30,7 @@ pub record IsNear (reader : LineReader) : Type 0 where
   pub script : reader.offset + length reader.kept ≤ reader.limits.script + 65536
   pub inside : reader.offset ≤ reader.limits.script
 
--- a reader after a piece of so many bytes was handed out
+-- a reader after a piece of that many bytes was handed out
 abbrev pub handed_out : LineReader → ℕ → LineReader
 handed_out reader piece = record reader {
   kept = drop piece reader.kept;

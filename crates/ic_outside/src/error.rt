@@ -19,7 +19,7 @@ pub enum LineFault {
     /// The line with this number, from 1, has more bytes before its LF than a line may have.
     LineTooLong { line: u64 },
 
-    /// The script has more bytes than a script may have; the first byte too many stands in the
+    /// The script has more bytes than a script may have; the first byte too many is in the
     /// line with this number, from 1.
     ScriptTooLong { line: u64 },
 

@@ -41,7 +41,7 @@ impl Kept {
         self.start += count;
     }
 
-    /// Puts bytes behind the others. What was let go is removed first, so a byte is moved at most
+    /// Puts bytes after the others. What was let go is removed first, so a byte is moved at most
     /// once for each time that all before it were let go.
     pub fn push(&mut self, bytes: &[u8]) -> Result<(), NoMemory>
         ensures ok { OnOk result (self.new ≡ self.old ++ bytes.now) }

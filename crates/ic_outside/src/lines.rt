@@ -36,7 +36,7 @@ pub struct Lines {
     largest_line: usize,
     largest_script: u64,
     kept: Kept,
-    // So many bytes at the front of `kept` hold no LF and pass no limit.
+    // That many bytes at the front of `kept` hold no LF and pass no limit.
     searched: usize,
     // What the source reads into, from the first read on.
     block: Vec<u8>,
@@ -171,7 +171,7 @@ impl Lines {
         }
     }
 
-    // Hands out the whole line of so many bytes that is kept first.
+    // Hands out the whole line of that many bytes that is kept first.
     fn take_line(&mut self, size: usize) -> Result<Option<Line>, LineFault>
         requires line { BeginsWithLine self.old.kept size }
         requires ahead { length self.old.kept ≤ size + 65536 }
@@ -213,7 +213,7 @@ impl Lines {
         }
     }
 
-    // Whether a line of so many bytes, in a piece of the script that begins where the reader
+    // Whether a line of that many bytes, in a piece of the script that begins where the reader
     // stands, passes a limit.
     fn check(&self, line: usize, piece: usize) -> Result<(), LineFault>
         ensures ok { OnOk result (excess self.now.limits self.now.offset line piece ≡ None) }

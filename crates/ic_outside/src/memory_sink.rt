@@ -42,8 +42,8 @@ impl Model for MemorySink {
 }
 
 impl MemorySink {
-    /// A sink with room for so many bytes, whose memory is taken here. A write takes at most
-    /// `piece` bytes, and the writes whose numbers, counted from 1, stand in `failing` fail. Every
+    /// A sink with room for that many bytes, whose memory is taken here. A write takes at most
+    /// `piece` bytes, and the writes whose numbers, counted from 1, are in `failing` fail. Every
     /// write after the one with number 2^64-1 bears that number too.
     pub fn new(
         alloc: Global,
@@ -99,7 +99,7 @@ impl Sink for MemorySink {
         ensures room { room_without_faults self.old ≡ room_before (count_moved result) (room_without_faults self.new) }
         ensures fitting { IfSome (room_without_faults self.old) (λ room. (0 < length piece.now → 0 < room)
             → IsSure (capped self.old.faults) (capped self.new.faults) result) }
-        // It fails exactly at the writes whose numbers stand in the list, and where no room is left.
+        // It fails exactly at the writes whose numbers are in the list, and where no room is left.
         ensures exact { result ≡ (if write_fails self.old piece.now then Err (record {})
             else Ok (write_size self.old piece.now)) }
         ensures after { self.new ≡ after_write self.old piece.now }

@@ -42,7 +42,7 @@ impl Model for MemorySource {
 
 impl MemorySource {
     /// A source of these bytes. A read gives at most `piece` of them, and the reads whose numbers,
-    /// counted from 1, stand in `failing` fail. Every read after the one with number 2^64-1 bears
+    /// counted from 1, are in `failing` fail. Every read after the one with number 2^64-1 bears
     /// that number too.
     pub fn new(bytes: Vec<u8>, piece: usize, failing: Vec<u64>) -> MemorySource
         requires { 0 < piece }
@@ -88,7 +88,7 @@ impl Source for MemorySource {
         ensures counted { capped self.new.faults ≡ count_after (capped self.old.faults) result }
         ensures sure { self.old.failing ≡ []
             → (self.new.failing ≡ []) × IsSure (capped self.old.faults) (capped self.new.faults) result }
-        // It fails exactly at the reads whose numbers stand in the list.
+        // It fails exactly at the reads whose numbers are in the list.
         ensures exact { result ≡ (if read_fails self.old then Err (record {})
             else Ok (read_size self.old (length buffer.old))) }
         ensures after { self.new ≡ after_read self.old (length buffer.old) }

@@ -10,7 +10,7 @@ ghost use Rattle.ic_outside.specs.StdEnds.{std_writer, sink_faults};
 use crate::{Failed, Sink};
 use std::io::Write;
 
-/// A sink over a standard writer, flushed behind each write. It tells nothing of what was taken.
+/// A sink over a standard writer, flushed after each write. It tells nothing of what was taken.
 #[derive(Drop)]
 pub struct StdSink<W> {
     writer: W,

@@ -12,7 +12,7 @@ pub length-spelled : (values : List ℕ) → length (flat_map (bits_of 5) values
 length-spelled [] = refl
 length-spelled (v ∷ vs) = omega (arith, length-append (bits_of 5 v) (flat_map (bits_of 5) vs), length-bits_of 5 v, length-spelled vs)
 
--- a value is cut off where its bits stand in front
+-- a value is cut off where its bits are in front
 fives-bits_of : (v : ℕ) (more : List Bool) → v < 32 → fives (bits_of 5 v ++ more) ≡ v ∷ fives more
 unfolding fives bits_of
 fives-bits_of v more h = ap (λ x. x ∷ fives more) (number-bits_of 5 v h)
@@ -37,7 +37,7 @@ pub fives-nil : fives [] ≡ []
 unfolding fives
 fives-nil = refl
 
--- the bits of the values are the bits, with fewer than five zeros behind
+-- the bits of the values are the bits, with fewer than five zeros after them
 pub record Filled (bits : List Bool) : Type 0 where
   pub zeros : ℕ
   pub few : zeros < 5
@@ -94,7 +94,7 @@ unfolding eights
 eights-short (a ∷ b ∷ c ∷ d ∷ e ∷ f ∷ g ∷ h ∷ bs) few = absurd (omega arith)
 eights-short bs few = refl
 
--- bytes are read from their bits, whatever few bits come behind
+-- bytes are read from their bits, whatever few bits come after
 pub eights-bits : (bytes : List ℕ) (more : List Bool) → AllByRecursion (λ b. b < 256) bytes → length more < 8 → eights (bits bytes ++ more) ≡ bytes
 eights-bits [] more h few = eights-short more few
 eights-bits (b ∷ bytes) more h few =
@@ -123,7 +123,7 @@ pub passes-below : (p : ℕ → Bool) (n : ℕ) → passes p n ≡ true → (k :
 unfolding passes
 passes-below p n = (Decides-below_and p (λ k. p k ≡ true) (passes p) (λ k. ((λ h. h), (λ h. h))) refl (λ k. refl) n).0
 
--- a value stands at the place of its character
+-- a value is at the place of its character
 pub position-character : (v : ℕ) → v < 32 → position (λ c. c == character v) alphabet ≡ Some v
 unfolding alphabet passes
 position-character v h = found (position (λ c. c == character v) alphabet) (passes-below (λ v. unwrap_or (position (λ c. c == character v) alphabet) 32 == v) 32 refl v h)

@@ -14,7 +14,7 @@ abbrev register_bits : ℕ → List Bool
 register_bits n = reverse (bits_of 32 n)
 
 -- ---- masks
--- clear bits behind a mask change nothing
+-- clear bits after a mask change nothing
 flipped-clear_behind : (k : ℕ) (mask bits : List Bool) → flipped (mask ++ replicate k false) bits ≡ flipped mask bits
 unfolding flipped
 flipped-clear_behind k (set ∷ mask) [] = refl
@@ -23,7 +23,7 @@ flipped-clear_behind zero [] bits = refl
 flipped-clear_behind (suc k) [] [] = refl
 flipped-clear_behind (suc k) [] (b ∷ bits) = ap (λ l. b ∷ l) (flipped-clear_behind k [] bits)
 
--- a mask stands where all was clear
+-- a mask is where all was clear
 flipped-onto_clear : (mask bits : List Bool) → flipped mask (replicate (length mask) false ++ bits) ≡ mask ++ bits
 unfolding flipped
 flipped-onto_clear [] bits = refl

@@ -1,5 +1,5 @@
 -- Lists of bytes whose first eight differ as a number are ordered as those numbers are.
--- Where their first sixteen do not differ, they are as long, and nothing stands behind, they are one.
+-- Where their first sixteen do not differ, they are as long, and nothing comes after, they are one.
 use Rattle.std.proofs.Common.{◌≡◌, ◌≢◌, ℕ, zero, suc, ◌+◌, ◌-◌, ◌*◌, ◌^◌, ◌<◌, ◌≤◌, ◌⊎◌, Bool, true, false, nat_eq, List, [], ◌∷◌, ◌++◌, length, get_or, take, drop, replicate, Less, Equal, Greater, refl, sym, ap, ◌∙◌, inl, inr, arith}
 use Rattle.std.specs.Int.{w64, from_be_bytes}
 use Rattle.std.specs.Ordering.{nat_cmp, ordering_then, ordering_reverse}
@@ -97,7 +97,7 @@ decided p q a b hp hq ea eb n = go (cases_order a b)
 pub alike : (p q : List ℕ) → IsPrincipal p → IsPrincipal q → length p ≡ length q → length p ≤ 16 → from_be_bytes w64 p ≡ from_be_bytes w64 q → from_be_bytes w64 (drop 8 p) ≡ from_be_bytes w64 (drop 8 q) → p ≡ q
 alike p q hp hq l few e f = same 16 p q (below p hp) (below q hq) l few (omega (arith, words p, words q, e, f))
 
--- the padded array has the bytes that it keeps, and zeros behind
+-- the padded array has the bytes that it keeps, and zeros after them
 pub kept : (array : List ℕ) (len i : ℕ) → IsPadded array len → at (take len array) i ≡ at array i
 kept array len i h = sym (ap (λ l. at l i) h.zeros ∙ behind (take len array) (29 - length (take len array)) i)
   where

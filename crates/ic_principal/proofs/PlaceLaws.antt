@@ -6,7 +6,7 @@ use Rattle.ic_principal.specs.Base32.{alphabet, character}
 use Rattle.ic_principal.specs.declared.base32.TheConstants.{PLACES}
 use Rattle.ic_principal.proofs.Base32Laws.{passes, passes-below}
 
--- where a byte has a place, its character stands there
+-- where a byte has a place, its character is there
 pub character-place : (letter : ℕ) → letter < 256 → get_or PLACES letter 0 < 32 → character (get_or PLACES letter 0) ≡ letter
 unfolding alphabet passes
 character-place letter h small =

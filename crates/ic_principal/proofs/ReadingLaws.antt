@@ -19,7 +19,7 @@ use Rattle.ic_principal.proofs.TextLaws.{values-dashed, after_dash-dashed, lengt
 use Rattle.ic_principal.proofs.PrincipalLaws.{none_found, principal_of-tells, principal_of-none_other, principal_of-read, bytes_read-text_of}
 
 -- ---- places of a text
--- a dash stands at each sixth place, and something behind it
+-- a dash is at each sixth place, and something after it
 pub dashed-dash : (xs : List ℕ) (k : ℕ) → k < length (dashed xs) → k % 6 ≡ 5 → (get_or (dashed xs) k 0 ≡ 45) × (k + 1 < length (dashed xs))
 unfolding dashed
 dashed-dash [] k h at = absurd (omega arith)
@@ -83,7 +83,7 @@ values-read vs h =
 pub bytes-read : (bytes : List ℕ) → AllByRecursion (λ b. b < 256) bytes → eights (bits bytes) ≡ bytes
 bytes-read bytes h = ap eights (sym (append-nil (bits bytes))) ∙ eights-bits bytes [] h (omega arith)
 
--- lists that are cut at one place are the same before and behind it
+-- lists that are cut at one place are the same before and after it
 same_front : (a b c d : List Bool) → a ++ b ≡ c ++ d → length a ≡ length c → a ≡ c
 same_front a b c d e h = sym (take_at a b (length c) h) ∙ ap (take (length c)) e ∙ take_at c d (length c) refl
 
@@ -114,7 +114,7 @@ module _ (text values bytes : List ℕ) (left : List Bool) (is : text ≡ dashed
   cut : bits bytes ≡ bits (take 4 bytes) ++ bits (drop 4 bytes)
   cut = ap bits (sym (take-append-drop 4 bytes)) ∙ flat_map-append (bits_of 8) (take 4 bytes) (drop 4 bytes)
 
-  -- behind their checksum the bytes are a principal's, whose text this is
+  -- after their checksum the bytes are a principal's, whose text this is
   pub text-of_bytes : HasChecksum bytes → length left < 5 → left ≡ replicate (length left) false → text_of (drop 4 bytes) ≡ text
   unfolding text_of spelled
   text-of_bytes has short clear =

@@ -7,7 +7,7 @@ use Rattle.std.proofs.lemmas.List.{take_more}
 use Rattle.std.proofs.lemmas.List.Elements.{filter_map-append}
 use Rattle.ic_principal.specs.Text.{after_dash, dashed}
 
--- the dash stands also where more comes behind
+-- the dash is there also where more comes after
 after_dash-append : (x : ℕ) (xs more : List ℕ) → after_dash (dashed (x ∷ xs) ++ more) ≡ 45 ∷ (dashed (x ∷ xs) ++ more)
 unfolding dashed
 after_dash-append x [] more = refl

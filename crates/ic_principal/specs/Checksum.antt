@@ -22,7 +22,7 @@ unfoldable pub turned : List Bool → List Bool
 turned [] = []
 turned (leading ∷ bits) = if leading then flipped polynomial bits else bits
 
--- what is left after so many turns
+-- what is left after that many turns
 unfoldable pub remainder : ℕ → List Bool → List Bool
 remainder zero bits = bits
 remainder (suc turns) bits = remainder turns (turned bits)
@@ -31,7 +31,7 @@ remainder (suc turns) bits = remainder turns (turned bits)
 unfoldable pub ones : List Bool
 ones = replicate 32 true
 
--- the bits of the bytes, and 32 zeros behind
+-- the bits of the bytes, and 32 zeros after them
 unfoldable pub dividend : List ℕ → List Bool
 dividend bytes = sent bytes ++ replicate 32 false
 

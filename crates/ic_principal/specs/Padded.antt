@@ -1,9 +1,9 @@
--- How a principal keeps its bytes: in an array of 29, with zeros behind.
+-- How a principal keeps its bytes: in an array of 29, with zeros after them.
 use Rattle.std.specs.Prelude.{◌≡◌, ℕ, ◌-◌, ◌<◌, ◌≤◌, List, ◌++◌, length, take, replicate, All}
 use Rattle.std.proofs.Common.{ap, arith, length-append}
 use Rattle.std.proofs.lemmas.List.{length-replicate, length-take}
 
--- the bytes with zeros behind, 29 in all
+-- the bytes with zeros after them, 29 in all
 abbrev pub padded : List ℕ → List ℕ
 padded bytes = bytes ++ replicate (29 - length bytes) 0
 

@@ -24,7 +24,7 @@ text_of bytes = dashed (map character (fives (checksum bytes ++ bits bytes)))
 abbrev pub IsText : List ℕ → List ℕ → Type 0
 IsText bytes text = text ≡ text_of bytes
 
--- the bytes that a text's characters spell behind the four of a checksum; what has no value, as a dash, is passed over
+-- the bytes that a text's characters spell after the four of a checksum; what has no value, as a dash, is passed over
 unfoldable pub bytes_read : List ℕ → List ℕ
 bytes_read text = drop 4 (eights (flat_map (bits_of 5) (filter_map value_of text)))
 

@@ -111,7 +111,7 @@ fn push_letter(text: &mut ArrayString<63>, letter: char)
     ensures { (letters : List ℕ) → text.old.bytes ≡ dashed letters
         → text.new.bytes ≡ dashed (letters ++ letter ∷ []) }
 {
-    // A dash stands at places 5, 11, 17 and so on.
+    // A dash is at places 5, 11, 17 and so on.
     if text.len() % 6 == 5 {
         text.push('-');
     }
@@ -158,7 +158,7 @@ fn value_of(letter: u8) -> Option<u8>
     if value < 32 { Some(value) } else { None }
 }
 
-/// The whole bytes that the values spell, and the bits behind them, of which there are fewer than 8.
+/// The whole bytes that the values spell, and the bits after them, of which there are fewer than 8.
 pub fn bytes_of(values: &[u8]) -> (ArrayVec<u8, 39>, BitQueue)
     requires few { length values.now ≤ 63 }
     requires values { All (λ v. v < 32) values.now }

@@ -167,7 +167,7 @@ fn named(text: &str) -> Option<Principal>
     behind_checksum(&bytes)
 }
 
-// The principal whose bytes stand behind the four of their checksum.
+// The principal whose bytes come after the four of their checksum.
 fn behind_checksum(bytes: &[u8]) -> Option<Principal>
     requires { All (λ b. b < 256) bytes.now }
     ensures some { IfSome result (λ p. (p ≡ drop 4 bytes.now) × HasChecksum bytes.now × IsPrincipal p) }
@@ -183,7 +183,7 @@ fn behind_checksum(bytes: &[u8]) -> Option<Principal>
     Principal::from_bytes(back).ok()
 }
 
-// The bytes with zeros behind.
+// The bytes with zeros after them.
 fn padded(bytes: &[u8]) -> [u8; LONGEST]
     requires { length bytes.now ≤ 29 }
     ensures { result ≡ padded_bytes bytes.now }

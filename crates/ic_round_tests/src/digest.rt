@@ -2,7 +2,7 @@ use ic_order::way_of;
 use ic_state::{Canister, Message, Parts, Request, World};
 use std::alloc::Global;
 
-// A digest of bytes behind another one (FNV-1a).
+// A digest of bytes after another one (FNV-1a).
 fn mix(digest: u64, bytes: &[u8]) -> u64 {
     let mut digest = digest;
     for byte in bytes {
@@ -51,7 +51,7 @@ fn mix_rest(alloc: Global, digest: u64, parts: &Parts) -> Option<u64> {
 }
 
 /// A number for what is under way, what was answered, and what canisters keep beside their code, table, globals and the
-/// bytes of stable memory, behind the number before. `None` where memory ran out.
+/// bytes of stable memory, after the number before. `None` where memory ran out.
 pub fn digest_with(alloc: Global, before: Option<u64>, world: &World) -> Option<u64> {
     let parts = world.parts();
     let text = format!(in alloc; "{:?}", parts.messages.items.as_slice()).ok()?;

@@ -93,7 +93,7 @@ fn is_one_of(message: &Message, run: &Run, number: u64) -> bool {
     }
 }
 
-// The messages of a run stand at the beginning; gives those behind it.
+// The messages of a run are at the beginning; gives those after it.
 fn behind<'a>(rt: &impl Abort, messages: &'a [Message], run: &Run) -> &'a [Message] {
     let mut rest = messages;
     let [first, end] = run.numbers;

@@ -1,4 +1,4 @@
-/// Messages that stand one behind another in the list: all calls, or all answers, of one canister to another.
+/// Messages that stand one after another in the list: all calls, or all answers, of one canister to another.
 #[derive(Clone, Copy)]
 pub struct Run {
     pub is_answer: bool,

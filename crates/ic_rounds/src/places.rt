@@ -12,7 +12,7 @@ use ic_state::BoundedEnv;
 use std::alloc::Global;
 use std::snapshot::Snapshot;
 
-/// So many places, all of them empty.
+/// That many places, all of them empty.
 pub fn empty_places(alloc: Global, count: usize) -> Result<Vec<Option<HandledSlot>>, NoMemory>
     ensures { IfOk result (λ v. vec_len v ≡ count) }
 {

@@ -112,7 +112,7 @@ fn shared_out<R: Threads + Sync, G: Gate + Sync>(
 }
 
 /// Handles the messages of slots on the workers of a crew, and no more than there are slots. What came
-/// of them stands in the order of the slots. Before each message its worker passes the gate, with its own
+/// of them is in the order of the slots. Before each message its worker passes the gate, with its own
 /// number, from 0, and the slot's. It is public for its contract, which a body that deals fixed chunks meets too
 /// (`ic_workers_tests`).
 pub fn handle_slots<R: Threads + Sync, G: Gate + Sync>(

@@ -45,7 +45,7 @@ bytes_pair (first ∷ second ∷ []) =
     bytes_word first >>= λ one. bytes_word second >>= λ other. Ok (one, other)
 bytes_pair _ = Err Form
 
--- up to so many rounds
+-- up to that many rounds
 unfoldable pub run_command : List (List ℕ) → Result Command LineCause
 run_command (count ∷ []) = number_word 1000000 count >>= λ n. Ok (Run n)
 run_command _ = Err Form

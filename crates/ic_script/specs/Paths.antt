@@ -7,11 +7,11 @@ use Rattle.ic_script.specs.declared.line_cause.LineCause.{LineCause}
 use Rattle.ic_script.specs.declared.line_cause.LineCause.TheVariants.{Hex}
 use Rattle.ic_script.specs.Steps.{each}
 
--- what stands before, between and after the commas of a word
+-- what comes before, between and after the commas of a word
 abbrev pub paths_in : List ℕ → List (List ℕ)
 paths_in word = slice_split (λ byte. byte == 44) word
 
--- what stands before, between and after the slashes
+-- what comes before, between and after the slashes
 abbrev pub labels_in : List ℕ → List (List ℕ)
 labels_in word = slice_split (λ byte. byte == 47) word
 

@@ -7,7 +7,7 @@ use Rattle.std.specs.Char.{is_ascii_digit}
 abbrev pub is_printable : ℕ → Bool
 is_printable byte = nat_le 32 byte && nat_le byte 126
 
--- what stands before, between and after the spaces of a line
+-- what comes before, between and after the spaces of a line
 unfoldable pub words_of : List ℕ → List (List ℕ)
 words_of line = slice_split (λ byte. byte == 32) line
 
@@ -15,11 +15,11 @@ words_of line = slice_split (λ byte. byte == 32) line
 abbrev pub is_word : List ℕ → Bool
 is_word word = not (length word == 0)
 
--- every byte is printable, and single spaces stand between the words
+-- every byte is printable, and single spaces are between the words
 unfoldable pub is_well_formed : List ℕ → Bool
 is_well_formed line = list_all is_printable line && list_all is_word (words_of line)
 
--- a zero with something behind it
+-- a zero with something after it
 abbrev pub has_leading_zero : List ℕ → Bool
 has_leading_zero (first ∷ second ∷ _) = first == 48
 has_leading_zero _ = false

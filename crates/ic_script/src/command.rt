@@ -39,7 +39,7 @@ pub enum Command {
     Call(Ask),
     /// A query, which is answered at once and changes nothing.
     Query(Ask),
-    /// Up to so many rounds, at most 1,000,000.
+    /// Up to that many rounds, at most 1,000,000.
     Run(u32),
     /// Rounds until no message is left, or as many as the command line allows.
     Drain,
@@ -58,7 +58,7 @@ pub enum Command {
     /// Whether a canister may be upgraded from one interface to another: two interface files of
     /// Candid. Neither is looked at yet.
     Upgradable { from: Bytes, to: Bytes },
-    /// The part of the state tree that proves what stands at these paths.
+    /// The part of the state tree that proves what is at these paths.
     Witness(Paths),
     /// The delivery of the message at this place of the list, from 0, at most 1,000,000.
     Pick(u32),

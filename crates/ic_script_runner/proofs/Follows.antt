@@ -1,4 +1,4 @@
--- Where a run stands in its script: what is printed so far, and the way from here, are the way
+-- Where a run is in its script: what is printed so far, and the way from here, are the way
 -- through the whole script, whatever bytes still come.
 use Rattle.std.proofs.Common.{◌≡◌, ℕ, ◌+◌, ◌<◌, IsTrue, Bool, true, false, List, [], ◌∷◌, ◌++◌, length, refl, sym, ap, subst, ◌∙◌, append_assoc, append-nil, inl, inr, None, Ok, Err}
 use Rattle.std.specs.Prelude.{◌⊎◌}

@@ -1,4 +1,4 @@
--- Sums over lists that change at one place, and how often a number stands in a list.
+-- Sums over lists that change at one place, and how often a number is in a list.
 use Rattle.std.proofs.Common.{◌≡◌, ℕ, zero, suc, ◌+◌, ◌<◌, ◌≤◌, List, [], ◌∷◌, ◌++◌, cond, eqb, get_or, length, set, sym, refl, ap, arith, Some}
 use Rattle.std.specs.Prelude.{slice_get}
 use Rattle.std.specs.List.{AllByRecursion}
@@ -70,7 +70,7 @@ once-below x n = grind (arith, nat_tests)
 pub once-none : (x : ℕ) → once_below x 0 ≡ 0
 once-none x = grind (arith, nat_tests)
 
--- what stands in a list stands there at least once
+-- what is in a list is there at least once
 pub times-in : (ys : List ℕ) (i d : ℕ) → i < length ys → 0 < times (get_or ys i d) ys
 times-in [] i d h = absurd (omega arith)
 times-in (y ∷ ys) zero d h = grind (arith, nat_tests)

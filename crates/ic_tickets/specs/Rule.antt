@@ -11,7 +11,7 @@ abbrev pub total : {A : Type 0} → (A → ℕ) → List A → ℕ
 total f [] = 0
 total f (x ∷ xs) = f x + total f xs
 
--- how often x stands in the list
+-- how often x is in the list
 abbrev pub times : ℕ → List ℕ → ℕ
 times x ys = total (λ y. cond (y == x) 1 0) ys
 
@@ -48,7 +48,7 @@ module _ {T : Type 0} where
     pub bound : v.ends ≤ v.share
 
   -- The word is the sum of the lengths of all lists and of all ends. The numbers below `out` are drawn,
-  -- each stands in one list once, and the others' items are at home.
+  -- each is in one list once, and the others' items are at home.
   pub record Kept (items : List T) (workers : ℕ) (s : State (Option T) (View T)) : Type 0 where
     pub small : (workers ≤ 64) × (length items ≤ 64)
     pub one_word : length s.words ≡ 1

@@ -38,7 +38,7 @@ module _ {T : Type 0} where
     pub is_open : IsOpen new
     pub is_item : slice_get items k ≡ Some item
 
-  -- how often x stands in the numbers of the passes
+  -- how often x is in the numbers of the passes
   abbrev pub times_drawn : ℕ → List (Pass T) → ℕ
   times_drawn x passes = total (λ (p : Pass T). times x (numbers_of p)) passes
 

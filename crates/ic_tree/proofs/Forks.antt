@@ -57,7 +57,7 @@ pub no_tree : (xs : List Tree) → xs ≡ [] → view Empty ≡ forked (map view
 unfolding forked_in view
 no_tree xs is = sym (ap (λ l. forked (map view l)) is)
 
--- the first so many of a list, half by half
+-- the first of a list, that many, half by half
 pub forked_first : {E : Type 0} (branch : E → HashTree) (es : List E) (count : ℕ) → 2 ≤ count → count ≤ length es
     → forked (map branch (take count es)) ≡ fork (forked (map branch (take (half count) es))) (forked (map branch (take (count / 2) (drop (half count) es))))
 forked_first branch es count two within =

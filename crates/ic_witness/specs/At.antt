@@ -41,7 +41,7 @@ abbrev pub is_pruned : HashTree → Bool
 is_pruned (pruned hash) = true
 is_pruned _ = false
 
--- a pruned node stands in the gap of the label: after the last lower label, before the first higher one
+-- a pruned node is in the gap of the label: after the last lower label, before the first higher one
 unfoldable pub is_hidden : Label → List HashTree → Bool
 is_hidden label [] = false
 is_hidden label (node ∷ nodes) =

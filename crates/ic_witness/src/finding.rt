@@ -23,11 +23,11 @@ pub enum Found<'a> {
 /// What is known of the gap of a label.
 #[derive(Clone, Copy, Debug, PartialEq, Eq)]
 pub(crate) enum Gap {
-    /// No node stands in it yet.
+    /// No node is in it yet.
     Open,
-    /// A pruned node stands in it.
+    /// A pruned node is in it.
     Hidden,
-    /// It has ended, and no pruned node stands in it.
+    /// It has ended, and no pruned node is in it.
     Closed,
 }
 

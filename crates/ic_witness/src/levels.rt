@@ -7,7 +7,7 @@ ghost use Rattle.ic_witness.specs.Walks.{comes_after, joined, level_of, now_of, 
 
 use ic_tree::Tree;
 
-/// What nodes stand under the forks of a tree.
+/// What nodes are under the forks of a tree.
 #[derive(Clone, Copy, Debug, PartialEq, Eq)]
 pub(crate) enum Level {
     Nothing,

@@ -85,7 +85,7 @@ fn pruned_whole(tree: &Tree) -> Tree
     Tree::Pruned(root(tree))
 }
 
-// Whether no node stands under the forks.
+// Whether no node is under the forks.
 fn is_bare(tree: &Tree) -> bool
     ensures { result ≡ is_nil (flat (view tree.now)) }
 {

@@ -55,7 +55,7 @@ fn tag_may_be_left_out(rt: HostRuntime) {
 
 // ---- depth
 
-// An empty tree under so many labels without bytes.
+// An empty tree under that many labels without bytes.
 fn nested(alloc: Global, labels: usize) -> Result<Vec<u8>, NoMemory> {
     let mut bytes = b"\x83\x02\x40".repeat(alloc, labels)?;
     bytes.extend_from_slice(b"\x81\x00".as_slice())?;

@@ -152,7 +152,7 @@ fn handle_in_slots<R: Threads + Sync, G: Gate + Sync>(
 }
 
 /// Handles the messages of slots on up to `workers` workers, and no more than there are slots. What came
-/// of them stands in the order of the slots. Before each message its worker passes the gate, with its own
+/// of them is in the order of the slots. Before each message its worker passes the gate, with its own
 /// number, from 0, and the slot's.
 pub fn handle_slots<R: Threads + Sync, G: Gate + Sync>(
     alloc: Global,

@@ -7,7 +7,7 @@ use std::sync::atomic::Ordering::SeqCst;
 // A call of `pass` that gives up is counted, so that a test ends also where no second worker comes.
 const TURNS: u32 = 100_000_000;
 
-/// Holds those who pass first until so many have come, and keeps what it is told: four bits for each of the
+/// Holds those who pass first until that many have come, and keeps what it is told: four bits for each of the
 /// first four workers on its way to each of the first four slots.
 #[derive(Drop)]
 pub struct Holding {

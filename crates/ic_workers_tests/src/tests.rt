@@ -10,7 +10,7 @@ use std::alloc::Global;
 use std::test::*;
 use std::thread::Threads;
 
-// How many messages a round of so many workers handles.
+// How many messages a round of that many workers handles.
 fn handled<R: Threads + Sync, G: Gate + Sync>(
     alloc: Global,
     rt: &R,

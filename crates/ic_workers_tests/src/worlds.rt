@@ -45,7 +45,7 @@ fn called(alloc: Global, world: World, number: u64) -> Option<World> {
         .ok()
 }
 
-/// So many canisters, each of which has a message.
+/// That many canisters, each of which has a message.
 pub fn busy(alloc: Global, canisters: u64) -> Option<World> {
     let mut world = World::new(alloc);
     for number in 0..canisters {
@@ -90,7 +90,7 @@ fn slot(alloc: Global, number: u32) -> Option<Slot>
     slot_of(alloc, key, canister, message)
 }
 
-/// The slots of so many canisters, each of which has a message.
+/// The slots of that many canisters, each of which has a message.
 pub fn slots(alloc: Global, canisters: u32) -> Option<Vec<Slot>>
     requires { canisters ≤ 64 }
     ensures ready { IfSome result (λ v. AllByRecursion IsReady v.items) }

@@ -9,7 +9,7 @@ use Rattle.wm_decode.specs.Values.{lookup}
 use Rattle.wm_decode.specs.Forms.{by_memory, memory_rows, other_rows, in_some, operand_form}
 use Rattle.wm_decode.specs.Readers.{vec_bytes_at, name_at, mem_arg_at, memory_at, behind_at}
 
--- nothing is read behind a value
+-- nothing is read after a value
 none_after : {A B : Type 0} (read : Option A) → ◌≡◌ {A = Option B} None (read >>= λ _. None)
 none_after (Some x) = refl
 none_after None = refl

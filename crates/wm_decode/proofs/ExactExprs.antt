@@ -28,7 +28,7 @@ ran more done = None
 ran more (on blocks) = more blocks
 ran more wrong = None
 
--- the blocks that are open behind the words; none where the words may not stand so
+-- the blocks that are open after the words; none where the words may not stand so
 abbrev run : List Bool → List Instr → Option (List Bool)
 run blocks [] = Some blocks
 run blocks (w ∷ words) = ran (λ b. run b words) (follow (row_of w).class blocks)
@@ -63,7 +63,7 @@ run-flatten (IfElseOf t body other rest) blocks more h =
 
 -- ---- words that leave no block open are those of a sequence
 
--- a sequence, and behind it what Tail says
+-- a sequence, and after it what Tail says
 record Begins (Tail : List Instr → Type 0) (words : List Instr) : Type 0 where
   tree : Seq
   proper : IsProper tree
@@ -82,7 +82,7 @@ record Turning (Tail : List Instr → Type 0) (words : List Instr) : Type 0 wher
   whole : words ≡ op.Else ∷ more
   begins : Begins (Closing Tail) more
 
--- what stands behind the sequence in the innermost block
+-- what comes after the sequence in the innermost block
 abbrev Tail : List Bool → List Instr → Type 0
 Tail [] words = words ≡ []
 Tail (false ∷ blocks) words = Closing (Tail blocks) words
@@ -138,7 +138,7 @@ before_if T t words b =
           }
     ]
 
--- nothing, and what stands behind it
+-- nothing, and what comes after it
 at_once : (T : List Instr → Type 0) (words : List Instr) → T words → Begins T words
 at_once T words p = record { tree = Empty; proper = tt; more = words; whole = refl; tail = p }
 
@@ -232,7 +232,7 @@ words_again float blocks left (w ∷ words) front rest k n count e p =
     (onward_again float (length words + n) w words left (p.1 ++ rest) (words_at float n left rest) (follow (row_of w).class blocks) e
     (λ others r. words_again float others left words p.1 rest (length words + n) n refl r p.4))
 
--- what was read, with the 0B behind it
+-- what was read, with the 0B after it
 record Ended (float : Bool) (blocks : List Bool) (bytes : List ℕ) (z : List Instr × List ℕ) : Type 0 where
   front : List ℕ
   parts : bytes ≡ (front ++ 0x0B ∷ []) ++ z.1

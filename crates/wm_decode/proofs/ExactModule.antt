@@ -53,7 +53,7 @@ named content name front rest whole_is p = rw (whole_is, name_exact.again name f
 no_place : (last id : ℕ) → last < place_of id → id ≡ 0 → ⊥
 no_place last id above same = let below : last < 0 = subst (λ (n : ℕ). last < place_of n) same above in omega arith
 
--- one section may stand here
+-- one section may be here
 placed_again : (more : ℕ → List ℕ → Option (List Section)) (last : ℕ) (s : Section) (sections : List Section) (rest : List ℕ)
     → InOrder last (s ∷ sections) → ((next : ℕ) → InOrder next sections → more next rest ≡ Some (kept sections))
     → placed more last s rest ≡ Some (kept (s ∷ sections))
@@ -170,7 +170,7 @@ counts_takes n (Some content) count e same =
 
 -- ---- the module of the sections
 
--- the lists of a module stand in the sections' contents
+-- the lists of a module are in the sections' contents
 pub record Contents (float : Bool) (m : Module) (sections : List Section) : Type 0 where
   pub types : Lists (SpellsFuncType float) m.types (content_of 1 sections)
   pub imports : Lists (SpellsImport float) m.imports (content_of 2 sections)

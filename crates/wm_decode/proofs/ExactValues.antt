@@ -38,7 +38,7 @@ pub tested : {A : Type 0} (test : Bool) (read : Option A) (x : A) → cond test 
 tested true read x e = (refl, e)
 tested false read x e = absurd cc
 
--- a byte that was read stands first
+-- a byte that was read comes first
 pub first_byte : (bytes : List ℕ) (x : ℕ × List ℕ) → byte_at bytes ≡ Some x → bytes ≡ x.0 ∷ x.1
 first_byte [] x e = absurd cc
 first_byte (b ∷ bytes) x e = cc
@@ -57,7 +57,7 @@ after_exact {A} byte P read exact = exact_of (λ x. After byte (P x)) (after_at 
       spelled = record { rest = t.front; whole = refl; behind = t.spelled };
     })
 
--- a byte, and behind it a spelling for the byte's row
+-- a byte, and after it a spelling for the byte's row
 pub record Chosen {K A : Type 0} (choice : ℕ → Option K) (P : K → Spelling A) (x : A) (bytes : List ℕ) : Type 0 where
   pub byte : ℕ
   pub row : K

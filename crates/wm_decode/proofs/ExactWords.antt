@@ -69,14 +69,14 @@ mem_arg_exact =
 
 -- ---- forms
 
--- a number that has a row, and the bytes 00 behind it
+-- a number that has a row, and the bytes 00 after it
 abbrev SpellsRow : List (ℕ × (ℕ × Instr)) → Spelling (ℕ × Instr)
 SpellsRow rows row bytes = (n : ℕ) × (lookup n rows ≡ Some row) × SpellsU32 n bytes
 
 abbrev ZerosOf : ℕ × Instr → Spelling ℕ
 ZerosOf row n bytes = (n ≡ row.0) × SpellsZeros n bytes
 
--- the bytes behind the opcode spell the instruction, by its form
+-- the bytes after the opcode spell the instruction, by its form
 abbrev pub Formed : Bool → Form → Spelling Instr
 Formed float (plain j) i bytes = (j ≡ i) × (bytes ≡ [])
 Formed float (by_block f) i bytes = (t : _) × (f t ≡ i) × SpellsBlockType float t bytes
@@ -148,7 +148,7 @@ formed_of float (by_32 f) (number32 z) i bytes m s = (z, m, s)
 formed_of float (by_64 f) (number64 z) i bytes m s = (z, m, s)
 formed_of float _ _ i bytes m s = absurd m
 
--- a row behind the prefix is that of its instruction
+-- a row after the prefix is that of its instruction
 abbrev PrefixFits : ℕ → ℕ → ℕ × Instr → Type 0
 PrefixFits o n row = ((row_of row.1).opcode ≡ o) × ((row_of row.1).operands ≡ prefixed n row.0)
 
@@ -174,7 +174,7 @@ memory_fit = search (refl, tt)
 other_fit : AllByRecursion (λ r. RowFits r.0 r.1) other_rows
 other_fit = search (refl, tt)
 
--- what is found stands in one of the three tables
+-- what is found is in one of the three tables
 row_fits : (o : ℕ) (f : Form) → row_form o ≡ Some f → RowFits o f
 row_fits o f e =
     elim (lookup o plain_rows) as (λ p. lookup o plain_rows ≡ p → or_else (in_some plain p) (operand_form o) ≡ Some f → RowFits o f) [
@@ -228,7 +228,7 @@ floated_exact (floating.Constant n) =
 
 -- ---- words
 
--- what is read behind an opcode
+-- what is read after an opcode
 abbrev Behind : Bool → Option FloatOperands → Option Form → Spelling Instr
 Behind float (Some k) form i bytes = (i ≡ op.Unreachable) × SpellsFloatOperands k bytes
 Behind float None (Some form) i bytes = Formed float form i bytes
@@ -243,7 +243,7 @@ floats_none : (float : Bool) (o : ℕ) → float_operands o ≡ None → floats 
 floats_none false o e = refl
 floats_none true o e = e
 
--- a word by its opcode and what is behind it
+-- a word by its opcode and what is after it
 word_behind : (float : Bool) (i : Instr) (bytes : List ℕ) → SpellsWord float i bytes → (o : ℕ) × After o (Behind float (floats float o) (row_form o) i) bytes
 word_behind float i bytes (inl row) =
     let found = listed i in (

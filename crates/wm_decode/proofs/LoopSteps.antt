@@ -52,7 +52,7 @@ no_section Refused front count i last rest total below some none so_far =
     let step : and_sections front (sections_at (count - i) last rest) ≡ None = rw (opened count i last rest below some, none) refl in
     sym so_far ∙ step
 
--- what is read behind a section
+-- what is read after a section
 behind : (front : List Section) (count i last : ℕ) (rest : List ℕ) (total : Option (List Section)) (s : Section) (after : List ℕ) → i < count → nat_eq (length rest) 0 ≡ false
     → section_at rest ≡ Some (s, after) → and_sections front (sections_at (count - i) last rest) ≡ total
     → and_sections front (placed (sections_at (count - (i + 1))) last s after) ≡ total

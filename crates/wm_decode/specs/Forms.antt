@@ -122,7 +122,7 @@ memory_rows =
     (0x3E, op.I64Store32) ∷
     []
 
--- behind the prefix FC: a number, the number of bytes 00 behind it, and the instruction
+-- after the prefix FC: a number, the number of bytes 00 after it, and the instruction
 abbrev pub prefix_rows : List (ℕ × (ℕ × Instr))
 prefix_rows = (10, (2, op.MemoryCopy)) ∷ (11, (1, op.MemoryFill)) ∷ []
 

@@ -18,7 +18,7 @@ use Rattle.wm_decode.specs.Types.{SpellsBlockType}
 abbrev pub SpellsZero : Spelling ℕ
 SpellsZero n bytes = (n ≡ 0) × (bytes ≡ 0x00 ∷ [])
 
--- so many bytes 00
+-- that many bytes 00
 abbrev pub SpellsZeros : Spelling ℕ
 SpellsZeros n bytes = bytes ≡ replicate n 0x00
 
@@ -56,7 +56,7 @@ float_operands o =
     (cond (is_within 0x5B 0x66 o || is_within 0x8B 0xA6 o || is_within 0xA8 0xAB o || is_within 0xAE 0xBF o) (Some floating.Nothing)
     None)))
 
--- what follows the opcode: nothing, an alignment and an offset, or so many bytes
+-- what follows the opcode: nothing, an alignment and an offset, or that many bytes
 abbrev pub SpellsFloatOperands : FloatOperands → List ℕ → Type 0
 SpellsFloatOperands floating.Nothing bytes = bytes ≡ []
 SpellsFloatOperands floating.Address bytes = (m : MemArg) × SpellsMemArg m bytes

@@ -19,7 +19,7 @@ pub record Section : Type 0 where
 abbrev pub SpellsSection : Spelling Section
 SpellsSection s = After s.id (SpellsBytes s.content)
 
--- a custom section: a name, and any bytes behind it
+-- a custom section: a name, and any bytes after it
 pub record IsCustom (s : Section) : Type 0 where
   pub zero : s.id ≡ 0
   pub name : List ℕ

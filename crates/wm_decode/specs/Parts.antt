@@ -47,7 +47,7 @@ SpellsExport e = SpellsPair SpellsName SpellsExportKind (e.name, e.kind)
 abbrev pub SpellsElement : Bool → Spelling Element
 SpellsElement float e = SpellsPair SpellsU32 (SpellsPair (SpellsExpr float) (SpellsList SpellsU32)) (e.table, (e.offset, e.functions))
 
--- so many locals of a type
+-- that many locals of a type
 abbrev pub SpellsRun : Bool → Spelling Run
 SpellsRun float r = SpellsPair SpellsU32 (SpellsValType float) (r.count, r.kind)
 

@@ -59,11 +59,11 @@ name_at = filter_at is_utf8 vec_bytes_at
 abbrev pub coded_at : {A : Type 0} → List (ℕ × A) → Reader A
 coded_at rows = filter_map_at (λ byte. lookup byte rows) byte_at
 
--- this byte, and what is read behind it
+-- this byte, and what is read after it
 abbrev pub after_at : {A : Type 0} → ℕ → Reader A → Reader A
 after_at byte read bytes = byte_at bytes >>= λ b. cond (nat_eq b.0 byte) (read b.1) None
 
--- a byte, and behind it what is read for the byte's row
+-- a byte, and after it what is read for the byte's row
 abbrev pub chosen_at : {K A : Type 0} → (ℕ → Option K) → (K → Reader A) → Reader A
 chosen_at choice read bytes = byte_at bytes >>= λ b. choice b.0 >>= λ k. read k b.1
 
@@ -101,7 +101,7 @@ global_type_at float = map_at (λ p. record { kind = p.0; mutable = p.1 }) (pair
 unfoldable pub zero_at : Reader ℕ
 zero_at = filter_at (λ b. nat_eq b 0) byte_at
 
--- so many bytes 00
+-- that many bytes 00
 abbrev pub zeros_at : ℕ → Reader ℕ
 zeros_at zero = empty_at 0
 zeros_at (suc n) = map_at (λ p. suc p.1) (pair_at zero_at (zeros_at n))
@@ -112,11 +112,11 @@ table_at = filter_at (λ n. nat_eq n 0) u32_at
 unfoldable pub mem_arg_at : Reader MemArg
 mem_arg_at = map_at (λ p. record { align = p.0; offset = p.1 }) (pair_at u32_at u32_at)
 
--- a number, and the bytes 00 that its row has behind it
+-- a number, and the bytes 00 that its row has after it
 abbrev pub prefixed_at : List (ℕ × (ℕ × Instr)) → Reader Instr
 prefixed_at rows = map_at (λ p. p.0.1) (both_at (filter_map_at (λ n. lookup n rows) u32_at) (λ row. zeros_at row.0))
 
--- an instruction of that form, behind its opcode
+-- an instruction of that form, after its opcode
 abbrev pub instr_at : Bool → Form → Reader Instr
 instr_at float (plain i) = λ bytes. Some (i, bytes)
 instr_at float (by_block f) = map_at f (block_type_at float)
@@ -129,7 +129,7 @@ instr_at float (by_prefix rows) = prefixed_at rows
 instr_at float (by_32 f) = map_at f (signed_reader Wasm32)
 instr_at float (by_64 f) = map_at f (signed_reader Wasm64)
 
--- a float instruction behind its opcode
+-- a float instruction after its opcode
 abbrev pub float_at : FloatOperands → Reader Instr
 float_at floating.Nothing = λ bytes. Some (op.Unreachable, bytes)
 float_at floating.Address = map_at (λ _. op.Unreachable) mem_arg_at
@@ -140,7 +140,7 @@ abbrev pub floats : Bool → ℕ → Option FloatOperands
 floats false o = None
 floats true o = float_operands o
 
--- what is read behind an opcode
+-- what is read after an opcode
 abbrev pub behind_at : Bool → Option FloatOperands → Option Form → Reader Instr
 behind_at float (Some f) form = float_at f
 behind_at float None (Some form) = instr_at float form
@@ -153,7 +153,7 @@ memory_at o bytes = mem_arg_at bytes >>= λ m. in_some (λ make. (make m.0, m.1)
 unfoldable pub word_at : Bool → Reader Instr
 word_at float bytes = byte_at bytes >>= λ o. behind_at float (floats float o.0) (row_form o.0) o.1
 
--- how a word goes on: the expression ends, or it has these blocks open, or the word may not stand here
+-- how a word goes on: the expression ends, or it has these blocks open, or the word may not be here
 pub data Follow : Type 0 where
   done : Follow
   on : List Bool → Follow
@@ -165,7 +165,7 @@ may_turn shape.Block = false
 may_turn shape.Loop = false
 may_turn shape.If = true
 
--- behind a word of this class; of each open block we keep whether an `else` may follow, innermost first
+-- after a word of this class; of each open block we keep whether an `else` may follow, innermost first
 abbrev pub follow : Class → List Bool → Follow
 follow (Opens s t) blocks = on (may_turn s ∷ blocks)
 follow Turns (true ∷ blocks) = on (false ∷ blocks)
@@ -178,7 +178,7 @@ follow (Memory s) blocks = on blocks
 follow (Access s arg natural) blocks = on blocks
 follow Special blocks = on blocks
 
--- what is read behind a word
+-- what is read after a word
 abbrev pub onward : (List Bool → Reader (List Instr)) → Instr × List ℕ → Follow → Option (List Instr × List ℕ)
 onward more w done = Some ([], w.1)
 onward more w (on blocks) = more blocks w.1 >>= λ ws. Some (w.0 ∷ ws.0, ws.1)
@@ -257,7 +257,7 @@ segment_at float =
 unfoldable pub section_at : Reader Section
 section_at = map_at (λ p. record { id = p.0; content = p.1 }) (pair_at byte_at vec_bytes_at)
 
--- the sections behind one, where it may stand behind the last id; a custom one is not kept
+-- the sections after one, where it may come after the last id; a custom one is not kept
 abbrev pub placed : (ℕ → List ℕ → Option (List Section)) → ℕ → Section → List ℕ → Option (List Section)
 placed more last s rest =
     cond (nat_eq s.id 0) (cond (is_some (name_at s.content)) (more last rest) None)
@@ -313,7 +313,7 @@ module_in float sections = do
     segments = segments;
   })) None
 
--- the bytes behind the magic ones
+-- the bytes after the magic ones
 unfoldable pub magic_at : List ℕ → Option (List ℕ)
 magic_at bytes = cond (pointwise nat_eq (take 8 bytes) magic) (Some (drop 8 bytes)) None
 

@@ -12,7 +12,7 @@ SpellsU32 = SpellsUnsigned Wasm32
 abbrev pub SpellsPair : {A B : Type 0} → Spelling A → Spelling B → Spelling (A × B)
 SpellsPair P Q = SpellsBoth P (λ _. Q)
 
--- this byte, and what stands behind it
+-- this byte, and what comes after it
 pub record After (byte : ℕ) (P : List ℕ → Type 0) (bytes : List ℕ) : Type 0 where
   pub rest : List ℕ
   pub whole : bytes ≡ byte ∷ rest
@@ -33,7 +33,7 @@ pub record SpellsName (name bytes : List ℕ) : Type 0 where
   pub utf8 : IsUtf8 name
   pub spelled : SpellsBytes name bytes
 
--- what stands beside the number in a table
+-- what is beside the number in a table
 abbrev pub lookup : {A : Type 0} → ℕ → List (ℕ × A) → Option A
 lookup n [] = None
 lookup n (row ∷ rows) = cond (nat_eq n row.0) (Some row.1) (lookup n rows)

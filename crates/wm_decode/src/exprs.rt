@@ -10,13 +10,13 @@ use ic_base::{NoMemory, ReadError, Stack};
 use std::alloc::Global;
 use wm_tree::{Class, Instrs, Shape, class_of};
 
-/// How an expression goes on behind a word.
+/// How an expression goes on after a word.
 #[derive(Clone, Copy, Debug)]
 enum Turn {
     On,
     /// The word was the `end` of the expression.
     Done,
-    /// The word may not stand here.
+    /// The word may not be here.
     Wrong,
 }
 

@@ -10,7 +10,7 @@ pub(crate) enum FloatOperands {
     Nothing,
     /// An alignment and an offset.
     Address,
-    /// So many bytes.
+    /// That many bytes.
     Constant(u8),
 }
 

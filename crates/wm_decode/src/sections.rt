@@ -27,7 +27,7 @@ impl<'a> Model for Section<'a> {
 /// The magic bytes and the version.
 const MAGIC: [u8; 8] = [0x00, 0x61, 0x73, 0x6D, 0x01, 0x00, 0x00, 0x00];
 
-/// The bytes behind the magic ones.
+/// The bytes after the magic ones.
 #[tactic(auto, unfolding(crate::specs::Readers::magic_at))]
 pub(crate) fn after_magic(bytes: &[u8]) -> Result<&[u8], ReadError>
     ensures { Gives (λ rest. rest.now) result (magic_at bytes.now) }

@@ -125,7 +125,7 @@ pub(crate) fn table_type(bytes: &[u8]) -> Result<(Limits, &[u8]), ReadError>
     limits(rest)
 }
 
-/// That limits stand in a table type.
+/// That limits are in a table type.
 pub(crate) struct InTable;
 
 impl Item<InTable> for Limits {

@@ -26,7 +26,7 @@ abbrev pub Rises : ℕ → List Section → Type 0
 Rises last [] = Unit {0}
 Rises last (s ∷ ss) = (last < s.id) × (s.id < 12) × Rises s.id ss
 
--- the code and the data stand one place further, since the data count stands before them
+-- the code and the data stand one place further, since the data count comes before them
 low_place : (id : ℕ) → id < 10 → place_of id ≡ id
 low_place id h = rw (le-leb id 9 (omega arith)) refl
 
@@ -61,7 +61,7 @@ pub start_rises : (start : Option ℕ) (last : ℕ) (more : List Section) → la
 start_rises None last more h rises = later last 8 more (omega arith) rises
 start_rises (Some f) last more h rises = (h, omega arith, rises)
 
--- no section before the last one is found behind it
+-- no section before the last one is found after it
 absent : (last id : ℕ) (ss : List Section) → Rises last ss → id ≤ last → content_of id ss ≡ None
 absent last id [] rises h = refl
 absent last id (s ∷ ss) rises h = rw (ne_eqb s.id id (omega arith)) (absent s.id id ss rises.2 (omega arith))
@@ -74,7 +74,7 @@ pub found_start : (start : Option ℕ) (more : List Section) → IsMaybe32 start
 found_start None more h rises = subst (Starts None) (sym (absent 8 8 more rises (omega arith))) refl
 found_start (Some f) more h rises = (f, refl, u32_spelled f h)
 
--- a section further on is found behind a part
+-- a section further on is found after a part
 pub passed : {A : Type 0} (f : A → List ℕ) (items : List A) (id : ℕ) (more : List Section) (sought : ℕ) → id < sought → content_of sought (part id f items ++ more) ≡ content_of sought more
 passed f [] id more sought h = refl
 passed f (x ∷ items) id more sought h = rw (ne_eqb id sought (omega arith)) refl

@@ -10,7 +10,7 @@ use Rattle.wm_encode.specs.Parts.{import, global, export, element, code, segment
 use Rattle.wm_encode.specs.Whole.{sections}
 
 -- What a module keeps, fewer than 2 ^ 32 locals in each function, and fewer than 2 ^ 32 bytes in each
--- section. Counts, names and codes stand in sections, so they are shorter too.
+-- section. Counts, names and codes are in sections, so they are shorter too.
 pub record Fits (m : Module) : Type 0 where
   pub parts : IsModule m
   pub locals : All (λ c. sum_by (λ r. r.count) c.locals < 2 ^ 32) m.codes

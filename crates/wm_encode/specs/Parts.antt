@@ -44,7 +44,7 @@ export e = sized e.name ++ export_kind e.kind
 abbrev pub element : Element → List ℕ
 element e = unsigned_spelling e.table ++ (expr e.offset ++ vec unsigned_spelling e.functions)
 
--- so many locals of a type
+-- that many locals of a type
 abbrev pub run : Run → List ℕ
 run r = unsigned_spelling r.count ++ val_type r.kind
 

@@ -7,6 +7,6 @@ use Rattle.ic_leb.specs.Spelling.{unsigned_spelling}
 abbrev pub vec : {A : Type 0} → (A → List ℕ) → List A → List ℕ
 vec f items = unsigned_spelling (length items) ++ flat_map f items
 
--- bytes behind their number: names, data, and all that has its size before it
+-- bytes after their number: names, data, and all that has its size before it
 abbrev pub sized : List ℕ → List ℕ
 sized bytes = unsigned_spelling (length bytes) ++ bytes

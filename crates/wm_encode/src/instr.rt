@@ -9,7 +9,7 @@ use ic_base::NoMemory;
 use ic_leb::{size_s, write_s};
 use wm_tree::{Instr, MemArg, opcode_of};
 
-/// The numbers of `memory.copy` and `memory.fill` behind the prefix FC.
+/// The numbers of `memory.copy` and `memory.fill` after the prefix FC.
 const COPY: u32 = 10;
 
 const FILL: u32 = 11;

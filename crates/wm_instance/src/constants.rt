@@ -49,7 +49,7 @@ pub(crate) fn maximum_of(limits: &[Limits]) -> Option<u32>
     }
 }
 
-/// Whether so many elements from a place on do not pass the end of a list of that size.
+/// Whether that many elements from a place on do not pass the end of a list of that size.
 fn fits(size: u64, at: u64, count: usize) -> bool
     ensures { result ≡ nat_le (at + count) size }
 {

@@ -1,5 +1,5 @@
 //! Integers of 64 bits, each a number below 2 ^ 64 (WebAssembly Core 1.0, 4.3.2). Operands
-//! stand in the order of the standard: `y` is the one that was pushed last.
+//! are in the order of the standard: `y` is the one that was pushed last.
 
 ghost use Rattle.std.specs.Prelude.{◌≡◌, ◌<◌, ◌^◌, ℤ};
 ghost use Rattle.wm_numeric.specs.Integers.{signed as signed_of, unsigned as unsigned_of, iadd, isub, imul, idiv_u, idiv_s, irem_u, irem_s, iand, ior, ixor, ishl, ishr_u, ishr_s, irotl, irotr, iclz, ictz, ipopcnt, ieqz, ieq, ine, ilt_u, ilt_s, igt_u, igt_s, ile_u, ile_s, ige_u, ige_s, wrap, extend_s, iextend_s};

@@ -27,7 +27,7 @@ back-append start (k ∷ ks) xs more are room =
 pub covers_other : (k : Kept) (ks : List Kept) (r : ℕ) → (k.range ≡ r → ⊥) → covers (k ∷ ks) r ≡ true → covers ks r ≡ true
 covers_other k ks r other h = grind (arith, nat_tests, other)
 
--- what is put back at a place does not depend on what stands there, where its range was saved
+-- what is put back at a place does not depend on what is there, where its range was saved
 pub back_at : (start : ℕ) (ks : List Kept) (xs ys : List ℕ) (i d : ℕ) → AreRanges start ks → 65536 * start ≤ length xs → length xs ≡ length ys
     → (covers ks (i / 4096) ≡ true) ⊎ (get_or xs i d ≡ get_or ys i d) → get_or (back ks xs) i d ≡ get_or (back ks ys) i d
 back_at start [] xs ys i d are room same (inl c) = absurd (cc)

@@ -1,4 +1,4 @@
--- What stands in a list once bytes were written into it.
+-- What is in a list once bytes were written into it.
 use Rattle.std.proofs.Common.{◌≡◌, ℕ, ◌+◌, ◌-◌, ◌<◌, ◌≤◌, List, ◌++◌, length, get_or, take, drop, arith, rules, length-append, length-drop}
 use Rattle.std.proofs.lemmas.List.{places, same_lists, length-take}
 use Rattle.wm_pages.specs.Over.{over}
@@ -20,7 +20,7 @@ pub over_above : (at : ℕ) (bytes xs : List ℕ) (i d : ℕ) → at + length by
 unfolding over
 over_above at bytes xs i d fits above = grind (arith, places)
 
--- what stands there, written there
+-- what is there, written there
 pub over_itself : (at n : ℕ) (xs : List ℕ) → at + n ≤ length xs → over at (take n (drop at xs)) xs ≡ xs
 unfolding over
 over_itself at n xs fits = same_lists _ _ (search (rules, places)) (λ k d h. grind (arith, places))

@@ -96,7 +96,7 @@ impl Pages {
         Ok(())
     }
 
-    /// Copies so many bytes from one place to another, as if they were read first. Memory for the
+    /// Copies that many bytes from one place to another, as if they were read first. Memory for the
     /// ranges that this saves is taken before it.
     #[tactic(auto, using(crate::proofs::Steps::none_begun))]
     pub fn copy_within(&mut self, to: usize, from: usize, size: usize) -> Result<(), NoMemory>
@@ -114,7 +114,7 @@ impl Pages {
         Ok(())
     }
 
-    /// Writes one byte to so many places. Memory for the ranges that this saves is taken before it.
+    /// Writes one byte to that many places. Memory for the ranges that this saves is taken before it.
     #[tactic(auto, using(crate::proofs::Steps::none_begun))]
     pub fn fill(&mut self, at: usize, byte: u8, size: usize) -> Result<(), NoMemory>
         requires { at + size ≤ length self.old.bytes }
@@ -130,7 +130,7 @@ impl Pages {
         Ok(())
     }
 
-    /// Adds so many pages of zeros.
+    /// Adds that many pages of zeros.
     pub fn grow(&mut self, more: usize) -> Result<(), NoMemory>
         requires { length self.old.bytes + 65536 * more ≤ 65536 * 256 }
         ensures bytes { OnOk result (self.new.bytes ≡ self.old.bytes ++ replicate (65536 * more) 0) }

@@ -38,7 +38,7 @@ pub fn paste(bytes: &mut [u8], at: usize, source: &[u8])
     bytes[at..at + source.len()].copy_from_slice(source);
 }
 
-/// Copies so many bytes from one place to another, as if they were read first.
+/// Copies that many bytes from one place to another, as if they were read first.
 pub fn shift(bytes: &mut [u8], to: usize, from: usize, size: usize)
     requires source { from + size ≤ length bytes.old }
     requires target { to + size ≤ length bytes.old }
@@ -47,7 +47,7 @@ pub fn shift(bytes: &mut [u8], to: usize, from: usize, size: usize)
     bytes.copy_within(from..from + size, to);
 }
 
-/// Writes one byte to so many places.
+/// Writes one byte to that many places.
 pub fn paint(bytes: &mut [u8], at: usize, byte: u8, size: usize)
     requires { at + size ≤ length bytes.old }
     ensures { bytes.new ≡ over at (replicate size byte) bytes.old }
@@ -133,7 +133,7 @@ impl Ranges {
         self.keep_range(bytes, range)
     }
 
-    /// Saves each range that a write of so many bytes there touches.
+    /// Saves each range that a write of that many bytes there touches.
     pub fn save(&mut self, bytes: &[u8], at: usize, size: usize) -> Result<(), NoMemory>
         requires sound { IsUndoable bytes.now self.old }
         requires inside { at + size ≤ length bytes.now }
@@ -154,7 +154,7 @@ impl Ranges {
         Ok(())
     }
 
-    /// Makes marks for so many ranges.
+    /// Makes marks for that many ranges.
     pub fn make_room(&mut self, ranges: usize) -> Result<(), NoMemory>
         requires saved { AreSaved self.old }
         requires few { ranges ≤ 4096 }

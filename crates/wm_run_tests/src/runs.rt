@@ -54,7 +54,7 @@ fn ranges(rt: HostRuntime) -> Result<(), Fail> {
     Ok(())
 }
 
-/// So many words `nop`.
+/// That many words `nop`.
 fn nops(alloc: Global, count: usize) -> Result<Vec<u8>, NoMemory> {
     let mut body = Vec::new(alloc);
     body.resize(count, 1)?;

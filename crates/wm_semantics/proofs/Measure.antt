@@ -191,7 +191,7 @@ Below limit bound None = Unit {0}
 Below limit bound (Some (Further t)) = 3 * (limit - t.used) + size t.config < bound
 Below limit bound (Some (Over o)) = Unit {0}
 
--- so it is behind any configuration of that size at most, where as much is used at least
+-- so it is after any configuration of that size at most, where as much is used at least
 abbrev Suffices : ℕ → ℕ → ℕ → ℕ → Type 0
 Suffices limit bound k used = (now used' : ℕ) → now ≤ k → used ≤ used' → 3 * (limit - used') + now < bound
 

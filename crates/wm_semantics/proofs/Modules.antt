@@ -1,4 +1,4 @@
--- What a valid module has: types with one result at most, and a function behind each index.
+-- What a valid module has: types with one result at most, and a function for each index.
 use Rattle.std.proofs.Common.{◌≡◌, ℕ, zero, suc, ◌+◌, ◌-◌, ◌<◌, ◌≤◌, Bool, true, cond, ◌&&◌, List, [], ◌∷◌, ◌++◌, length, map, Option, Some, None, refl, sym, ap, subst, ◌∙◌, arith}
 use Rattle.std.proofs.lemmas.Bool.{leb-true, ltb-true}
 use Rattle.std.proofs.lemmas.List.{length-map}
@@ -107,7 +107,7 @@ imported types i c e =
 
 -- ---- functions by index
 
--- a place among the imports, with its call, or one among what comes behind them
+-- a place among the imports, with its call, or one among what comes after them
 data Which (types : List FuncType) (indices : List ℕ) (more : List ℕ) (system : List SystemCall) (f : ℕ) : Type 0 where
   an_import : (c : SystemCall) (index : ℕ) (t : FuncType) → slice_get system f ≡ Some c → slice_get (indices ++ more) f ≡ Some index
       → slice_get types index ≡ Some t → Signed t c → Which types indices more system f

@@ -25,7 +25,7 @@ use Rattle.wm_semantics.proofs.Moves.{GoesWell}
 use Rattle.wm_semantics.proofs.Blocks.{resumed}
 use Rattle.wm_semantics.proofs.Progress.{reduces_well}
 
--- ---- the store behind an answer
+-- ---- the store after an answer
 
 has_pages : (o : Option ℕ) (memory : List ℕ) → length memory % 65536 ≡ 0 → IfSome o (λ most. pages_of memory ≤ most) → pages_of memory ≤ 256 → HasPages (page_limit o) memory
 has_pages None memory whole declared most = record { whole = whole; within = most }

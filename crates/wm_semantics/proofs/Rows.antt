@@ -25,7 +25,7 @@ counting h call args s limit used =
     (record { answer = Trap trap.Limit; host = h; store = s; used = used })
     (record { answer = Nothing; host = h + 1; store = s; used = used + 1 })
 
--- `accept_message` as function 0, then a function () -> () with the body, which stands in the table, beside nothing and function 0
+-- `accept_message` as function 0, then a function () -> () with the body, which is in the table, beside nothing and function 0
 abbrev small : List Instr → Module
 small body = record {
   types = record { params = []; results = [] } ∷ [];
@@ -191,7 +191,7 @@ reads_last = refl
 
 -- ---- sign extension, copy and fill
 
--- the first bytes of memory behind a run on those bytes, how it ends and what it uses
+-- the first bytes of memory after a run on those bytes, how it ends and what it uses
 bytes_after : List ℕ → List Instr → ℕ → Option (List ℕ × Ended × ℕ)
 bytes_after memory body limit =
     option_map (λ o. (take 8 o.store.memory, o.ended, o.used)) (invoked counting (small body) limit 0 (store memory) 0 (Function 1))
@@ -212,7 +212,7 @@ overlapping : bytes_after (1 ∷ 2 ∷ 3 ∷ 4 ∷ []) (i.I32Const (pos 1) ∷ i
 unfolding bytes_after over
 overlapping = refl
 
--- a fill at that place, of so many bytes, in a page
+-- a fill at that place, of that many bytes, in a page
 fills : ℕ → ℕ → ℕ → Option (Ended × ℕ)
 fills at size limit =
     option_map (λ o. (o.ended, o.used))

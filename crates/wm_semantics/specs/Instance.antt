@@ -30,7 +30,7 @@ abbrev pub with_segments : List Segment → List ℕ → List ℕ
 with_segments [] memory = memory
 with_segments (s ∷ segments) memory = with_segments segments (laid (constant_of s.offset) s.bytes memory)
 
--- no segment passes the end of the table or of the memory; an empty one may stand at the end
+-- no segment passes the end of the table or of the memory; an empty one may be at the end
 abbrev pub elements_fit : ℕ → List Element → Bool
 elements_fit size elements = list_all (λ e. nat_le (constant_of e.offset + length e.functions) size) elements
 

@@ -17,7 +17,7 @@ pub fn never_stuck<H: Host>()
         → InvokesOn H.answers v.module limit h s used to }
 {}
 
-/// The store that a run ends with fits the module too, also behind a trap.
+/// The store that a run ends with fits the module too, also after a trap.
 pub fn store_fits<H: Host>()
     ensures fits { (v : Validated) (s : Lists) (limit used : ℕ) (h : H) (to : ATarget) (o : Outcome H)
         → IsValid v → Fits v.module s → HoldsBytes s → IsTarget v.module to

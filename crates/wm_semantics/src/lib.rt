@@ -4,7 +4,7 @@
 //! The definitions stand section by section beside the standard's (`specs/`): values, function
 //! instances, configurations, one reduction, its charge, hosts, and what a run ends in. The laws say
 //! that no valid module gets stuck, and that a run has one outcome. Two lemmas quantify over relations,
-//! as no clause can, and stand in `proofs/` for the crates above: `AlwaysKept` (what each answer of a
+//! as no clause can, and are in `proofs/` for the crates above: `AlwaysKept` (what each answer of a
 //! relation keeps, a run of any module keeps) and `Narrow` (a fact that a host's answers keep holds at
 //! each of them).
 #![tactic(auto)]

@@ -53,7 +53,7 @@ read_below : (fit : Bool) (xs : List ℕ) (extend : ℕ → ℕ) (most : ℕ) �
 read_below true xs extend most h = h
 read_below false xs extend most h = tt
 
--- what is read is in range where that of so many bytes is
+-- what is read is in range where that of that many bytes is
 pub number_at_below : (size : ℕ) (extend : ℕ → ℕ) (at : ℕ) (memory : List ℕ) (most : ℕ) → size ≤ 8 → AreBytes memory
     → ((n : ℕ) → n < 256 ^ size → extend n < most) → IfOk (number_at size extend at memory) (λ n. n < most)
 number_at_below size extend at memory most few are keeps =

@@ -29,7 +29,7 @@ zero_at m i = elim (cases_lt i m) [
 pub from_le_bytes-agree : (xs ys : List ℕ) → ((i : ℕ) → get_or xs i 0 ≡ get_or ys i 0) → from_le_bytes w64 xs ≡ from_le_bytes w64 ys
 from_le_bytes-agree xs ys same = sum_through-agree (λ i. byte_worth i (get_or xs i 0)) (λ i. byte_worth i (get_or ys i 0)) (λ i. ap (byte_worth i) (same i)) 7
 
--- zeros behind the bytes do not matter
+-- zeros after the bytes do not matter
 pub get_or-padded : (bytes : List ℕ) (n m i : ℕ) → get_or (bytes ++ drop n (replicate m 0)) i 0 ≡ get_or bytes i 0
 get_or-padded bytes n m i = elim (cases_lt i (length bytes)) [
   | inl within ↦ get_or_append_left bytes (drop n (replicate m 0)) 0 i within

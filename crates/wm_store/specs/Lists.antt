@@ -33,7 +33,7 @@ filled at byte n xs = written at (replicate n byte) xs
 abbrev pub pages_of : List ℕ → ℕ
 pages_of xs = length xs / 65536
 
--- the bytes with so many more pages of zeros, unless they pass the limit of pages
+-- the bytes with that many more pages of zeros, unless they pass the limit of pages
 abbrev pub grown : ℕ → ℕ → List ℕ → Option (List ℕ)
 grown limit more xs = if nat_le (pages_of xs + more) limit then Some (xs ++ replicate (65536 * more) 0) else None
 

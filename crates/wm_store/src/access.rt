@@ -11,7 +11,7 @@ use wm_numeric::{Failure, int32, int64};
 /// Instructions that read or write memory (WebAssembly Core 1.0, 4.4.4; Core 2.0, 4.4.7). The effective
 /// address of a load or a store is the sum of the operand and the offset, a whole number.
 impl Store {
-    /// A load of so many bytes that extends without a sign.
+    /// A load of that many bytes that extends without a sign.
     #[inline(always)]
     pub fn load_u(&self, address: u64, offset: u32, size: u32) -> Result<u64, Failure>
         requires address { address < 2 ^ 32 }
@@ -69,7 +69,7 @@ impl Store {
         Ok(int64::extend_32_s(self.load_u(address, offset, 4)?))
     }
 
-    /// A store of so many of the value's bytes, the lowest first.
+    /// A store of that many of the value's bytes, the lowest first.
     #[inline(always)]
     pub fn store(
         &mut self,

@@ -54,7 +54,7 @@ impl Model for Store {
     ghost invariant = { IsSound };
 }
 
-/// The place where so many elements stand, unless they pass the end.
+/// The place where that many elements stand, unless they pass the end.
 fn place(len: usize, at: u64, size: u64) -> Option<usize>
     ensures { MatchOption result (len < at + size) (λ i. (i ≡ at) × (at + size ≤ len)) }
 {
@@ -106,7 +106,7 @@ fn write(pages: &mut Pages, at: u64, bytes: &[u8]) -> Result<Option<()>, NoMemor
     }
 }
 
-/// Copies so many bytes from one place to another, unless either passes the end.
+/// Copies that many bytes from one place to another, unless either passes the end.
 fn copy(pages: &mut Pages, to: u64, from: u64, size: u64) -> Result<Option<()>, NoMemory>
     ensures fits { IfOk result (λ done. is_some done ≡ is_some (moved to from size pages.old.bytes)) }
     ensures bytes { IfOk result (λ _. pages.new.bytes ≡ or_stays (moved to from size pages.old.bytes) pages.old.bytes) }
@@ -126,7 +126,7 @@ fn copy(pages: &mut Pages, to: u64, from: u64, size: u64) -> Result<Option<()>, 
     }
 }
 
-/// Writes one byte to so many places, unless they pass the end.
+/// Writes one byte to that many places, unless they pass the end.
 fn fill(pages: &mut Pages, at: u64, byte: u8, size: u64) -> Result<Option<()>, NoMemory>
     ensures fits { IfOk result (λ done. is_some done ≡ is_some (filled at byte size pages.old.bytes)) }
     ensures bytes { IfOk result (λ _. pages.new.bytes ≡ or_stays (filled at byte size pages.old.bytes) pages.old.bytes) }
@@ -183,7 +183,7 @@ impl Store {
         }
     }
 
-    /// A store with so many pages of zeros, of 65,536 bytes each. What element segments put into the
+    /// A store with that many pages of zeros, of 65,536 bytes each. What element segments put into the
     /// table is in the table that is handed in.
     pub fn make(
         alloc: Global,
@@ -326,7 +326,7 @@ impl Store {
         write(&mut self.memory, at, bytes)
     }
 
-    /// Copies so many bytes of memory from one place to another, as if they were read first. None where
+    /// Copies that many bytes of memory from one place to another, as if they were read first. None where
     /// either range passes its end, even an empty one; then nothing is written.
     pub fn copy_within(&mut self, to: u64, from: u64, size: u64) -> Result<Option<()>, NoMemory>
         ensures fits { IfOk result (λ done. is_some done ≡ is_some (moved to from size self.old.lists.memory)) }
@@ -340,7 +340,7 @@ impl Store {
         copy(&mut self.memory, to, from, size)
     }
 
-    /// Writes one byte to so many places of memory. None where the range passes its end, even an empty
+    /// Writes one byte to that many places of memory. None where the range passes its end, even an empty
     /// one; then nothing is written.
     pub fn fill(&mut self, at: u64, byte: u8, size: u64) -> Result<Option<()>, NoMemory>
         ensures fits { IfOk result (λ done. is_some done ≡ is_some (filled at byte size self.old.lists.memory)) }
@@ -375,7 +375,7 @@ impl Store {
         write(&mut self.stable, at, bytes)
     }
 
-    /// Adds so many pages of zeros to memory and gives the old number of pages. None where this would
+    /// Adds that many pages of zeros to memory and gives the old number of pages. None where this would
     /// pass the declared maximum or 256; then nothing is added.
     pub fn grow(&mut self, pages: u32) -> Result<Option<u32>, NoMemory>
         ensures size { IfOk result (λ old. old ≡ option_map (λ _. pages_of self.old.lists.memory) (grown (page_limit self.old.lists.maximum) pages self.old.lists.memory)) }
@@ -388,7 +388,7 @@ impl Store {
         grow(&mut self.memory, limit, u64::from(pages))
     }
 
-    /// Adds so many pages of zeros to stable memory, as `grow` does to memory; 256 is its limit.
+    /// Adds that many pages of zeros to stable memory, as `grow` does to memory; 256 is its limit.
     pub fn stable_grow(&mut self, pages: u64) -> Result<Option<u32>, NoMemory>
         ensures size { IfOk result (λ old. old ≡ option_map (λ _. pages_of self.old.lists.stable) (grown 256 pages self.old.lists.stable)) }
         ensures lists { IfOk result (λ _. self.new.lists ≡ record self.old.lists { stable = or_stays (grown 256 pages self.old.lists.stable) self.old.lists.stable }) }

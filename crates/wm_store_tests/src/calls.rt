@@ -11,7 +11,7 @@ use wm_store::Store;
 /// How many bytes a page has.
 pub const PAGE: u64 = 65_536;
 
-/// A store with so many pages of memory, two globals and two entries.
+/// A store with that many pages of memory, two globals and two entries.
 pub fn made(alloc: Global, pages: u32, maximum: Option<u32>) -> Result<Store, NoMemory>
     requires { pages ≤ page_limit maximum }
     ensures { IfOk result (λ s. s.begun ≡ None) }

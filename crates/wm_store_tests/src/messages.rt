@@ -20,7 +20,7 @@ fn undo(store: &mut Store)
     store.undo();
 }
 
-// A store is the same to its callers behind a message that did nothing.
+// A store is the same to its callers after a message that did nothing.
 fn begin_and_undo(store: &mut Store)
     requires { store.old.begun ≡ None }
     ensures { store.new ≡ store.old }
@@ -53,7 +53,7 @@ fn change(store: &mut Store) -> Result<(), NoMemory>
     Ok(())
 }
 
-/// What stands on both sides of the end of the first page of each memory.
+/// What is on both sides of the end of the first page of each memory.
 fn ends(store: &Store) -> [Option<u64>; 4] {
     [
         byte(store, PAGE - 1),

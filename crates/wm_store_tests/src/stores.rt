@@ -39,7 +39,7 @@ fn growth_to_256_pages(rt: HostRuntime) -> Result<(), NoMemory> {
 
 // ---- ends
 
-/// Whether so many bytes at a place can be read and written, in both memories, filled, and copied from
+/// Whether that many bytes at a place can be read and written, in both memories, filled, and copied from
 /// there and to there.
 fn fits(store: &mut Store, at: u64, size: u32) -> Result<[bool; 9], NoMemory>
     requires { size ≤ 8 }

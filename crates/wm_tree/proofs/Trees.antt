@@ -8,7 +8,7 @@ use Rattle.wm_tree.specs.Row.{row_of}
 use Rattle.wm_tree.specs.Seq.{Seq, Empty, Plain, BlockOf, LoopOf, IfOf, IfElseOf, flatten, IsProper, is_structural, join, past}
 use Rattle.wm_tree.specs.TreeOf.{Parts, parts, parts_of, tree_of, before}
 
--- an empty sequence behind changes nothing
+-- an empty sequence at the end changes nothing
 pub joined : (t : Seq) → join t Empty ≡ t
 joined Empty = refl
 joined (Plain i rest) = ap (Plain i) (joined rest)
@@ -55,7 +55,7 @@ parts_of-flatten (IfElseOf t body other rest) more h =
 pub tree_of-flatten : (t : Seq) → IsProper t → tree_of (flatten t) ≡ t
 tree_of-flatten t h = ap tree_of (sym (append-nil (flatten t))) ∙ ap (λ p. p.first) (parts_of-flatten t [] h) ∙ joined t
 
--- the place behind a sequence is as many places on as it has words
+-- the place after a sequence is as many places on as it has words
 pub past_is : (t : Seq) (p : ℕ) → past t p ≡ length (flatten t) + p
 past_is Empty p = omega arith
 past_is (Plain i rest) p = past_is rest (suc p) ∙ omega arith

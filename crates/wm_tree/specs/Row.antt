@@ -20,7 +20,7 @@ pub data Operands : Type 0 where
   type_index : ℕ → Operands
   memory : MemArg → Operands
   reserved : Operands
-  -- the number behind the prefix FC, and so many bytes 00
+  -- the number after the prefix FC, and that many bytes 00
   prefixed : ℕ → ℕ → Operands
   number32 : ℤ → Operands
   number64 : ℤ → Operands

@@ -9,12 +9,12 @@ use Rattle.wm_tree.specs.declared.instr.Instr.{Instr}
 use Rattle.wm_tree.specs.Row.{row_of}
 use Rattle.wm_tree.specs.Seq.{Seq, Empty, Plain, BlockOf, LoopOf, IfOf, IfElseOf}
 
--- what stands behind an `end` or an `else` that no word before it opens
+-- what comes after an `end` or an `else` that no word before it opens
 pub data Behind : Type 0 where
   by_end : Seq → Behind
   by_else : Seq → Behind
 
--- the sequence up to the first such word, and what stands behind each of them
+-- the sequence up to the first such word, and what comes after each of them
 pub record Parts : Type 0 where
   pub first : Seq
   pub others : List Behind
@@ -22,7 +22,7 @@ pub record Parts : Type 0 where
 abbrev pub parts : Seq → List Behind → Parts
 parts first others = record { first = first; others = others }
 
--- a block around the first part, its rest the part behind; nothing where no `end` closes it
+-- a block around the first part, its rest the part after; nothing where no `end` closes it
 abbrev pub closed : Shape → Option ValType → Seq → List Behind → Parts
 closed shape.Block t body (by_end rest ∷ others) = parts (BlockOf t body rest) others
 closed shape.Loop t body (by_end rest ∷ others) = parts (LoopOf t body rest) others

@@ -14,7 +14,7 @@ pub fn words_of_tree()
     ensures same { (words : List AnInstr) → IsFlat words → flatten (tree_of words) ≡ words }
 {}
 
-/// The place behind a sequence is as many places on as it has words.
+/// The place after a sequence is as many places on as it has words.
 pub fn place_behind()
     ensures { (t : Seq) (p : ℕ) → past t p ≡ length (flatten t) + p }
 {}

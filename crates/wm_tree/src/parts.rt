@@ -88,7 +88,7 @@ impl Model for Exports {
     ghost view = { λ l. l.items.items };
 }
 
-/// An element segment: functions that stand in a table from the offset on (2.5.7).
+/// An element segment: functions that are in a table from the offset on (2.5.7).
 #[derive(Debug, Drop)]
 pub struct Element {
     pub table: u32,
@@ -111,7 +111,7 @@ impl Model for Elements {
     ghost view = { λ l. l.items.items };
 }
 
-/// A data segment: bytes that stand in a memory from the offset on (2.5.8).
+/// A data segment: bytes that are in a memory from the offset on (2.5.8).
 #[derive(Debug, Drop)]
 pub struct Segment {
     pub memory: u32,

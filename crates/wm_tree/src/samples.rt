@@ -280,7 +280,7 @@ fn limits(alloc: Global, min: u32, max: Option<u32>) -> Result<LimitsList, NoMem
 }
 
 /// A module that counts its calls and passes a message on along a route of canisters: its update
-/// method `relay` takes the ids of ten bytes, one after the other, that stand in its argument.
+/// method `relay` takes the ids of ten bytes, one after the other, that are in its argument.
 pub fn relay(alloc: Global) -> Result<Module, NoMemory>
     ensures { IfOk result (λ m. m ≡ relay) }
 {

@@ -57,7 +57,7 @@ at_name-insert_entry name (x ∷ xs) k v = one_more name k x.0 v x.1 xs _ (slice
 
 -- ---- what is exported
 
--- the export, or what is found behind it
+-- the export, or what is found after it
 by_test : (b : Bool) (e : Export) (o : Option Export) → option_map (λ (x : Export). exported_function x.kind) (cond b (Some e) o) ≡ cond b (Some (exported_function e.kind)) (option_map (λ (x : Export). exported_function x.kind) o)
 by_test true e o = refl
 by_test false e o = refl
@@ -86,7 +86,7 @@ is_some-exported_as (e ∷ exports) name =
     ∙ some_or (bytes_eq e.name name) (exported_function e.kind) (exported_as exports name)
     ∙ ap (λ b. bytes_eq e.name name || b) (is_some-exported_as exports name)
 
--- a method of the map is exported behind the prefix
+-- a method of the map is exported after the prefix
 pub has_rest-has_other : (methods : Methods) (prefix : List ℕ) (exports : List Export) → HasMethods methods prefix exports → (rest : Option (List ℕ)) → has_rest methods rest ≡ has_other exports prefix rest
 has_rest-has_other methods prefix exports has None = refl
 has_rest-has_other methods prefix exports has (Some method) = ap is_some (has method) ∙ is_some-exported_as exports (prefix ++ method)
@@ -95,7 +95,7 @@ flat : (o : Option Export) → option_flatten (option_map (λ (x : Export). expo
 flat None = refl
 flat (Some x) = refl
 
--- the function of a method is exported behind the prefix
+-- the function of a method is exported after the prefix
 pub function_found : (methods : Methods) (prefix : List ℕ) (exports : List Export) → HasMethods methods prefix exports → (method : List ℕ) → option_flatten (found_in methods method) ≡ function_named exports (prefix ++ method)
 function_found methods prefix exports has method = ap option_flatten (has method) ∙ flat (find (λ x. bytes_eq x.name (prefix ++ method)) exports)
 

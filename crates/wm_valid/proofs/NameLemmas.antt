@@ -1,4 +1,4 @@
--- Names behind a prefix, and sets of names.
+-- Names after a prefix, and sets of names.
 use Rattle.std.proofs.Common.{◌≡◌, ℕ, ◌+◌, ◌<◌, get_or, Bool, true, false, cond, List, [], ◌∷◌, ◌++◌, length, take, drop, Some, None, refl, sym, ap, ◌∙◌, arith}
 use Rattle.std.specs.Prelude.{◌&&◌, ◌||◌, nat_eq, bytes_eq}
 use Rattle.std.specs.Borrow.{Bor}
@@ -19,7 +19,7 @@ use Rattle.wm_tree.specs.declared.parts.Module.{Module}
 use Rattle.wm_valid.specs.Entries.{strip_prefix, exports_name, is_wrong, is_bad_export, least_bad}
 use Rattle.wm_valid.specs.Seen.{has_name, HasAlso, HasNames}
 
--- ---- names behind a prefix
+-- ---- names after a prefix
 
 eq_comm : (x y : ℕ) → nat_eq x y ≡ nat_eq y x
 eq_comm x y = grind (arith, nat_tests)

@@ -95,7 +95,7 @@ starts_procedure m (Some index) = is_procedure (type_of m index)
 abbrev pub all_below : ℕ → List ℕ → Bool
 all_below count indices = list_all (λ f. nat_lt f count) indices
 
--- a table, an offset and functions, where there are so many tables and functions (3.4.5)
+-- a table, an offset and functions, where there are that many tables and functions (3.4.5)
 abbrev pub element_in_range : ℕ → ℕ → Element → Bool
 element_in_range tables functions e =
     nat_lt e.table tables && is_constant I32 e.offset && all_below functions e.functions

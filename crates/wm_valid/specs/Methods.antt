@@ -30,7 +30,7 @@ abbrev pub Gains : Methods → Methods → List ℕ → Export → Type 0
 Gains old new prefix e =
     (method : List ℕ) → found_in new method ≡ cond (bytes_eq e.name (prefix ++ method)) (Some (exported_function e.kind)) (found_in old method)
 
--- just what is exported behind the prefix
+-- just what is exported after the prefix
 abbrev pub HasMethods : Methods → List ℕ → List Export → Type 0
 HasMethods methods prefix exports = (method : List ℕ) → found_in methods method ≡ exported_as exports (prefix ++ method)
 

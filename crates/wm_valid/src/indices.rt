@@ -129,7 +129,7 @@ fn starts_procedure(module: &Module, functions: &[u32]) -> bool
     }
 }
 
-/// Whether each is the index of a function, of which there are so many.
+/// Whether each is the index of a function, of which there are that many.
 fn all_below(count: usize, indices: &[u32]) -> bool
     ensures { result ≡ specs.all_below count indices.now }
 {

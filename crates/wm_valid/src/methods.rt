@@ -36,7 +36,7 @@ fn function_named(exports: &[Export], name: &[u8]) -> Option<u32>
     exported_function(export.kind)
 }
 
-/// What is exported behind a prefix: for each method its function, if it is one.
+/// What is exported after a prefix: for each method its function, if it is one.
 type Methods = BTreeMap<Vec<u8>, Option<u32>>;
 
 /// Adds the export where its name begins with the prefix; it takes the place of another of its name.

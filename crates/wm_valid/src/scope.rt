@@ -4,7 +4,7 @@ ghost use Rattle.wm_valid.specs.Space.{function_types};
 
 use wm_tree::{GlobalType, Module};
 
-/// A module, and what its bodies may name beside what stands in it.
+/// A module, and what its bodies may name beside what is in it.
 #[derive(Clone, Copy)]
 pub(crate) struct Scope<'a> {
     pub(crate) module: &'a Module,

@@ -23,7 +23,7 @@ fn memories_fit(module: &Module) -> bool
     module.memories.items.iter().all(|limits| limits.min <= 256)
 }
 
-/// Whether there are at most so many locals.
+/// Whether there are at most that many locals.
 fn locals_fit(runs: &[Run], room: usize) -> bool
     ensures { result ≡ nat_le (sum_by (λ r. r.count) runs.now) room }
 {

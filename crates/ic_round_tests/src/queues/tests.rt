@@ -68,7 +68,7 @@ fn fanned<R: Threads + Sync>(alloc: Global, rt: &R, body: Body, world: World) ->
     rounds(alloc, rt, body, world, 1)
 }
 
-// A canister is made, stopped and deleted, with so many calls to it before its deletion and one after that. It handles the first
+// A canister is made, stopped and deleted, with that many calls to it before its deletion and one after that. It handles the first
 // one; the last one goes back in the same round, unless another one stays before it.
 fn parted<R: Threads + Sync>(
     alloc: Global,

@@ -38,7 +38,7 @@ pub fn asked(world: World, ask: Option<Ask>) -> Option<World> {
     }
 }
 
-// So many rounds over queues, however few, by two workers.
+// That many rounds over queues, however few, by two workers.
 fn over_queues<R: Threads + Sync>(
     alloc: Global,
     rt: &R,
@@ -61,7 +61,7 @@ fn over_queues<R: Threads + Sync>(
     world.into_world(alloc).ok()
 }
 
-// Up to so many rounds over the list, by one worker.
+// Up to that many rounds over the list, by one worker.
 fn over_list<R: Threads + Sync>(alloc: Global, rt: &R, world: World, count: u32) -> Option<World> {
     let mut world = world;
     for _ in 0..count {
@@ -73,7 +73,7 @@ fn over_list<R: Threads + Sync>(alloc: Global, rt: &R, world: World, count: u32)
     Some(world)
 }
 
-/// Up to so many rounds.
+/// Up to that many rounds.
 pub fn rounds<R: Threads + Sync>(
     alloc: Global,
     rt: &R,

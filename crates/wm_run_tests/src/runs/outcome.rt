@@ -83,7 +83,7 @@ fn target_of(valid: &Valid, beginning: Beginning) -> Result<Target, Fail>
     }
 }
 
-/// The first bytes of memory, or zeros where there are not so many.
+/// The first bytes of memory, or zeros where there are not that many.
 fn first_bytes(store: &Store) -> [u8; 8] {
     let mut bytes = [0; 8];
     store.copy_out(0, &mut bytes);

@@ -1,5 +1,4 @@
-// Tables of bodies. A test that wrote one out would be long to prove, so each stands behind a
-// function.
+// Tables of bodies. A test that wrote one out would be long to prove, so a function gives each.
 use super::outcome::Beginning;
 
 /// A body, the limit, how it ends, and what it uses.
@@ -378,7 +377,7 @@ pub fn depths() -> &'static [Row] {
     &DEPTHS
 }
 
-/// A place of the table, the limit, how the body ends that calls what stands there in the last frame
+/// A place of the table, the limit, how the body ends that calls what is there in the last frame
 /// that there may be, and what it uses.
 pub type LastFrame = (u8, u64, &'static str, u64);
 

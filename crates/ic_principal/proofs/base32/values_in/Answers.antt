@@ -8,7 +8,7 @@ use Rattle.ic_principal.proofs.ReadingLaws.{dashed-dash, dashed-letter, front-le
 use Rattle.ic_principal.proofs.base32.values_in.Goals as goal
 use Rattle.ic_principal.proofs.base32.values_in.Goals.{then-letters-eq5+else-text-place-ne45+else-place-text, else-letters-eq5}
 
--- the place behind a letter
+-- the place after a letter
 next_place : (place letters : ℕ) → place % 6 ≡ letters → (letters ≡ 5 → ⊥) → (place + 1) % 6 ≡ letters + 1
 next_place place letters at other = omega (arith, other)
 

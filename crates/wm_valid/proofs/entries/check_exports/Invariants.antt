@@ -3,7 +3,7 @@ use Rattle.wm_valid.specs.Entries.{least_bad}
 use Rattle.wm_valid.specs.Seen.{HasNames}
 use Rattle.wm_valid.proofs.entries.check_exports.Given as goal
 
--- the names so far were seen; the first export that is no good stands among those left
+-- the names so far were seen; the first export that is no good is among those left
 abbrev pub invariant-loop-place : goal.invariant-loop-place
 invariant-loop-place l =
     HasNames l.seen (take l.place l.exports)

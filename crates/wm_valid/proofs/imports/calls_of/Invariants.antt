@@ -4,7 +4,7 @@ use Rattle.wm_valid.specs.Imports.{is_other, least_other}
 use Rattle.wm_valid.specs.IsValid.{Calls}
 use Rattle.wm_valid.proofs.imports.calls_of.Given as goal
 
--- the calls so far; the first import that is none stands among those left
+-- the calls so far; the first import that is none is among those left
 abbrev pub invariant-loop-number : goal.invariant-loop-number
 invariant-loop-number l =
     Calls l.types (take l.number l.imports) l.calls.items

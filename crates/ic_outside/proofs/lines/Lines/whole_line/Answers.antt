@@ -6,7 +6,7 @@ use Rattle.ic_outside.specs.Steps.{BeginsWithLine}
 use Rattle.ic_outside.proofs.ScanLaws.{line_found, no_line}
 use Rattle.ic_outside.proofs.lines.Lines.whole_line.Goals as goal
 
--- what was searched is what is kept behind the bytes that were searched before
+-- what was searched is what is kept after the bytes that were searched before
 searched : (slice kept : List ℕ) (s : ℕ) → slice ≡ kept → take (length slice - s) (drop s slice) ≡ drop s kept
 searched slice kept s is = take_rest slice s ∙ ap (drop s) is
 
