@@ -9,8 +9,8 @@ ghost use Rattle.ic_state.specs.IsWorld.{IsWorld};
 use ic_base::NoMemory;
 use ic_mgmt::{put_together, taken_apart};
 use ic_principal::{Bytes, Principal, Text};
-use ic_queues::Queues;
-use ic_state::{CanisterPlace, Message, Origin, Parts, Request, World};
+use ic_queues::{Queues, UserCall};
+use ic_state::{CanisterPlace, Parts, Request, World};
 use std::alloc::Global;
 use std::collections::BTreeMap;
 use std::marker::Model;
@@ -123,13 +123,12 @@ impl QueuedWorld {
         ensures { IfOk result (λ w. w ≡ submitted self sender callee method arg) }
     {
         let QueuedWorld { mut rest, queues } = self;
-        let call = Message::Call {
-            origin: Origin::Ingress(rest.requests.len() as u32),
+        let call = UserCall {
+            number: rest.requests.len() as u32,
             sender,
             callee,
             method: method.copy()?,
             arg: arg.copy()?,
-            cycles: 0,
         };
         let queues = queues.push(alloc, call)?;
         rest.requests.push(Request {

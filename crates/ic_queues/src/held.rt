@@ -131,23 +131,24 @@ fn held_other(alloc: Global, message: Message) -> Result<Held, NoMemory>
     Ok(Held { kind })
 }
 
-fn held_call(alloc: Global, call: UserCall) -> Result<Held, NoMemory>
-    ensures { IfOk result (λ h. h ≡ user_message call) }
-{
-    let tag = tag(&call.sender, &call.callee);
-    let kind = Kind::User(tag, Box::new(alloc, call)?);
-    Ok(Held { kind })
-}
-
 impl Held {
     /// Moves the message to its place.
     pub fn new(alloc: Global, message: Message) -> Result<Held, NoMemory>
         ensures { IfOk result (λ h. h ≡ message) }
     {
         match user_call(message) {
-            Ok(call) => held_call(alloc, call),
+            Ok(call) => Held::of_user(alloc, call),
             Err(message) => held_other(alloc, message),
         }
+    }
+
+    /// Moves a user's call to its place.
+    pub fn of_user(alloc: Global, call: UserCall) -> Result<Held, NoMemory>
+        ensures { IfOk result (λ h. h ≡ user_message call) }
+    {
+        let tag = tag(&call.sender, &call.callee);
+        let kind = Kind::User(tag, Box::new(alloc, call)?);
+        Ok(Held { kind })
     }
 
     /// Takes the message out of its place.

@@ -15,6 +15,7 @@ mod shelf;
 mod steady;
 mod walk;
 
+pub use held::UserCall;
 pub use queues::Queues;
 pub use steady::is_steady;
 pub use walk::Walk;

@@ -11,10 +11,8 @@ use crate::held::Held;
 use crate::line::Line;
 use crate::shelf::Shelf;
 use ic_base::NoMemory;
-use ic_calls::callee;
 use ic_principal::Principal;
 use ic_state::Message;
-use std::alloc::Global;
 use std::collections::BTreeMap;
 
 /// The parts of queues. Where memory runs out they may be at odds.
@@ -126,13 +124,13 @@ impl Lists {
     }
 
     /// Puts a message after the others.
-    pub fn push(&mut self, alloc: Global, message: Message) -> Result<(), NoMemory>
+    pub fn push(&mut self, message: Held) -> Result<(), NoMemory>
         requires { AreQueued self.old }
         ensures keeps { OnOk result (AreQueued self.new) }
         ensures queues { OnOk result (queued_of self.new ≡ push (queued_of self.old) message) }
     {
-        let callee = callee(&message);
-        let number = self.messages.push(alloc, message)?;
+        let callee = message.callee();
+        let number = self.messages.push(message)?;
         line_up(&mut self.waiting, &mut self.outside, &callee, number)?;
         Ok(())
     }

@@ -6,9 +6,11 @@ ghost use Rattle.std.specs.Ordering.{nat_cmp};
 ghost use Rattle.std.specs.Cmp.Lexicographic.{slice_cmp};
 ghost use Rattle.ic_behaviour.specs.State.{at};
 ghost use Rattle.ic_queues.specs.Queued.{first_to, without_first_to, without_at, first_of_way, push, no_messages};
+ghost use Rattle.ic_queues.specs.Holding.{user_message};
 ghost use Rattle.ic_queues.specs.InLists.{queued_of, AreQueued};
 ghost use Rattle.ic_queues.specs.Lines.{remove_number, numbered, waiting_with, outside_with, empty_lines, popped_line, line_at};
 
+use crate::held::{Held, UserCall};
 use crate::line::Line;
 use crate::lists::Lists;
 use crate::shelf::Shelf;
@@ -137,12 +139,12 @@ impl Queues {
         self.lists.messages.is_sparse()
     }
 
-    /// Puts a message after the others.
-    pub fn push(self, alloc: Global, message: Message) -> Result<Queues, NoMemory>
-        ensures { IfOk result (λ w. w ≡ push self message) }
+    /// Puts a user's call after the others.
+    pub fn push(self, alloc: Global, call: UserCall) -> Result<Queues, NoMemory>
+        ensures { IfOk result (λ w. w ≡ push self (user_message call)) }
     {
         let Queues { mut lists } = self;
-        lists.push(alloc, message)?;
+        lists.push(Held::of_user(alloc, call)?)?;
         Ok(Queues { lists })
     }
 
@@ -153,7 +155,7 @@ impl Queues {
     {
         let Queues { mut lists } = self;
         for message in messages.items {
-            lists.push(alloc, message)?;
+            lists.push(Held::new(alloc, message)?)?;
         }
         Ok(Queues { lists })
     }

@@ -216,7 +216,7 @@ impl Shelf {
 
     /// Puts a message after the others. Gives its number. After 2^64 messages there is none for one more, which is
     /// told as out of memory.
-    pub fn push(&mut self, alloc: Global, message: Message) -> Result<u64, NoMemory>
+    pub fn push(&mut self, message: Held) -> Result<u64, NoMemory>
         ensures number { IfOk result (λ n. n ≡ self.old.next) }
         ensures pushed { OnOk result (self.new ≡ record { entries = self.old.entries ++ (self.old.next, message) ∷ []; next = self.old.next + 1 }) }
     {
@@ -224,13 +224,12 @@ impl Shelf {
         let Some(after) = number.checked_add(1) else {
             return Err(AllocError);
         };
-        let place = Held::new(alloc, message)?;
         let full = if self.full == self.places.len() {
             self.full + 1
         } else {
             self.full
         };
-        self.places.push_back(Some(place))?;
+        self.places.push_back(Some(message))?;
         self.full = full;
         self.next = after;
         self.count += 1;

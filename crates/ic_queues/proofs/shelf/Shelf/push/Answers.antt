@@ -1,4 +1,4 @@
-use Rattle.std.proofs.Common.{◌≡◌, ◌<◌, refl, arith, ◌+◌, ◌⊎◌, inl, inr, length, ◌++◌, ◌∷◌, [], Some, ap, ◌∙◌, rules}
+use Rattle.std.proofs.Common.{◌≡◌, ◌<◌, refl, arith, ◌+◌, ◌⊎◌, inl, inr, length, ◌++◌, ◌∷◌, [], ap, ◌∙◌, rules}
 use Rattle.ic_queues.specs.Shelved.{Shelved}
 use Rattle.ic_queues.proofs.Shelves.{Pushed, pushed, few_messages}
 use Rattle.ic_queues.proofs.shelf.Shelf.push.Goals.{then-self-len, else-self-len}
@@ -19,7 +19,7 @@ full_is c = elim c.if-self-len.branch [
 ends : (c : goal.After-self-3-1) → Pushed c.self.inside.first c.self.inside.next c.self.inside.count c.in-Some.after (c.self.inside.count + 1) c.if-self-len.full c.self.inside.places.items c.push_back.new.self.items c.args.message
 ends c =
     pushed c.self.inside.first c.self.inside.next c.self.inside.count c.self.inside.full c.in-Some.after (c.self.inside.count + 1) c.if-self-len.full c.self.inside.places.items c.push_back.new.self.items c.args.message c.self.invariant
-    (c.in_ok-push_back.ensures.items ∙ ap (λ m. c.self.inside.places.items ++ Some m ∷ []) c.in_ok-place.ensures) (search rules) refl (full_is c)
+    c.in_ok-push_back.ensures.items (search rules) refl (full_is c)
 
 pub invariant_of-self-2 : goal.invariant_of-self-2
 invariant_of-self-2 c = (ends c).shelf
