@@ -1,3 +1,4 @@
+mod Passes
 mod Text
 mod Numbers
 mod Each

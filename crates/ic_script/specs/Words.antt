@@ -19,6 +19,10 @@ is_word word = not (length word == 0)
 unfoldable pub is_well_formed : List ℕ → Bool
 is_well_formed line = list_all is_printable line && list_all is_word (words_of line)
 
+-- a byte after another: printable, and no space after a space
+abbrev pub may_follow : (last byte : ℕ) → Bool
+may_follow last byte = is_printable byte && not (byte == 32 && last == 32)
+
 -- a zero with something after it
 abbrev pub has_leading_zero : List ℕ → Bool
 has_leading_zero (first ∷ second ∷ _) = first == 48

@@ -1,8 +1,8 @@
 ghost use Rattle.std.specs.Prelude.{◌≡◌, ◌≢◌, false, [], ◌∷◌, length, map, IfOk, IfSome, IfNone, IsTrue, option_copied, string_bytes};
-ghost use Rattle.std.specs.List.{list_all, slice_split};
+ghost use Rattle.std.specs.List.{list_all};
 ghost use Rattle.std.specs.Char.{is_ascii_digit};
 ghost use Rattle.ic_script.specs.HexWord.{hex_word};
-ghost use Rattle.ic_script.specs.Words.{words_of, is_well_formed, is_printable, is_word, is_numeral, has_leading_zero, words_left};
+ghost use Rattle.ic_script.specs.Words.{words_of, is_well_formed, is_numeral, may_follow, has_leading_zero, words_left};
 
 use ic_base::NoMemory;
 use std::alloc::Global;
@@ -14,26 +14,32 @@ pub fn well_formed(line: &[u8]) -> Option<&str>
     ensures none { IfNone result (is_well_formed line.now ≡ false) }
 {
     let text = str::from_utf8(line).ok()?;
-    if all_printable(text) && all_words(text) {
+    if is_well_formed(line) {
         Some(text)
     } else {
         None
     }
 }
 
-fn all_printable(text: &str) -> bool
-    ensures { result ≡ list_all is_printable text.now }
+// In one pass. A space at the front has no word before it, as if a space came before the line.
+fn is_well_formed(line: &[u8]) -> bool
+    ensures { result ≡ is_well_formed line.now }
 {
-    text.as_bytes()
-        .iter()
-        .all(|byte| *byte >= b' ' && *byte <= b'~')
+    let mut last = b' ';
+    for byte in line {
+        if !may_follow(last, *byte) {
+            return false;
+        }
+        last = *byte;
+    }
+    last != b' '
 }
 
-#[tactic(auto, unfolding(crate::specs::Words::words_of))]
-fn all_words(text: &str) -> bool
-    ensures { result ≡ list_all is_word (words_of text.now) }
+// Whether a byte may come after another.
+fn may_follow(last: u8, byte: u8) -> bool
+    ensures { result ≡ may_follow last byte }
 {
-    text.split(' ').all(|word| !word.is_empty())
+    byte >= b' ' && byte <= b'~' && (byte != b' ' || last != b' ')
 }
 
 /// The first word of a text, and the text of the words after it.
