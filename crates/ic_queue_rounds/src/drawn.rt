@@ -3,16 +3,16 @@ ghost use Rattle.std.specs.List.{fold};
 ghost use Rattle.ic_queue_rounds.specs.Drawing.{draw, none_drawn};
 
 use ic_base::NoMemory;
+use ic_held::Held;
 use ic_principal::Principal;
 use ic_queues::Queues;
-use ic_state::MessagePlace;
 use std::alloc::Global;
 use std::marker::Model;
 
 /// The first message to each canister that has one, and the queues without them.
 #[derive(Drop)]
 pub struct Drawn {
-    firsts: Vec<(Principal, MessagePlace)>,
+    firsts: Vec<(Principal, Held)>,
     queues: Queues,
 }
 
@@ -34,7 +34,7 @@ impl Drawn {
     }
 
     /// The first messages, in rising order of their canisters, and the queues.
-    pub fn open(self) -> (Vec<(Principal, MessagePlace)>, Queues)
+    pub fn open(self) -> (Vec<(Principal, Held)>, Queues)
         ensures firsts { result.0.items ≡ self.firsts }
         ensures queues { result.1 ≡ self.queues }
     {
@@ -43,10 +43,10 @@ impl Drawn {
     }
 
     // Takes the first message to a canister, if there is one.
-    fn draw(&mut self, alloc: Global, key: Principal) -> Result<(), NoMemory>
+    fn draw(&mut self, key: Principal) -> Result<(), NoMemory>
         ensures { OnOk result (self.new ≡ draw self.old key) }
     {
-        if let Some(message) = self.queues.pop(alloc, &key)? {
+        if let Some(message) = self.queues.pop(&key) {
             self.firsts.reserve(1)?;
             self.firsts.push_reserved((key, message));
         }
@@ -60,7 +60,7 @@ pub fn draw_all(alloc: Global, canisters: Vec<Principal>, queues: Queues) -> Res
 {
     let mut drawn = Drawn::new(alloc, queues, canisters.len())?;
     for key in canisters {
-        drawn.draw(alloc, key)?;
+        drawn.draw(key)?;
     }
     Ok(drawn)
 }

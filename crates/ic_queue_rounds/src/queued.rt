@@ -7,9 +7,10 @@ ghost use Rattle.ic_state.specs.Seen.{state_of};
 ghost use Rattle.ic_state.specs.IsWorld.{IsWorld};
 
 use ic_base::NoMemory;
+use ic_held::UserCall;
 use ic_mgmt::{put_together, taken_apart};
 use ic_principal::{Bytes, Principal, Text};
-use ic_queues::{Queues, UserCall};
+use ic_queues::Queues;
 use ic_state::{CanisterPlace, Parts, Request, World};
 use std::alloc::Global;
 use std::collections::BTreeMap;
@@ -151,18 +152,13 @@ impl QueuedWorld {
         (rest, queues)
     }
 
-    /// The world whose messages are in these queues, which may be those of other canisters. Then they are made anew.
+    /// The world whose messages are in these queues, which may be those of other canisters. The messages to these change their queue.
     pub fn close(alloc: Global, rest: Parts, queues: Queues) -> Result<QueuedWorld, NoMemory>
         requires keeps { IsWorld (with_messages rest queues.messages) }
         requires none { rest.messages ≡ [] }
         ensures { IfOk result (λ w. w ≡ state_of (with_messages rest queues.messages)) }
     {
-        if queues.are_of(&rest.canisters) {
-            return Ok(QueuedWorld { rest, queues });
-        }
-        let canisters = ids(alloc, &rest.canisters)?;
-        let messages = queues.open(alloc)?;
-        let queues = Queues::new(alloc, canisters)?.append(alloc, messages)?;
+        let queues = queues.with_canisters(alloc, &rest.canisters)?;
         Ok(QueuedWorld { rest, queues })
     }
 

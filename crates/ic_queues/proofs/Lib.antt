@@ -2,7 +2,6 @@ pub mod Entries
 pub mod Numbers
 pub mod Shelves
 pub mod Places
-pub mod Tags
 pub mod Queueing
 pub mod Starts
 pub mod Moves

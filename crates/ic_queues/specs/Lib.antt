@@ -4,4 +4,3 @@ pub mod Shelved
 pub mod Walking
 pub mod Moving
 pub mod InLists
-pub mod Holding

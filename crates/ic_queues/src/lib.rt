@@ -6,7 +6,6 @@
 //! take one out touches no other message. Contracts see the list.
 #![tactic(auto)]
 
-mod held;
 mod line;
 mod lists;
 mod moving;
@@ -15,7 +14,6 @@ mod shelf;
 mod steady;
 mod walk;
 
-pub use held::UserCall;
 pub use queues::Queues;
 pub use steady::is_steady;
 pub use walk::Walk;

@@ -7,10 +7,10 @@ ghost use Rattle.ic_queues.specs.Queued.{first_to, without_first_to, without_at,
 ghost use Rattle.ic_queues.specs.Lines.{is_number, remove_number, numbered, waiting_with, outside_with, waiting_without, outside_without, popped_line, line_at};
 ghost use Rattle.ic_queues.specs.InLists.{queued_of, AreQueued};
 
-use crate::held::Held;
 use crate::line::Line;
 use crate::shelf::Shelf;
 use ic_base::NoMemory;
+use ic_held::Held;
 use ic_principal::Principal;
 use ic_state::Message;
 use std::collections::BTreeMap;

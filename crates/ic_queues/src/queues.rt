@@ -6,18 +6,19 @@ ghost use Rattle.std.specs.Ordering.{nat_cmp};
 ghost use Rattle.std.specs.Cmp.Lexicographic.{slice_cmp};
 ghost use Rattle.ic_behaviour.specs.State.{at};
 ghost use Rattle.ic_queues.specs.Queued.{first_to, without_first_to, without_at, first_of_way, push, no_messages};
-ghost use Rattle.ic_queues.specs.Holding.{user_message};
+ghost use Rattle.ic_held.specs.Holding.{user_message};
 ghost use Rattle.ic_queues.specs.InLists.{queued_of, AreQueued};
 ghost use Rattle.ic_queues.specs.Lines.{remove_number, numbered, waiting_with, outside_with, empty_lines, popped_line, line_at};
 
-use crate::held::{Held, UserCall};
 use crate::line::Line;
 use crate::lists::Lists;
+use crate::moving::moved;
 use crate::shelf::Shelf;
 use crate::walk::Walk;
 use ic_base::NoMemory;
+use ic_held::{Held, UserCall};
 use ic_principal::Principal;
-use ic_state::{CanisterPlace, Message, MessagePlace, Messages};
+use ic_state::{CanisterPlace, Message, Messages};
 use std::alloc::Global;
 use std::collections::BTreeMap;
 use std::marker::Model;
@@ -101,22 +102,12 @@ impl Queues {
         self.lists.messages.len() == 0
     }
 
-    /// Whether each of these canisters has a queue, and nobody else.
-    pub fn are_of(&self, canisters: &BTreeMap<Principal, CanisterPlace>) -> bool
-        ensures { result ≡ true → self.now.canisters ≡ keys_of canisters.now.entries }
-    {
-        have_queues(&self.lists.waiting, canisters)
-    }
-
     /// Takes the first message to a canister.
-    pub fn pop(&mut self, alloc: Global, key: &Principal) -> Result<Option<MessagePlace>, NoMemory>
-        ensures queues { OnOk result (self.new ≡ without_first_to key.now self.old) }
-        ensures message { IfOk result (λ m. m ≡ first_to key.now self.old) }
+    pub fn pop(&mut self, key: &Principal) -> Option<Held>
+        ensures queues { self.new ≡ without_first_to key.now self.old }
+        ensures message { result ≡ first_to key.now self.old }
     {
-        match self.lists.pop(key) {
-            Some(held) => Ok(Some(MessagePlace::new(alloc, held.take())?)),
-            None => Ok(None),
-        }
+        self.lists.pop(key)
     }
 
     /// Whether there is a message at a place of the list, and none before it has its sender and its callee.
@@ -157,6 +148,24 @@ impl Queues {
         for message in messages.items {
             lists.push(Held::new(alloc, message)?)?;
         }
+        Ok(Queues { lists })
+    }
+
+    /// The same messages, where these are the canisters.
+    pub fn with_canisters(
+        self,
+        alloc: Global,
+        canisters: &BTreeMap<Principal, CanisterPlace>,
+    ) -> Result<Queues, NoMemory>
+        requires rising { IsStrictlySortedBy (slice_cmp nat_cmp) (keys_of canisters.now.entries) }
+        ensures { IfOk result (λ w. w ≡ record self { canisters = keys_of canisters.now.entries }) }
+    {
+        if have_queues(&self.lists.waiting, canisters) {
+            return Ok(self);
+        }
+        let ids = canisters.keys().copied().collect(alloc)?;
+        let Queues { lists } = self;
+        let lists = moved(alloc, lists, ids)?;
         Ok(Queues { lists })
     }
 

@@ -8,8 +8,8 @@ ghost use Rattle.ic_queues.specs.Lines.{is_number};
 ghost use Rattle.ic_queues.specs.Walking.{way_of};
 ghost use Rattle.ic_queues.specs.Shelved.{entries_from, starts_empty, starts_full, trim, emptied, message_at, messages_of, index_at, has_way};
 
-use crate::held::Held;
 use ic_base::NoMemory;
+use ic_held::Held;
 use ic_principal::Principal;
 use ic_state::{Message, Messages};
 use std::alloc::{AllocError, Global};

@@ -5,8 +5,9 @@ ghost use Rattle.ic_rounds.specs.Dealing.{deal, none_dealt};
 
 use crate::slot::Slot;
 use ic_base::NoMemory;
+use ic_held::Held;
 use ic_principal::Principal;
-use ic_state::{CanisterPlace, MessagePlace};
+use ic_state::CanisterPlace;
 use std::alloc::Global;
 use std::collections::BTreeMap;
 use std::marker::Model;
@@ -49,7 +50,7 @@ impl Dealt {
     }
 
     // Puts a canister into a slot, with its first message.
-    fn deal(&mut self, key: Principal, message: MessagePlace) -> Result<(), NoMemory>
+    fn deal(&mut self, key: Principal, message: Held) -> Result<(), NoMemory>
         ensures { OnOk result (self.new ≡ deal self.old (key, message)) }
     {
         if let Some(canister) = self.canisters.remove(&key) {
@@ -65,10 +66,7 @@ impl Dealt {
 }
 
 // Whether there is a first message to each canister, and no other.
-fn are_all(
-    canisters: &BTreeMap<Principal, CanisterPlace>,
-    firsts: &[(Principal, MessagePlace)],
-) -> bool
+fn are_all(canisters: &BTreeMap<Principal, CanisterPlace>, firsts: &[(Principal, Held)]) -> bool
     ensures { result ≡ true → keys_of firsts.now ≡ keys_of canisters.now.entries }
 {
     canisters.len() == firsts.len()
@@ -82,7 +80,7 @@ fn are_all(
 fn all_dealt(
     alloc: Global,
     canisters: BTreeMap<Principal, CanisterPlace>,
-    firsts: Vec<(Principal, MessagePlace)>,
+    firsts: Vec<(Principal, Held)>,
 ) -> Result<Dealt, NoMemory>
     requires all { keys_of firsts.items ≡ keys_of canisters.entries }
     ensures { IfOk result (λ w. w ≡ fold deal (none_dealt canisters.entries) firsts.items) }
@@ -105,7 +103,7 @@ fn all_dealt(
 pub fn deal_out(
     alloc: Global,
     canisters: BTreeMap<Principal, CanisterPlace>,
-    firsts: Vec<(Principal, MessagePlace)>,
+    firsts: Vec<(Principal, Held)>,
 ) -> Result<Dealt, NoMemory>
     ensures { IfOk result (λ w. w ≡ fold deal (none_dealt canisters.entries) firsts.items) }
 {

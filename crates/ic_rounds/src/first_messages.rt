@@ -8,9 +8,10 @@ use crate::dealt::deal_out;
 use crate::in_place::handle_in_place;
 use crate::putting_back::handle_and_put_back;
 use ic_base::NoMemory;
+use ic_held::Held;
 use ic_outside::Gate;
 use ic_principal::Principal;
-use ic_state::{BoundedEnv, MessagePlace, Parts};
+use ic_state::{BoundedEnv, Parts};
 use std::alloc::Global;
 use std::collections::BTreeMap;
 use std::mem::replace;
@@ -20,7 +21,7 @@ use std::thread::Threads;
 fn handle_in_slots<R: Threads + Sync, G: Gate + Sync>(
     alloc: Global,
     parts: Parts,
-    firsts: Vec<(Principal, MessagePlace)>,
+    firsts: Vec<(Principal, Held)>,
     crew: &Crew<'_, R, G>,
     env: BoundedEnv,
 ) -> Result<Parts, NoMemory>
@@ -45,7 +46,7 @@ fn handle_in_slots<R: Threads + Sync, G: Gate + Sync>(
 pub fn handle_firsts<R: Threads + Sync, G: Gate + Sync>(
     alloc: Global,
     parts: Parts,
-    firsts: Vec<(Principal, MessagePlace)>,
+    firsts: Vec<(Principal, Held)>,
     crew: &Crew<'_, R, G>,
     env: BoundedEnv,
 ) -> Result<Parts, NoMemory>

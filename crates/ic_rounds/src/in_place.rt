@@ -6,9 +6,10 @@ ghost use Rattle.ic_rounds.specs.InPlace.{IsNext, HasGone, after_firsts};
 use crate::permit::Permit;
 use ic_base::NoMemory;
 use ic_deliver::deliver;
+use ic_held::Held;
 use ic_outside::Gate;
 use ic_principal::Principal;
-use ic_state::{BoundedEnv, MessagePlace, Parts};
+use ic_state::{BoundedEnv, Parts};
 use std::alloc::Global;
 use std::collections::VecDeque;
 
@@ -18,7 +19,7 @@ fn deliver_first(
     alloc: Global,
     parts: &mut Parts,
     key: &Principal,
-    message: MessagePlace,
+    message: Held,
     env: BoundedEnv,
     permit: Permit,
 ) -> Result<u32, NoMemory>
@@ -39,7 +40,7 @@ fn deliver_first(
 pub fn handle_in_place<G: Gate>(
     alloc: Global,
     parts: Parts,
-    firsts: Vec<(Principal, MessagePlace)>,
+    firsts: Vec<(Principal, Held)>,
     env: BoundedEnv,
     gate: &G,
 ) -> Result<Parts, NoMemory>

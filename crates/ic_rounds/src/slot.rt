@@ -1,10 +1,11 @@
+use ic_held::Held;
 use ic_principal::Principal;
-use ic_state::{CanisterPlace, MessagePlace};
+use ic_state::CanisterPlace;
 
 /// A canister and its first message.
 #[derive(Drop)]
 pub struct Slot {
     pub key: Principal,
     pub canister: CanisterPlace,
-    pub message: MessagePlace,
+    pub message: Held,
 }

@@ -4,8 +4,9 @@ ghost use Rattle.ic_rounds.specs.Taking.{is_first, is_key, take_out, leave, sort
 
 use ic_base::NoMemory;
 use ic_calls::callee;
+use ic_held::Held;
 use ic_principal::Principal;
-use ic_state::{CanisterPlace, Message, MessagePlace, Messages};
+use ic_state::{CanisterPlace, Message, Messages};
 use std::alloc::Global;
 use std::collections::{BTreeMap, VecDeque};
 use std::marker::Model;
@@ -13,7 +14,7 @@ use std::marker::Model;
 /// The first message to each canister that has one, and the other messages.
 #[derive(Drop)]
 pub struct Taken {
-    firsts: BTreeMap<Principal, MessagePlace>,
+    firsts: BTreeMap<Principal, Held>,
     left: Vec<Message>,
 }
 
@@ -36,7 +37,7 @@ impl Taken {
     }
 
     /// The first messages, in rising order of their canisters, and the other messages.
-    pub fn open(self, alloc: Global) -> Result<(Vec<(Principal, MessagePlace)>, Messages), NoMemory>
+    pub fn open(self, alloc: Global) -> Result<(Vec<(Principal, Held)>, Messages), NoMemory>
         ensures firsts { IfOk result (λ r. r.0.items ≡ self.firsts) }
         ensures left { IfOk result (λ r. r.1 ≡ self.left) }
     {
@@ -55,7 +56,7 @@ impl Taken {
         ensures { IfOk result (λ w. w ≡ take_out self callee message) }
     {
         let Taken { mut firsts, left } = self;
-        let message = MessagePlace::new(*left.allocator(), message)?;
+        let message = Held::new(*left.allocator(), message)?;
         firsts.insert(callee, message)?;
         Ok(Taken { firsts, left })
     }

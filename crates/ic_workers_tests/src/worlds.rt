@@ -3,9 +3,10 @@ ghost use Rattle.std.specs.List.{AllByRecursion};
 ghost use Rattle.ic_rounds.specs.Slots.{IsReady};
 
 use crate::canisters::empty_canister;
+use ic_held::Held;
 use ic_principal::{Bytes, Principal, Text};
 use ic_rounds::Slot;
-use ic_state::{Canister, CanisterPlace, Message, MessagePlace, Origin, World};
+use ic_state::{Canister, CanisterPlace, Message, Origin, World};
 use std::alloc::Global;
 
 fn with_one_more(alloc: Global, world: World) -> Option<World> {
@@ -62,7 +63,7 @@ fn slot_of(alloc: Global, key: Principal, canister: Canister, message: Message) 
     ensures { IfSome result (λ s. s ≡ record { key = key; canister = canister; message = message }) }
 {
     let canister = CanisterPlace::new(alloc, canister).ok()?;
-    let message = MessagePlace::new(alloc, message).ok()?;
+    let message = Held::new(alloc, message).ok()?;
     Some(Slot {
         key,
         canister,

@@ -5,7 +5,7 @@ use Rattle.ic_behaviour.specs.declared.call.Message.{Message}
 use Rattle.ic_behaviour.specs.State.{at, callee_of}
 use Rattle.ic_behaviour.specs.Steps.{sender_of, same_way}
 use Rattle.ic_behaviour.proofs.Weights.{at-is}
-use Rattle.ic_queues.specs.Holding.{way_tag}
+use Rattle.ic_held.specs.Holding.{way_tag}
 
 abbrev tag : Message → ℕ
 tag m = way_tag (sender_of m) (callee_of m)

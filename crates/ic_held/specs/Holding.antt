@@ -1,16 +1,22 @@
 -- How a message waits. No standard has this.
-use Rattle.std.specs.Prelude.{ℕ, ◌+◌, ◌%◌, ◌^◌, List}
+use Rattle.std.specs.Prelude.{ℕ, ◌≡◌, ◌+◌, ◌%◌, ◌^◌, List}
 use Rattle.std.specs.List.{fold}
-use Rattle.ic_behaviour.specs.declared.call.Origin.TheVariants.{Ingress}
+use Rattle.ic_behaviour.specs.declared.call.Origin.TheVariants.{Ingress, Canister}
 use Rattle.ic_behaviour.specs.declared.call.Message.{Message}
-use Rattle.ic_behaviour.specs.declared.call.Message.TheVariants.{Call}
-use Rattle.ic_queues.specs.declared.held.UserCall.{UserCall}
-use Rattle.ic_queues.specs.declared.held.Kind.{Kind}
-use Rattle.ic_queues.specs.declared.held.Kind.TheVariants.{User, Other}
+use Rattle.ic_behaviour.specs.declared.call.Message.TheVariants.{Call, Answer}
+use Rattle.ic_held.specs.declared.held.UserCall.{UserCall}
+use Rattle.ic_held.specs.declared.held.Kind.{Kind}
+use Rattle.ic_held.specs.declared.held.Kind.TheVariants.{User, Other}
 
 -- a user's call carries no cycles
 abbrev pub user_message : UserCall → Message
 user_message call = Call (Ingress call.number) call.sender call.callee call.method call.arg 0
+
+-- a call of a user with that number of its request
+abbrev pub IsUserCall : Message → (number : ℕ) → Type 0
+IsUserCall (Call (Ingress k) sender callee method arg cycles) number = (k ≡ number) × (cycles ≡ 0)
+IsUserCall (Call (Canister caller n context callback) sender callee method arg cycles) number = ⊥
+IsUserCall (Answer from sender response refund) number = ⊥
 
 abbrev pub message_of : Kind → Message
 message_of (User tag call) = user_message call.value

@@ -1,9 +1,8 @@
-ghost use Rattle.std.specs.Prelude.{◌≡◌, IfOk, IfErr, IfSome};
+ghost use Rattle.std.specs.Prelude.{◌≡◌, IfOk, IfSome};
 ghost use Rattle.std.specs.List.{fold};
-ghost use Rattle.ic_behaviour.specs.declared.call.Origin.TheVariants.{Ingress};
 ghost use Rattle.ic_behaviour.specs.State.{callee_of};
 ghost use Rattle.ic_behaviour.specs.Steps.{sender_of, same_way};
-ghost use Rattle.ic_queues.specs.Holding.{user_message, add_byte, way_tag};
+ghost use Rattle.ic_held.specs.Holding.{user_message, IsUserCall, add_byte, way_tag};
 
 use ic_base::NoMemory;
 use ic_calls::{callee, sender};
@@ -46,7 +45,7 @@ impl Model for Held {
     ghost use Rattle.ic_behaviour.specs.declared.call.Message.{Message};
     ghost use Rattle.ic_behaviour.specs.State.{callee_of};
     ghost use Rattle.ic_behaviour.specs.Steps.{sender_of};
-    ghost use Rattle.ic_queues.specs.Holding.{message_of, tag_of, way_tag};
+    ghost use Rattle.ic_held.specs.Holding.{message_of, tag_of, way_tag};
 
     ghost Value = { Message };
 
@@ -56,56 +55,39 @@ impl Model for Held {
 }
 
 // The number of the request, where a call comes from a user and carries no cycles.
-fn user_number(origin: &Origin, cycles: u128) -> Option<u32>
-    ensures { IfSome result (λ number. (origin.now ≡ Ingress number) × (cycles ≡ 0)) }
-{
-    match origin {
-        Origin::Ingress(number) => { if cycles == 0 { Some(*number) } else { None } }
-        Origin::Canister { .. } => None,
-    }
-}
-
-// A user's call that carries no cycles, or else the message itself.
-fn user_call(message: Message) -> Result<UserCall, Message>
-    ensures call { IfOk result (λ call. user_message call ≡ message) }
-    ensures other { IfErr result (λ m. m ≡ message) }
+fn user_number(message: &Message) -> Option<u32>
+    ensures { IfSome result (IsUserCall message.now) }
 {
     match message {
         Message::Call {
-            origin,
+            origin: Origin::Ingress(number),
+            cycles,
+            ..
+        } => if *cycles == 0 { Some(*number) } else { None },
+        _ => None,
+    }
+}
+
+// A user's call, by its parts.
+fn user_call(message: Message, number: u32) -> UserCall
+    requires { IsUserCall message number }
+    ensures { user_message result ≡ message }
+{
+    match message {
+        Message::Call {
             sender,
             callee,
             method,
             arg,
-            cycles,
-        } => match user_number(&origin, cycles) {
-            Some(number) => Ok(UserCall {
-                number,
-                sender,
-                callee,
-                method,
-                arg,
-            }),
-            None => Err(Message::Call {
-                origin,
-                sender,
-                callee,
-                method,
-                arg,
-                cycles,
-            }),
+            ..
+        } => UserCall {
+            number,
+            sender,
+            callee,
+            method,
+            arg,
         },
-        Message::Answer {
-            origin,
-            sender,
-            response,
-            refund,
-        } => Err(Message::Answer {
-            origin,
-            sender,
-            response,
-            refund,
-        }),
+        Message::Answer { .. } => unreachable!(),
     }
 }
 
@@ -136,9 +118,9 @@ impl Held {
     pub fn new(alloc: Global, message: Message) -> Result<Held, NoMemory>
         ensures { IfOk result (λ h. h ≡ message) }
     {
-        match user_call(message) {
-            Ok(call) => Held::of_user(alloc, call),
-            Err(message) => held_other(alloc, message),
+        match user_number(&message) {
+            Some(number) => Held::of_user(alloc, user_call(message, number)),
+            None => held_other(alloc, message),
         }
     }
 
