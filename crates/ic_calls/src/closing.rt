@@ -119,29 +119,46 @@ fn release_all(
     release(alloc, waiters.items.as_slice(), answers)
 }
 
-// What the canister answers as contexts close.
+// What the canister answers as contexts close, after other answers.
 fn closing(
     alloc: Global,
     canister: &Canister,
     own: Option<&CallId>,
     trap: Option<&Trap>,
-) -> Result<AnsweredList, NoMemory>
-    ensures { IfOk result (λ answers. answers ≡ closing (trapped_in (option_copied own.entry) (option_copied trap.entry)) (seen canister.now)) }
+    answers: &mut AnsweredList,
+) -> Result<(), NoMemory>
+    ensures { OnOk result (answers.new ≡ answers.old ++ closing (trapped_in (option_copied own.entry) (option_copied trap.entry)) (seen canister.now)) }
 {
-    let mut answers = AnsweredList {
-        items: Vec::new(alloc),
-    };
     let contexts = &canister.contexts;
-    reject_starved(alloc, contexts.items.as_slice(), own, trap, &mut answers)?;
-    release_all(alloc, &canister.phase, contexts, &mut answers)?;
-    Ok(answers)
+    reject_starved(alloc, contexts.items.as_slice(), own, trap, answers)?;
+    release_all(alloc, &canister.phase, contexts, answers)
 }
 
 /// Closes the call contexts that await no call (IC Interface Specification, "Call context
 /// starvation" and "Call context removal"): each that must respond is rejected, in the order in
 /// which they were made, and all are removed. A stopping canister without contexts is stopped, and
 /// those who wait for it are answered. `own` and `trap` are the message's own context with its trap,
-/// where it trapped. All answers are made before the canister changes.
+/// where it trapped. All answers are made before the canister changes. They come after others that are lent, so that none is moved.
+pub fn close_after(
+    alloc: Global,
+    canister: &mut Canister,
+    own: Option<&CallId>,
+    trap: Option<&Trap>,
+    answers: &mut AnsweredList,
+) -> Result<(), NoMemory>
+    requires keeps { IsCanister canister.old }
+    ensures answers { OnOk result (answers.new ≡ answers.old ++ closing (trapped_in (option_copied own.entry) (option_copied trap.entry)) (seen canister.old)) }
+    ensures closed { OnOk result (seen canister.new ≡ closed (seen canister.old)) }
+    ensures same { OnErr result (canister.new ≡ canister.old) }
+    ensures keeps { IsCanister canister.new }
+{
+    closing(alloc, canister, own, trap, answers)?;
+    remove_closed(&mut canister.contexts);
+    stop_if_due(&mut canister.phase, &canister.contexts);
+    Ok(())
+}
+
+/// As `close_after`, where there are no other answers.
 pub fn close(
     alloc: Global,
     canister: &mut Canister,
@@ -154,9 +171,10 @@ pub fn close(
     ensures same { OnErr result (canister.new ≡ canister.old) }
     ensures keeps { IsCanister canister.new }
 {
-    let answers = closing(alloc, canister, own, trap)?;
-    remove_closed(&mut canister.contexts);
-    stop_if_due(&mut canister.phase, &canister.contexts);
+    let mut answers = AnsweredList {
+        items: Vec::new(alloc),
+    };
+    close_after(alloc, canister, own, trap, &mut answers)?;
     Ok(answers)
 }
 

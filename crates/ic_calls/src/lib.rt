@@ -20,7 +20,7 @@ mod uninstalling;
 mod ways;
 
 pub use admission::admit;
-pub use closing::close;
+pub use closing::{close, close_after};
 pub use contexts::{call_id, context_at};
 pub use phases::{await_stop, restart};
 pub use receiving::{add_context, take_call, take_refund, take_response};

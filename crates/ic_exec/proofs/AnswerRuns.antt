@@ -80,8 +80,8 @@ module _ (a : Canister) (x : Context) (env : Env) (callback : Callback) (respons
   its : (code : Code) → option_map code_of a.code ≡ Some code → code_of stored ≡ code
   its code has_code = cc
 
-  pub returns_done : {E : Type 0} (d : Canister) (e : Effects) (r : Result StoredWork E) → t.ended ≡ Ok e → IfOk r (λ w. work_of d w ≡ returned (seen (record a { store = s })) x.id x s.lists e t.used)
-      → IfOk r (λ w. (code : Code) → option_map code_of a.code ≡ Some code → work_of d w ≡ answered_with (enters_by system_api) env (seen a) x.id callback response x seen_view code)
+  pub returns_done : {E : Type 0} (d : Canister) (e : Effects) (r : Result StoredWork E) → t.ended ≡ Ok e → IfOk r (λ w. work_of x.id d w ≡ returned (seen (record a { store = s })) x.id x s.lists e t.used)
+      → IfOk r (λ w. (code : Code) → option_map code_of a.code ≡ Some code → work_of x.id d w ≡ answered_with (enters_by system_api) env (seen a) x.id callback response x seen_view code)
   returns_done d e (Err f) ok done = tt
   returns_done d e (Ok w) ok done = λ code has_code.
       done ∙ returned_back (enters_by system_api) env (seen a) x.id x (code_of stored) callback.cleanup outcome t e s.lists (is ∙ ap told same) ok (kept ∙ ap (store_after true a.store.lists) same)
@@ -89,11 +89,11 @@ module _ (a : Canister) (x : Context) (env : Env) (callback : Callback) (respons
 
   pub traps_done : (d : Canister) (h : Held) (w : StoredWork) (cause : Trap) (more : ℕ) → t.ended ≡ Err cause → d ≡ record a { store = h }
       → ((code : Code) → option_map code_of a.code ≡ Some code → (h.lists, more) ≡ after_cleanup (enters_by system_api) env (seen (record a { store = s })) x code callback.cleanup)
-      → w ≡ record { calls = []; answers = []; used = t.used + more; trapped = Some (x.id, cause) }
-      → (code : Code) → option_map code_of a.code ≡ Some code → work_of d w ≡ answered_with (enters_by system_api) env (seen a) x.id callback response x seen_view code
+      → w ≡ record { calls = []; answers = []; used = t.used + more; trapped = Some cause }
+      → (code : Code) → option_map code_of a.code ≡ Some code → work_of x.id d w ≡ answered_with (enters_by system_api) env (seen a) x.id callback response x seen_view code
   traps_done d h w cause more err rest after silent code has_code =
       let before : s.lists ≡ a.store.lists = kept ∙ stays a.store.lists (enters_by system_api (code_of stored) a.store.lists target entry v env.limit) t cause is err in
-      ap₂ work_of rest silent
+      ap₂ (work_of x.id) rest silent
       ∙ trapped_back (enters_by system_api) env (seen a) x.id x (code_of stored) callback.cleanup outcome t cause more h.lists (is ∙ ap told same) err
       (after (code_of stored) (ap (option_map code_of) has) ∙ ap (λ l. after_cleanup (enters_by system_api) env (record (seen a) { store = l }) x (code_of stored) callback.cleanup) before)
       ∙ ap (λ f. answered_with (enters_by system_api) env (seen a) x.id callback response x seen_view f) (its code has_code)

@@ -59,7 +59,7 @@ module _ (c : Canister) (place : ℕ) (x : Context) (e : Effects) (is : IsCanist
         put ∙ ap (slice_set c.contexts place) is_served ∙ set-split s (served e x) ∙ sym (change-split s (served e))
 
     pub applied_is : (calls' : List Message) (answers' : List Answered) (used : ℕ) → calls' ≡ numbered c.id y.id c.next_call e.calls → answers' ≡ given_answer y.origin e.answer
-        → work_of (record c { balance = e.balance; certified = e.certified; contexts = contexts'; next_call = c.next_call + n; outstanding = c.outstanding + n }) (record { calls = calls'; answers = answers'; used = used; trapped = None })
+        → work_of x.id (record c { balance = e.balance; certified = e.certified; contexts = contexts'; next_call = c.next_call + n; outstanding = c.outstanding + n }) (record { calls = calls'; answers = answers'; used = used; trapped = None })
         ≡ returned (seen c) x.id x c.store.lists e used
     applied_is calls' answers' used calls_are answers_are =
         let cs : calls' ≡ numbered c.id x.id c.next_call e.calls = calls_are ∙ ap (λ (z : Context). numbered c.id z.id c.next_call e.calls) is_served in

@@ -47,12 +47,12 @@ pub query_done : {E : Type 0} (a d : Canister) (x : Context) (env : Env) (method
     (r : Result StoredWork E)
     → p ≡ parts_of entry → p.2 ≡ false → v0 ≡ view env (seen a) x → v ≡ call_view v0 method arg → s ≡ a.store → a.code ≡ Some stored
     → t ≡ told (enters_by system_api (code_of stored) a.store.lists (Function p.0) p.1 v env.limit) → t.ended ≡ Ok e → alone ≡ answer_alone (seen (record a { store = s })) x e
-    → IfOk r (λ w. work_of d w ≡ returned (seen (record a { store = s })) x.id x s.lists alone t.used)
-    → IfOk r (λ w. (code : Code) → option_map code_of a.code ≡ Some code → work_of d w ≡ called (enters_by system_api) env (seen a) x.id x method arg code entry)
+    → IfOk r (λ w. work_of x.id d w ≡ returned (seen (record a { store = s })) x.id x s.lists alone t.used)
+    → IfOk r (λ w. (code : Code) → option_map code_of a.code ≡ Some code → work_of x.id d w ≡ called (enters_by system_api) env (seen a) x.id x method arg code entry)
 query_done a d x env method arg entry p v0 v s t e alone stored (Err f) parts undone view_is call_is same has is ok alone_is done = tt
 query_done a d x env method arg entry p v0 v s t e alone stored (Ok w) parts undone view_is call_is same has is ok alone_is done = λ code has_code.
     let its : code_of stored ≡ code = cc in
-    query_called (enters_by system_api) env (seen a) x.id x method arg code entry p v t e alone (work_of d w) parts undone
+    query_called (enters_by system_api) env (seen a) x.id x method arg code entry p v t e alone (work_of x.id d w) parts undone
     (call_is ∙ ap (λ u. call_view u method arg) view_is)
     (is ∙ ap (λ f. told (enters_by system_api f a.store.lists (Function p.0) p.1 v env.limit)) its) ok
     (alone_is ∙ ap (λ (h : Held). answer_alone (seen (record a { store = h })) x e) same)

@@ -1,6 +1,8 @@
 -- A message that was executed, as what it did. No standard has this.
-use Rattle.std.specs.Prelude.{ℕ, Bool, ◌+◌, ◌<◌, ◌≤◌, ◌^◌, ◌≡◌, true, false, length}
+use Rattle.std.specs.Prelude.{ℕ, Bool, ◌+◌, ◌<◌, ◌≤◌, ◌^◌, ◌≡◌, true, false, length, option_map}
+use Rattle.wm_semantics.specs.declared.trap.Trap.{Trap}
 use Rattle.ic_behaviour.specs.declared.call.Message.{Message}
+use Rattle.ic_behaviour.specs.declared.call.CallId.{CallId}
 use Rattle.ic_behaviour.specs.declared.call.Answered.{Answered}
 use Rattle.ic_behaviour.specs.declared.context.Context.{Context}
 use Rattle.ic_behaviour.specs.declared.env.Admitted.{Admitted}
@@ -23,9 +25,9 @@ use Rattle.ic_exec.specs.declared.work.Done.{Done}
 abbrev pub handled_of : Executed → Handled
 handled_of e = record { canister = seen e.canister; calls = e.calls; answers = e.answers; used = e.used; burned = e.burned; trapped = e.trapped }
 
--- what was done, with the canister as it is then
-abbrev pub work_of : Canister → StoredWork → Work
-work_of c w = record { canister = seen c; calls = w.calls; answers = w.answers; used = w.used; trapped = w.trapped }
+-- what was done in a context, with the canister as it is then
+abbrev pub work_of : (own : CallId) → Canister → StoredWork → Work
+work_of own c w = record { canister = seen c; calls = w.calls; answers = w.answers; used = w.used; trapped = option_map (λ (cause : Trap). (own, cause)) w.trapped }
 
 abbrev pub done_of : Canister → Done → Handled
 done_of c d = record { canister = seen c; calls = d.calls; answers = d.answers; used = d.used; burned = d.burned; trapped = d.trapped }

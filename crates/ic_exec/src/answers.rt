@@ -107,7 +107,7 @@ pub fn run_callback(
     requires there { slice_get canister.old.contexts place ≡ Some context.now }
     requires code { IsSome canister.old.code }
     ensures work { IfOk result (λ w. (code : SomeCode) → (seen canister.old).code ≡ Some code
-        → work_of canister.new w ≡ answered_with (enters_by system_api) env (seen canister.old) context.now.id answer.callback answer.response context.now
+        → work_of context.now.id canister.new w ≡ answered_with (enters_by system_api) env (seen canister.old) context.now.id answer.callback answer.response context.now
         (answer_view (view env (seen canister.old) context.now) answer.response answer.refund) code) }
     ensures keeps { IsCanister canister.new }
     ensures used { IfOk result (λ w. w.used ≤ 2 * env.limit) }
@@ -142,7 +142,7 @@ pub fn run_callback(
         Ok(effects) => returned(alloc, canister, place, context, effects, used),
         Err(cause) => {
             let more = clean_up(alloc, canister, context, callback.cleanup, env)?;
-            Ok(silent(alloc, used + more, Some((context.id, cause))))
+            Ok(silent(alloc, used + more, Some(cause)))
         }
     }
 }

@@ -50,7 +50,7 @@ pub fn run_call(
     requires there { slice_get canister.old.contexts place ≡ Some context.now }
     requires entry { CanEnter canister.old.code method.entry }
     ensures work { IfOk result (λ w. (code : SomeCode) → (seen canister.old).code ≡ Some code
-        → work_of canister.new w ≡ called (enters_by system_api) env (seen canister.old) context.now.id context.now method.name method.arg code method.entry) }
+        → work_of context.now.id canister.new w ≡ called (enters_by system_api) env (seen canister.old) context.now.id context.now method.name method.arg code method.entry) }
     ensures keeps { IsCanister canister.new }
     ensures used { IfOk result (λ w. w.used ≤ env.limit) }
 {
@@ -83,6 +83,6 @@ pub fn run_call(
                 returned(alloc, canister, place, context, effects, used)
             }
         }
-        Err(cause) => Ok(silent(alloc, used, Some((context.id, cause)))),
+        Err(cause) => Ok(silent(alloc, used, Some(cause))),
     }
 }

@@ -191,7 +191,7 @@ pub fn returned(
     requires place { position (is_own context.now.id) canister.old.contexts ≡ Some place }
     requires there { slice_get canister.old.contexts place ≡ Some context.now }
     requires room { HasRoomFor (seen canister.old) context.now effects }
-    ensures work { IfOk result (λ w. work_of canister.new w ≡ returned (seen canister.old) context.now.id context.now canister.old.store.lists effects used) }
+    ensures work { IfOk result (λ w. work_of context.now.id canister.new w ≡ returned (seen canister.old) context.now.id context.now canister.old.store.lists effects used) }
     ensures keeps { IsCanister canister.new }
     ensures used { IfOk result (λ w. w.used ≡ used) }
 {

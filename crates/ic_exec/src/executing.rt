@@ -1,9 +1,9 @@
-ghost use Rattle.std.specs.Prelude.{◌≡◌, ◌+◌, ◌-◌, ◌*◌, ◌<◌, ◌≤◌, ◌^◌, ◌++◌, not, ◌&&◌, true, is_some, min, find, Some, None, IfOk};
+ghost use Rattle.std.specs.Prelude.{◌≡◌, ◌+◌, ◌-◌, ◌*◌, ◌<◌, ◌≤◌, ◌^◌, not, ◌&&◌, true, is_some, min, find, Some, None, IfOk};
 ghost use Rattle.std.specs.Option.{IsSomeAnd};
 ghost use Rattle.ic_behaviour.specs.State.{Code as SomeCode, id_of};
 ghost use Rattle.ic_behaviour.specs.Entry.{enters_by};
 ghost use Rattle.ic_behaviour.specs.Executing.{is_own};
-ghost use Rattle.ic_behaviour.specs.Closing.{closed, closing, finished};
+ghost use Rattle.ic_behaviour.specs.Closing.{finished};
 ghost use Rattle.ic_behaviour.specs.Local.{admitted, refused, context_of, with_answer, begin_call, local_call, begin_answer, local};
 ghost use Rattle.ic_state.specs.declared.canister.Canister.{Canister as StoredCanister};
 ghost use Rattle.ic_state.specs.Seen.{seen};
@@ -20,7 +20,7 @@ use crate::work::{Done, Work, silent};
 use ic_api::entries_are_lawful;
 use ic_base::NoMemory;
 use ic_calls::{
-    add_context, admit, call_id, close, context_at, out_of_cycles, refused as refusal_of,
+    add_context, admit, call_id, close_after, context_at, out_of_cycles, refused as refusal_of,
     take_refund,
 };
 use ic_principal::Principal;
@@ -29,7 +29,6 @@ use ic_state::{
     MOST_INSTRUCTIONS, Message, Messages, Origin, Response,
 };
 use std::alloc::Global;
-use wm_semantics::Trap;
 
 // A call that is refused: all its cycles go back.
 fn refuse(alloc: Global, origin: Origin, cycles: u128, response: Response) -> Result<Done, NoMemory>
@@ -52,60 +51,34 @@ fn refuse(alloc: Global, origin: Origin, cycles: u128, response: Response) -> Re
     })
 }
 
-// Both lists, one after the other. A message that returns without an answer gets one as its context closes: then
-// the first is empty, and the second is moved as it is.
+// What was used is paid, and contexts without calls close. The context of the message, `own`, is told its trap.
 #[inline(always)]
-fn joined(front: AnsweredList, back: AnsweredList) -> Result<AnsweredList, NoMemory>
-    ensures { IfOk result (λ l. l ≡ front ++ back) }
-{
-    if front.items.is_empty() {
-        front.items.destroy_empty();
-        return Ok(back);
-    }
-    let mut front = front;
-    front.append(back)?;
-    Ok(front)
-}
-
-// Contexts without calls close; the message's own context is told its trap.
-fn close_after(
+fn finish(
     alloc: Global,
     canister: &mut Canister,
-    trapped: &Option<(CallId, Trap)>,
-) -> Result<AnsweredList, NoMemory>
+    own: &CallId,
+    work: Work,
+    price: u64,
+) -> Result<Done, NoMemory>
     requires keeps { IsCanister canister.old }
-    ensures answers { IfOk result (λ answers. answers ≡ closing trapped.now (seen canister.old)) }
-    ensures closed { IfOk result (λ _. seen canister.new ≡ closed (seen canister.old)) }
-    ensures keeps { IsCanister canister.new }
-{
-    match trapped {
-        Some((own, cause)) => close(alloc, canister, Some(own), Some(cause)),
-        None => close(alloc, canister, None, None),
-    }
-}
-
-// What was used is paid, and contexts without calls close.
-#[inline(always)]
-fn finish(alloc: Global, canister: &mut Canister, work: Work, price: u64) -> Result<Done, NoMemory>
-    requires keeps { IsCanister canister.old }
-    ensures done { IfOk result (λ d. done_of canister.new d ≡ finished price (work_of canister.old work)) }
+    ensures done { IfOk result (λ d. done_of canister.new d ≡ finished price (work_of own.now canister.old work)) }
     ensures keeps { IsCanister canister.new }
 {
     let Work {
         calls,
-        answers,
+        mut answers,
         used,
         trapped,
     } = work;
     let burned = canister.balance.min(price as u128 * used as u128);
     canister.balance -= burned;
-    let closing = close_after(alloc, canister, &trapped)?;
+    close_after(alloc, canister, Some(own), trapped.as_ref(), &mut answers)?;
     Ok(Done {
         calls,
-        answers: joined(answers, closing)?,
+        answers,
         used,
         burned,
-        trapped: trapped.map(|own| own.1),
+        trapped,
     })
 }
 
@@ -156,7 +129,7 @@ fn begin_call(
         arg,
     };
     let work = run_call(alloc, canister, place, &context, method, env)?;
-    finish(alloc, canister, work, env.price)
+    finish(alloc, canister, &context.id, work, env.price)
 }
 
 // A call that the canister takes, or refuses.
@@ -216,10 +189,10 @@ fn execute_answer(
     let context = context_at(&canister.contexts, place);
     if runs_callback(canister, &context) {
         let work = run_callback(alloc, canister, place, &context, answer, env)?;
-        finish(alloc, canister, work, price)
+        finish(alloc, canister, &context.id, work, price)
     } else {
         let work = silent(alloc, 0, None);
-        finish(alloc, canister, work, price)
+        finish(alloc, canister, &own, work, price)
     }
 }
 

@@ -1,6 +1,6 @@
 ghost use Rattle.std.specs.Prelude.{◌≡◌, [], None};
 
-use ic_state::{AnsweredList, CallId, Messages};
+use ic_state::{AnsweredList, Messages};
 use std::alloc::Global;
 use wm_semantics::Trap;
 
@@ -10,8 +10,8 @@ pub struct Work {
     pub calls: Messages,
     pub answers: AnsweredList,
     pub used: u64,
-    /// The message's own context with its trap, where it trapped.
-    pub trapped: Option<(CallId, Trap)>,
+    /// Why it trapped, if it did.
+    pub trapped: Option<Trap>,
 }
 
 /// What a message did beside its canister, at its end.
@@ -25,7 +25,7 @@ pub struct Done {
 }
 
 /// Nothing is sent, and this many instructions were used.
-pub fn silent(alloc: Global, used: u64, trapped: Option<(CallId, Trap)>) -> Work
+pub fn silent(alloc: Global, used: u64, trapped: Option<Trap>) -> Work
     ensures { result ≡ record { calls = []; answers = []; used = used; trapped = trapped } }
 {
     Work {

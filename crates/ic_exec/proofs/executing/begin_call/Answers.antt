@@ -25,7 +25,7 @@ returns-clause-done c =
     let a : Canister = c.args.canister.now in
     let d : Canister = c.add_context.new.canister in
     let k = c.args.call in
-    done_for c.finish.result c.finish.new.canister (finished c.args.env.price (work_of c.run_call.new.canister c.in_ok-work.work)) (λ code. option_map code_of a.code ≡ Some code)
+    done_for c.finish.result c.finish.new.canister (finished c.args.env.price (work_of c.context_of-context.result.id c.run_call.new.canister c.in_ok-work.work)) (λ code. option_map code_of a.code ≡ Some code)
     (λ code. begin_call (enters_by system_api) c.args.env (seen a) (context_of k.origin k.sender k.cycles) k.method k.arg (code, c.args.entry)) c.finish.ensures.done
     (λ code has. begun a d k.origin k.sender k.cycles c.in_ok-place.place c.requires.fresh c.in_ok-place.ensures.made c.in_ok-place.ensures.place c.context_of-context.result c.context_of-context.ensures
-    (enters_by system_api) c.args.env k.method k.arg c.args.entry (work_of c.run_call.new.canister c.in_ok-work.work) code (c.in_ok-work.ensures.work code (ap (λ (b : Canister). option_map code_of b.code) c.in_ok-place.ensures.made ∙ has)))
+    (enters_by system_api) c.args.env k.method k.arg c.args.entry (work_of c.context_of-context.result.id c.run_call.new.canister c.in_ok-work.work) code (c.in_ok-work.ensures.work code (ap (λ (b : Canister). option_map code_of b.code) c.in_ok-place.ensures.made ∙ has)))
