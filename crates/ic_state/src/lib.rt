@@ -16,5 +16,5 @@ pub use ic_behaviour::{
     EntryKind, Env, IncomingCall, MOST_INSTRUCTIONS, Message, Origin, OutCall, OutCalls, Phase,
     Refusal, Request, Response, View, Waiter, Waiters,
 };
-pub use lists::{AnsweredList, Contexts, MessagePlace, Messages, Requests};
+pub use lists::{AnsweredList, Contexts, Messages, Requests};
 pub use world::{Parts, Totals, World};

@@ -1,8 +1,7 @@
-ghost use Rattle.std.specs.Prelude.{◌≡◌, ◌==◌, ◌++◌, ◌∷◌, [], length, IfOk, OnOk};
+ghost use Rattle.std.specs.Prelude.{◌≡◌, ◌==◌, ◌++◌, ◌∷◌, [], length, OnOk};
 
 use ic_base::NoMemory;
 use ic_behaviour::{Answered, Context, Message, Request};
-use std::alloc::Global;
 use std::marker::Model;
 
 /// Call contexts, in the order in which they were made. Contracts see the list.
@@ -18,43 +17,6 @@ impl Model for Contexts {
     ghost Value = { List Context };
 
     ghost view = { λ l. l.items.items };
-}
-
-/// A message in a box, since it is large and moved more than once before it is handled. Contracts see the message.
-pub struct MessagePlace {
-    inner: Box<Message>,
-}
-
-impl Drop for MessagePlace {
-    fn drop(self) {
-        let MessagePlace { inner: _inner } = self;
-    }
-}
-
-impl Model for MessagePlace {
-    ghost use Rattle.ic_behaviour.specs.declared.call.Message.{Message};
-
-    ghost Value = { Message };
-
-    ghost view = { λ p. p.inner.value };
-}
-
-impl MessagePlace {
-    /// Moves the message to its place.
-    pub fn new(alloc: Global, message: Message) -> Result<MessagePlace, NoMemory>
-        ensures { IfOk result (λ p. p ≡ message) }
-    {
-        let inner = Box::new(alloc, message)?;
-        Ok(MessagePlace { inner })
-    }
-
-    /// Takes the message out of its place.
-    pub fn take(self) -> Message
-        ensures { result ≡ self }
-    {
-        let MessagePlace { inner } = self;
-        Box::into_inner(inner)
-    }
 }
 
 /// Messages, in the order in which they were sent. Contracts see the list.
