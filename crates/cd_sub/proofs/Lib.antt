@@ -7,5 +7,6 @@ mod PartFreeLemmas
 mod RuleLemmas
 mod KeepLemmas
 mod PlaceLemmas
+mod ArrangeLemmas
 mod SearchLemmas
 mod DecidedLemmas

@@ -23,9 +23,12 @@ pub all_append : (P : ℕ → Type 0) (xs ys : List ℕ) → AllByRecursion P xs
 all_append P [] ys all all' = all'
 all_append P (x ∷ xs) ys all all' = (all.0, all_append P xs ys all.1 all')
 
-all_left : (P : ℕ → Type 0) (xs ys : List ℕ) → AllByRecursion P (xs ++ ys) → AllByRecursion P xs
-all_left P [] ys all = tt
-all_left P (x ∷ xs) ys all = (all.0, all_left P xs ys all.1)
+pub each_there : (xs : List ℕ) → AllByRecursion (Contains xs) xs
+each_there [] = tt
+each_there (x ∷ xs) = (
+  Contains-append_left (x ∷ []) xs x (Contains-push [] x),
+  all_map _ _ (λ place there. Contains-append_right (x ∷ []) xs place there) xs (each_there xs),
+)
 
 holds_fails : {G : Type 0} → Holds ≡ Fails → G
 holds_fails e = cc
@@ -131,11 +134,12 @@ shown_holds first second marks place right shown zero = none_at_zero first secon
 shown_holds first second marks place right shown (suc n) =
     place_up n first second place shown.0 shown.1 (all_map _ _ (λ part held. right.holds part held n) shown.0 shown.2)
 
-pub searched_yes : (first second : List Entry) (marks : List Mark) (start met : List ℕ) → (more : List ℕ) × (met ≡ start ++ more) → IsRightBut met first second marks
+pub searched_yes : (first second : List Entry) (marks : List Mark) (start met : List ℕ) → AllByRecursion (Contains met) start → IsRightBut met first second marks
     → AllByRecursion (Shown first second marks) met → Searched true first second marks start
-searched_yes first second marks start met more right shown =
+searched_yes first second marks start met there right shown =
     let all = all_right first second marks met right shown in
-    (all, all_left (PlaceSub first second) start more.0 (subst (AllByRecursion (PlaceSub first second)) more.1 (all_map _ _ (λ place found. shown_holds first second marks place all found) met shown)))
+    let holds = all_map _ _ (λ place found. shown_holds first second marks place all found) met shown in
+    (all, all_map _ _ (λ place met_first. all_in (PlaceSub first second) met place holds met_first) start there)
 
 -- the parts of a pair that holds, as the code found them
 parts_hold : (first second : List Entry) (place : ℕ) (parts : List ℕ) (fits : Bool) → place < 2 * (length first * length second) → verdict fits parts ≡ parts_at first second place
@@ -197,16 +201,16 @@ pub record Step (first second : List Entry) (new : List Mark) (start after : Lis
   pub reached : next + 1 ≤ length after
   pub shown : AllByRecursion (Shown first second new) (take (next + 1) after)
   pub needed : AllByRecursion (PlaceSub first second) start → AllByRecursion (PlaceSub first second) after
-  pub more : (more : List ℕ) × (after ≡ start ++ more)
+  pub there : AllByRecursion (Contains after) start
   pub smaller : count_by is_unknown new + (length after - (next + 1)) < count_by is_unknown old + (length before - next)
 
 pub search_step : (first second : List Entry) (old new : List Mark) (start before after : List ℕ) (next place : ℕ) → next < length before → place ≡ get_or before next 0 → place < 2 * (length first * length second)
     → (answer : Bool) → answer ≡ true → Tried answer first second old new before after place
     → AllByRecursion (Shown first second old) (take next before)
     → (AllByRecursion (PlaceSub first second) start → AllByRecursion (PlaceSub first second) before)
-    → (more : List ℕ) × (before ≡ start ++ more)
+    → AllByRecursion (Contains before) start
     → Step first second new start after next old before
-search_step first second old new start before after next place inside is within answer it_is tried' shown needed more =
+search_step first second old new start before after next place inside is within answer it_is tried' shown needed there =
     let tried = subst (λ b. Tried b first second old new before after place) it_is tried' in
     let parts = tried.0 in
     let notes = tried.2 in
@@ -216,7 +220,7 @@ search_step first second old new start before after next place inside is within 
       shown = shown_more first second old new before after parts next inside notes (subst (λ q. verdict true parts ≡ parts_at first second q) is (sym tried.1)) tried.3 shown;
       needed = λ all.
           needed_noted first second old new before after parts place true notes within (sym tried.1) (subst (Contains before) (sym is) (Contains-get_or before next 0 inside)) (needed all);
-      more = (more.0 ++ notes.added.0, notes.added.1 ∙ ap (λ xs. xs ++ notes.added.0) more.1 ∙ append_assoc start more.0 notes.added.0);
+      there = all_map _ _ (λ place met_first. subst (λ xs. Contains xs place) (sym notes.added.1) (Contains-append_left before notes.added.0 place met_first)) start there;
       smaller = omega (arith, notes.fewer);
     }
 

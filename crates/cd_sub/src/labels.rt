@@ -11,6 +11,7 @@ use std::cmp::Ordering;
 
 /// The type under an id among the fields from a place on, and a place from which each greater id
 /// is found as it is from here.
+#[inline(always)]
 pub(crate) fn type_of_field(fields: &[(u32, TyRef)], from: usize, id: u32) -> (usize, Option<TyRef>)
     requires inside { from ≤ length fields.now }
     requires rising { Rising nat_cmp fields.now }
@@ -21,11 +22,13 @@ pub(crate) fn type_of_field(fields: &[(u32, TyRef)], from: usize, id: u32) -> (u
     let mut at = from;
     while at < fields.len() {
         let (label, ty) = fields[at];
-        match label.cmp(&id) {
-            Ordering::Less => at += 1,
-            Ordering::Equal => return (at + 1, Some(ty)),
-            Ordering::Greater => return (at, None),
+        if label == id {
+            return (at + 1, Some(ty));
         }
+        if label > id {
+            return (at, None);
+        }
+        at += 1;
     }
     (at, None)
 }

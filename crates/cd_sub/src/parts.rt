@@ -46,6 +46,7 @@ impl<'a> Side<'a> {
     }
 
     /// The place of a pair of entries among the marks.
+    #[inline(always)]
     pub(crate) fn place(&self, lower: u32, upper: u32) -> u32
         requires lower { lower < length self.now.lower.now }
         requires upper { upper < length self.now.upper.now }
@@ -58,6 +59,7 @@ impl<'a> Side<'a> {
     }
 
     /// Notes a pair of entries as a part to be shown, and decides every other pair at once.
+    #[inline(always)]
     fn part(&self, a: TyRef, b: TyRef, found: &mut Vec<u32>) -> Result<bool, NoMemory>
         ensures { let parts = part_at self.now.lower.now self.now.upper.now self.now.turned a b in
             IfOk result (λ fits. verdict fits found.new.items ≡ parts found.old.items) }
@@ -73,6 +75,7 @@ impl<'a> Side<'a> {
 
     /// Decides the type under a label and the type under the same label on the other side, if there
     /// is one, or notes them as a part.
+    #[inline(always)]
     fn labelled(
         &self,
         label: Labelled,

@@ -1,5 +1,6 @@
-ghost use Rattle.std.specs.Prelude.{◌≡◌, ◌↔◌, ℕ, ◌<◌, ◌*◌, IfOk, OnOk, IsTrue, length};
+ghost use Rattle.std.specs.Prelude.{◌≡◌, ◌↔◌, ℕ, ◌<◌, ◌≤◌, ◌*◌, take, IfOk, OnOk, IsTrue, length};
 ghost use Rattle.std.specs.List.{AllByRecursion, list_any};
+ghost use Rattle.std.specs.List.Sorted.{IsPermutation};
 ghost use Rattle.cd_sub.specs.declared.search.Mark.TheVariants.{Fails};
 ghost use Rattle.cd_sub.specs.Parts.{verdict};
 ghost use Rattle.cd_sub.specs.Pairs.{parts_at, PlaceSub};
@@ -89,6 +90,21 @@ fn show(
     note(marks, parts, met)
 }
 
+/// Once all pairs that were in order are shown, puts those met since in the order of their places,
+/// and answers where they end. So pairs with the same lower type follow one another, and the marks
+/// of what they rest on are near each other in memory.
+fn arrange(met: &mut Vec<u32>, next: usize, arranged: usize) -> usize
+    requires { next ≤ length met.old.items }
+    ensures shown { take next met.new.items ≡ take next met.old.items }
+    ensures same { IsPermutation met.old.items met.new.items }
+{
+    if next < arranged {
+        return arranged;
+    }
+    met[next..].sort_unstable();
+    met.len()
+}
+
 /// Shows the pairs met, and in turn those that they rest on, until one fails.
 fn search(
     alloc: Global,
@@ -106,7 +122,9 @@ fn search(
 {
     let mut parts = Vec::new(alloc);
     let mut next = 0;
+    let mut arranged = 0;
     while next < met.len() {
+        arranged = arrange(met, next, arranged);
         if !show(first, second, met[next], marks, met, &mut parts)? {
             return Ok(false);
         }

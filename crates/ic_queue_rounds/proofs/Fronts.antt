@@ -27,7 +27,7 @@ use Rattle.ic_queue_rounds.specs.InQueues.{with_messages, IsInQueues}
 use Rattle.ic_queue_rounds.specs.Drawing.{Drawing, none_drawn, draw}
 use Rattle.ic_queue_rounds.proofs.Draws.{same_firsts, same_left, same_canisters}
 
--- ---- messages that stand before all others stay there
+-- ---- messages that come before all others stay there
 
 settle_behind : (env : Env) (front : List Message) (w : Stored) (slots : List Slot)
     → fold (after_slot_in_place env) (record w { messages = front ++ w.messages }) slots ≡ record (fold (after_slot_in_place env) w slots) { messages = front ++ (fold (after_slot_in_place env) w slots).messages }

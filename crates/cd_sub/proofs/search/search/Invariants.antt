@@ -1,5 +1,5 @@
-use Rattle.std.proofs.Common.{◌≡◌, ◌++◌, ◌+◌, ◌-◌, ◌<◌, ◌≤◌, ℕ, List, length, take}
-use Rattle.std.specs.List.{AllByRecursion, count_by}
+use Rattle.std.proofs.Common.{◌+◌, ◌-◌, ◌<◌, ◌≤◌, length, take}
+use Rattle.std.specs.List.{AllByRecursion, Contains, count_by}
 use Rattle.cd_sub.specs.Pairs.{PlaceSub}
 use Rattle.cd_sub.specs.Marks.{IsRightBut, is_unknown}
 use Rattle.cd_sub.proofs.SearchLemmas.{Shown}
@@ -14,7 +14,7 @@ invariant-loop-next l =
       right : IsRightBut l.met.items l.first l.second l.marks;
       shown : AllByRecursion (Shown l.first l.second l.marks) (take l.next l.met.items);
       needed : AllByRecursion (PlaceSub l.first l.second) l.initial.met.items → AllByRecursion (PlaceSub l.first l.second) l.met.items;
-      more : (more : List ℕ) × (l.met.items ≡ l.initial.met.items ++ more);
+      there : AllByRecursion (Contains l.met.items) l.initial.met.items;
     }
 
 -- the pairs that are not met, and those that are not tried
