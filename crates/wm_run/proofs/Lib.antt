@@ -1,18 +1,4 @@
-pub mod Lies
 mod Piles
-mod Frames
-mod Paying
-mod Advance
-mod Words
-mod OpsAt
-mod Topmost
-mod RowArms
-mod ControlArms
-mod BlockArms
-mod EndArms
-mod BranchArms
-mod GlobalArms
-mod Turning
 mod Stops
 mod Follow
 mod Entering
@@ -23,7 +9,6 @@ mod Growing
 mod Ranging
 mod Hosting
 mod Looking
-mod Loop
 mod Going
 mod ByTable
 mod Firsts

@@ -1,9 +1,4 @@
-pub mod Words
-pub mod Turns
-pub mod Ranges
-pub mod Stacks
-pub mod Agree
-pub mod Leading
+pub mod Executes
 pub mod Activations
 pub mod Asking
 pub mod Halts

@@ -1,5 +1,5 @@
-use crate::registers::{Exit, Layout};
 use wm_semantics::Ended;
+use wm_words::{Exit, Layout};
 
 /// A function that runs, or waits for the one that it called.
 #[derive(Clone, Copy, Debug, PartialEq, Eq)]
@@ -9,7 +9,7 @@ pub(crate) struct Activation {
     pub(crate) layout: Layout,
     /// The word of its body that is next.
     pub(crate) place: usize,
-    /// The place on the stack behind its topmost operand.
+    /// The place on the stack after its topmost operand.
     pub(crate) top: usize,
 }
 

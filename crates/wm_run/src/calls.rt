@@ -4,7 +4,7 @@ ghost use Rattle.wm_typing.specs.FlatCode.{FlatCode as Flat};
 ghost use Rattle.wm_store.specs.Lists.{Lists};
 ghost use Rattle.wm_semantics.specs.Configs.{Config};
 ghost use Rattle.wm_semantics.specs.Reduce.{trap_of};
-ghost use Rattle.wm_run.specs.Agree.{none_answers, alone_at};
+ghost use Rattle.wm_words.specs.Agree.{none_answers, alone_at};
 ghost use Rattle.wm_run.specs.Activations.{CanEnter, Entered, IsRoom, Stopped, Follows, Pays, trapped_by};
 ghost use Rattle.wm_run.specs.UnderWay.{UnderWay, StillUnderWay};
 

@@ -4,7 +4,7 @@ ghost use Rattle.wm_store.specs.Lists.{page_limit, grown};
 ghost use Rattle.wm_valid.specs.IsValid.{Validated};
 ghost use Rattle.wm_semantics.specs.Configs.{Config};
 ghost use Rattle.wm_run.specs.declared.activation.Activation.{Activation as Active};
-ghost use Rattle.wm_run.specs.Agree.{none_answers, alone_at};
+ghost use Rattle.wm_words.specs.Agree.{none_answers, alone_at};
 ghost use Rattle.wm_run.specs.Activations.{Grew, Stopped, Follows, Pays};
 ghost use Rattle.wm_run.specs.UnderWay.{SameFunction};
 

@@ -37,7 +37,7 @@ pub(crate) fn callee(valid: &Valid, function: u32) -> Callee
 }
 
 /// Calls the function at the place of the table that the topmost operand names, by the type whose index
-/// stands in the word.
+/// is in the word.
 pub(crate) fn call_indirect<H: Host>(
     valid: &Valid,
     stacks: &mut Stacks,

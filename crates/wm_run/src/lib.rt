@@ -4,7 +4,6 @@
 mod activation;
 mod backtrace;
 mod calls;
-mod code;
 mod dispatch;
 mod entry;
 mod frame;
@@ -14,7 +13,6 @@ mod indirect;
 mod invocation;
 mod machine;
 mod ranges;
-mod registers;
 mod returns;
 mod stack;
 mod table;

@@ -3,19 +3,19 @@ ghost use Rattle.wm_store.specs.Meaning.{finished, stored};
 ghost use Rattle.wm_valid.specs.IsValid.{Validated};
 ghost use Rattle.wm_semantics.specs.Configs.{Config};
 ghost use Rattle.wm_run.specs.declared.activation.Activation.{Activation as Active};
-ghost use Rattle.wm_run.specs.Agree.{none_answers, alone_at};
+ghost use Rattle.wm_words.specs.Agree.{none_answers, alone_at};
 ghost use Rattle.wm_run.specs.Activations.{Stopped, Follows, Pays, ended_range};
-ghost use Rattle.wm_run.specs.Ranges.{op_of_range, range_written};
+ghost use Rattle.wm_words.specs.Ranges.{op_of_range, range_written};
 ghost use Rattle.wm_run.specs.UnderWay.{SameFunction};
 
 use crate::activation::{Activation, Next};
 use crate::calls::{trap_of, trapped};
-use crate::registers::Range;
 use crate::stack::operand;
 use ic_base::NoMemory;
 use wm_numeric::Failure;
 use wm_semantics::{Meter, Trap};
 use wm_store::Store;
+use wm_words::Range;
 
 /// Writes to that many bytes of memory from a place on, by a second place or a value.
 fn write_range(
@@ -35,7 +35,7 @@ fn write_range(
     }
 }
 
-/// Goes on behind the word, without its operands, or the run ends.
+/// Goes on after the word, without its operands, or the run ends.
 fn end_range(here: Activation, done: Result<(), Failure>) -> Next
     requires there { 3 ≤ here.top }
     requires short { here.place < 2 ^ 63 }

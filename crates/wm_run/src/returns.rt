@@ -2,7 +2,7 @@ ghost use Rattle.std.specs.Prelude.{◌≡◌, ◌+◌, ◌≤◌, ◌<◌, ℕ,
 ghost use Rattle.wm_typing.specs.declared.op.Op.TheVariants as op;
 ghost use Rattle.wm_store.specs.Lists.{Lists};
 ghost use Rattle.wm_semantics.specs.Configs.{Config};
-ghost use Rattle.wm_run.specs.Agree.{none_answers, alone_at};
+ghost use Rattle.wm_words.specs.Agree.{none_answers, alone_at};
 ghost use Rattle.wm_run.specs.Activations.{Stopped, Follows, Drops, Pays};
 ghost use Rattle.wm_run.specs.UnderWay.{UnderWay, StillUnderWay};
 
@@ -12,7 +12,7 @@ use crate::stack::{Stacks, leave};
 use wm_semantics::{Meter, Trap};
 use wm_valid::Valid;
 
-/// Leaves the function behind the last word of its body.
+/// Leaves the function after the last word of its body.
 pub(crate) fn finish(valid: &Valid, stacks: &mut Stacks, here: Activation) -> Next
     requires stopped { (s : Lists) × (used : ℕ) × (c : Config) × Stopped valid.now here (reverse stacks.old.callers.items) stacks.old.operands.items s used c op.Finish }
     ensures follows { (s : Lists) (used limit : ℕ) (c : Config) → used ≤ limit → Stopped valid.now here (reverse stacks.old.callers.items) stacks.old.operands.items s used c op.Finish

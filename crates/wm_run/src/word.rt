@@ -1,17 +1,18 @@
 ghost use Rattle.std.specs.Prelude.{◌≡◌, ◌<◌, length, slice_get, Some};
 ghost use Rattle.wm_typing.specs.declared.op.Op.{Op as Word};
 ghost use Rattle.wm_typing.specs.FlatCode.{FlatCode as Flat};
-ghost use Rattle.wm_run.specs.Words.{number_of};
+ghost use Rattle.wm_typing.specs.Ops.{unhinted};
+ghost use Rattle.wm_words.specs.Words.{number_of};
 
 use crate::activation::Activation;
 use crate::calls::code_of;
-use crate::frame::operation;
 use wm_typing::Op;
 use wm_valid::Valid;
+use wm_words::operation;
 
 /// The number that a call has.
 fn number_of(op: Op) -> u32
-    ensures { result ≡ number_of op }
+    ensures { result ≡ number_of (unhinted op) }
 {
     match op {
         Op::Call(number) => number,

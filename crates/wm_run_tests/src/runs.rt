@@ -4,6 +4,8 @@ mod hosts;
 mod modules;
 mod outcome;
 mod rows;
+mod sequence_rows;
+mod sequences;
 
 use hosts::{Counting, Refusing};
 use ic_base::NoMemory;

@@ -10,7 +10,7 @@ use Rattle.wm_tree.specs.declared.types.ValType.{ValType}
 use Rattle.wm_tree.specs.declared.parts.Run.{Run}
 use Rattle.wm_typing.specs.Locals.{locals_of, ends_of}
 
--- ---- lists one behind the other
+-- ---- lists one after the other
 
 pub slice_get_front : {A : Type 0} (xs ys : List A) (i : ℕ) → i < length xs → slice_get (xs ++ ys) i ≡ slice_get xs i
 slice_get_front [] ys i h = absurd (omega arith)
@@ -57,7 +57,7 @@ ends_rise n (r ∷ runs) zero (suc j) d le lt = ends_least (n + r.count) runs j 
 ends_rise n (r ∷ runs) (suc i) zero d le lt = absurd (omega arith)
 ends_rise n (r ∷ runs) (suc i) (suc j) d le lt = ends_rise (n + r.count) runs i j d (omega arith) (omega arith)
 
--- a local stands in the first run that ends behind it
+-- a local is in the first run that ends after it
 pub local_at : (n : ℕ) (runs : List Run) (place run : ℕ) → n ≤ place
     → AllWithin (λ end. leb end place ≡ true) (ends_of n runs) 0 run
     → AllWithin (λ end. leb end place ≡ false) (ends_of n runs) run (length (ends_of n runs))

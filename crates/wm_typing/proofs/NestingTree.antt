@@ -15,7 +15,7 @@ use Rattle.wm_tree.specs.Seq.{Seq, Empty, Plain, BlockOf, LoopOf, IfOf, IfElseOf
 use Rattle.wm_typing.specs.Nesting.{nesting}
 use Rattle.std.proofs.lemmas.Bool.Decides.{nat_tests}
 
--- where so many blocks are open before a word, whether no block opens too many, and then on
+-- where that many blocks are open before a word, whether no block opens too many, and then on
 abbrev pub goes_within : ℕ → ℕ → Class → (ℕ → Bool) → Bool
 goes_within most now (Opens s t) rest = cond (nat_eq now most) false (rest (now + 1))
 goes_within most now Closes rest = rest (now - 1)
@@ -44,7 +44,7 @@ opens_from now most b low e = grind (arith, nat_tests)
 back : (f : ℕ → Bool) (now : ℕ) → f (now + 1 - 1) ≡ f now
 back f now = let e : now + 1 - 1 ≡ now = omega arith in rw e refl
 
--- the blocks of a body, and those behind it
+-- the blocks of a body, and those after it
 nested : (now most inner rest : ℕ) → now + 1 + inner ≤ most → now + rest ≤ most → now + max (suc inner) rest ≤ most
 nested now most inner rest deep wide = omega arith
 

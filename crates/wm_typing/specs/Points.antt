@@ -7,7 +7,7 @@ use Rattle.wm_tree.specs.declared.types.ValType.TheVariants.{I32, I64}
 use Rattle.wm_typing.specs.declared.operand.Operand.{Operand}
 use Rattle.wm_typing.specs.declared.operand.Operand.TheVariants.{Known, Any}
 
--- the list is open behind an instruction that never goes on: below its operands stand any others
+-- the list is open after an instruction that never goes on: below its operands stand any others
 pub record Point : Type 0 where
   pub operands : List Operand
   pub is_open : Bool
@@ -19,7 +19,7 @@ point operands is_open = record { operands = operands; is_open = is_open }
 abbrev pub start : Point
 start = point [] false
 
--- behind `unreachable`, `br`, `br_table` and `return`
+-- after `unreachable`, `br`, `br_table` and `return`
 abbrev pub unreachable : Point
 unreachable = point [] true
 
@@ -31,7 +31,7 @@ same_type I64 I64 = true
 same_type I32 I64 = false
 same_type I64 I32 = false
 
--- whether the operand may stand where one of the type is wanted
+-- whether the operand may be where one of the type is wanted
 abbrev pub fits : ValType → Operand → Bool
 fits t Any = true
 fits t (Known u) = same_type t u

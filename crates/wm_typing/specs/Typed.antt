@@ -125,7 +125,7 @@ plain context labels _ i p = None
 
 -- ---- sequences
 
--- the point behind a sequence; blocks have labels and points of their own
+-- the point after a sequence; blocks have labels and points of their own
 abbrev pub typed : Context → List (Option ValType) → Seq → Point → Option Point
 typed context labels Empty p = Some p
 typed context labels (Plain i rest) p = do

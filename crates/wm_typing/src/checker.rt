@@ -238,7 +238,7 @@ impl Checker {
         }
     }
 
-    /// Takes the result of the innermost block, behind which nothing may be left.
+    /// Takes the result of the innermost block, after which nothing may be left.
     pub(crate) fn end(&mut self) -> Result<(), BodyFault>
         ensures { EndsWith self.old self.new result }
     {

@@ -24,7 +24,7 @@ pub struct Context<'a> {
     pub has_memory: bool,
     /// The types of the function's parameters.
     pub params: &'a [ValType],
-    /// The types of its locals, counted behind the parameters.
+    /// The types of its locals, counted after the parameters.
     pub locals: &'a Locals<'a>,
     /// The type of the function's result.
     pub result: Option<ValType>,

@@ -11,6 +11,7 @@ mod checker;
 mod context;
 mod fault;
 mod flat;
+mod hints;
 mod locals;
 mod nesting;
 mod number;

@@ -50,7 +50,7 @@ impl<'a> Locals<'a> {
         self.len
     }
 
-    /// The type of a local, counted from 0 behind the parameters.
+    /// The type of a local, counted from 0 after the parameters.
     pub(crate) fn get(&self, number: usize) -> Option<ValType>
         ensures { result ≡ slice_get self.now number }
     {

@@ -5,7 +5,7 @@ ghost use Rattle.wm_typing.specs.Nesting.{nesting};
 
 use wm_tree::{Class, Instr, class_of};
 
-/// Whether at most so many blocks nest in a body.
+/// Whether at most that many blocks nest in a body.
 pub fn nests_within(body: &[Instr], most: u32) -> bool
     requires { IsFlat body.now }
     ensures { IsTrue result ↔ (nesting (tree_of body.now) ≤ most) }

@@ -3,7 +3,7 @@ ghost use Rattle.wm_typing.specs.Points as points;
 
 use wm_tree::ValType;
 
-/// The type of an operand as far as it is known. Behind an instruction that never goes on, an
+/// The type of an operand as far as it is known. After an instruction that never goes on, an
 /// operand that nothing gave is of any type. The definitions of typing speak of it.
 #[derive(Clone, Copy, Debug, PartialEq, Eq)]
 pub enum Operand {
@@ -12,7 +12,7 @@ pub enum Operand {
 }
 
 impl Operand {
-    /// Whether it may stand where one of the type is wanted.
+    /// Whether it may be where one of the type is wanted.
     pub(crate) fn fits(self, t: ValType) -> bool
         ensures { result ≡ points.fits t self }
     {

@@ -224,7 +224,7 @@ fn with_memory(
     }
 }
 
-/// The word at a place, whose innermost open block behind it has that stop.
+/// The word at a place, whose innermost open block after it has that stop.
 pub(crate) fn step(
     checker: &mut Checker,
     context: &Context,

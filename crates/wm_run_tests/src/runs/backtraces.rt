@@ -92,7 +92,7 @@ fn target_of(valid: &Valid, method: &str) -> Result<Target, Fail>
 }
 
 /// Where a method traps; the System API refuses each call.
-fn trapped(alloc: Global, valid: &Valid, method: &str) -> Result<Located, Fail> {
+pub fn trapped(alloc: Global, valid: &Valid, method: &str) -> Result<Located, Fail> {
     let target = target_of(valid, method)?;
     let mut store = instance_of(alloc, valid)?;
     let mut host = Refusing { message: None };
@@ -102,7 +102,7 @@ fn trapped(alloc: Global, valid: &Valid, method: &str) -> Result<Located, Fail> 
 }
 
 /// The module that these bytes are, with how they are written.
-fn listed(alloc: Global, bytes: &[u8]) -> Result<Valid, Fail> {
+pub fn listed(alloc: Global, bytes: &[u8]) -> Result<Valid, Fail> {
     match valid_of(alloc, bytes) {
         Some(valid) => Ok(valid.listed(listing_of(alloc, bytes)?)),
         None => Err(Fail::new("no valid module")),

@@ -42,9 +42,9 @@ fn sections_before(alloc: Global) -> Result<Vec<u8>, NoMemory> {
     Ok(bytes)
 }
 
-/// The code section of the body, with one local of type i32, and of an empty one.
+/// The code section of the body, with two locals of type i32 and one of type i64, and of an empty one.
 fn codes(alloc: Global, body: &[u8]) -> Result<Vec<u8>, NoMemory> {
-    let mut code = Vec::from_slice(alloc, b"\x01\x01\x7f")?;
+    let mut code = Vec::from_slice(alloc, b"\x02\x02\x7f\x01\x7e")?;
     code.extend_from_slice(body)?;
     code.push(0x0b)?;
     let mut codes = Vec::from_slice(alloc, b"\x02")?;
@@ -55,7 +55,7 @@ fn codes(alloc: Global, body: &[u8]) -> Result<Vec<u8>, NoMemory> {
 }
 
 /// A module with a memory of 1 to 3 pages, whose functions are `accept_message` (0),
-/// `msg_cycles_available128` (1), `time` (2), the body (3) with a local of type i32, and one of type
+/// `msg_cycles_available128` (1), `time` (2), the body (3) with two locals of type i32 and one of type i64, and one of type
 /// (i32) -> () that does nothing (4). The function of the number `begins` is the start function and
 /// the method `run`. The table has none, 1, 4 and 3; the global is of type i64 and begins with 7.
 pub fn module(alloc: Global, begins: u8, body: &[u8]) -> Result<Vec<u8>, NoMemory> {

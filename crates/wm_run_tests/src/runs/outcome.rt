@@ -140,7 +140,7 @@ pub fn run_module<H: Host>(
     }
 }
 
-/// Runs a body () -> () with one local of type i32, in the module of `modules`, with a host.
+/// Runs a body () -> () with two locals of type i32 and one of type i64, in the module of `modules`, with a host.
 pub fn run_with<H: Host>(
     alloc: Global,
     body: &[u8],

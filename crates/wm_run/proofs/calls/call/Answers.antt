@@ -1,6 +1,6 @@
 use Rattle.std.proofs.Common.{◌+◌, reverse, refl}
 use Rattle.wm_semantics.specs.declared.trap.Trap.TheVariants as trap
-use Rattle.wm_run.specs.Agree.{none_answers, alone_at}
+use Rattle.wm_words.specs.Agree.{none_answers, alone_at}
 use Rattle.wm_run.specs.Activations.{trapped_by}
 use Rattle.wm_run.proofs.Follow.{charge_fits, charge_fails, if_ok, follows_as}
 use Rattle.wm_run.proofs.Calling.{can_call_at, limit_call_at, call_follows_at}

@@ -2,7 +2,7 @@ use Rattle.std.proofs.Common.{◌≡◌, ◌≤◌, ◌+◌, ◌-◌, ◌<◌, �
 use Rattle.std.specs.Prelude.{nat_le}
 use Rattle.wm_semantics.specs.declared.trap.Trap.TheVariants as trap
 use Rattle.wm_run.specs.declared.activation.Next.TheVariants.{On}
-use Rattle.wm_run.specs.Agree.{none_answers, alone_at}
+use Rattle.wm_words.specs.Agree.{none_answers, alone_at}
 use Rattle.wm_run.specs.Activations.{behind, Follows, trapped_by}
 use Rattle.wm_run.proofs.Follow.{charge_fits, charge_fails, follows_as}
 use Rattle.wm_run.proofs.Growing.{cost_at, within_at, positive_at, small_at, limit_grow_at, grow_follows_at}

@@ -2,7 +2,7 @@ use Rattle.std.proofs.Common.{◌≡◌, ℕ, List, length, arith, sym, subst, r
 use Rattle.wm_semantics.specs.Steps.{state, outcome, Reaches}
 use Rattle.wm_semantics.specs.Begin.{calling}
 use Rattle.wm_run.specs.declared.activation.Activation.{Activation}
-use Rattle.wm_run.specs.Stacks.{SameBelow}
+use Rattle.wm_words.specs.Stacks.{SameBelow}
 use Rattle.wm_run.specs.Activations.{Laid, Running}
 use Rattle.wm_run.specs.Firsts.{i32s, AsksAlone}
 use Rattle.wm_run.specs.UnderWay.{TrappedIn}

@@ -1,8 +1,8 @@
 use Rattle.std.proofs.Common.{◌≡◌, ℕ, ◌+◌, ◌-◌, ◌≤◌, ◌<◌, arith, ap, subst, ◌∙◌, slice_index}
 use Rattle.wm_store.specs.Meaning.{finished, stored}
 use Rattle.wm_semantics.specs.declared.trap.Trap.TheVariants as trap
-use Rattle.wm_run.specs.Agree.{none_answers, alone_at}
-use Rattle.wm_run.specs.Ranges.{range_written}
+use Rattle.wm_words.specs.Agree.{none_answers, alone_at}
+use Rattle.wm_words.specs.Ranges.{range_written}
 use Rattle.wm_run.specs.Activations.{ended_range, trapped_by}
 use Rattle.wm_run.proofs.Follow.{charge_fits, charge_fails, follows_as}
 use Rattle.wm_run.proofs.Ranging.{written_by, within_at, there_at, limit_range_at, range_follows_at}
